@@ -1,0 +1,146 @@
+//! Rows in one map: the plain store, by which every other one is measured.
+ghost use Rattle.std.specs.Prelude.{◌≡◌, ◌<◌, ◌^◌, IfSome, OnOk, OnErr, length, option_copied, true};
+ghost use Rattle.std.specs.FinMap as map;
+ghost use Rattle.serializability.specs.Changes.{changed};
+ghost use Rattle.tpcc_rows.specs.Changing.{IsMadeInPart, after, new_row_fits};
+ghost use Rattle.tpcc_rows.specs.RowKinds.{fits};
+ghost use Rattle.tpcc_rows.specs.Rows.{customer_row, district_row, warehouse_row};
+
+use crate::delta::Delta;
+use crate::id::{CustomerId, DistrictId, WarehouseId};
+use crate::key::RowKey;
+use crate::memory::Memory;
+use crate::row::{CustomerRow, DistrictRow, Row, WarehouseRow};
+use std::alloc::Global;
+use std::collections::BTreeMap;
+use std::collections::btree_map::Iter;
+use std::marker::Model;
+
+/// A finite map from keys to rows, each row of its key's kind.
+#[derive(Drop)]
+pub struct RowStore {
+    rows: BTreeMap<RowKey, Row>,
+}
+
+impl Model for RowStore {
+    ghost use Rattle.std.specs.FinMap as map;
+    ghost use Rattle.tpcc_rows.specs.Changing.{AreRows};
+    ghost use Rattle.tpcc_rows.specs.RowMap.{Rows, rows_code};
+
+    ghost Value = { Rows };
+
+    ghost coded = { rows_code };
+
+    ghost view = { λ s. map.from_entries s.rows.entries };
+
+    ghost invariant = { λ s. AreRows (map.from_entries s.rows.entries) };
+}
+
+impl RowStore {
+    /// No rows.
+    pub fn new(alloc: Global) -> RowStore
+        ensures { result ≡ map.empty }
+    {
+        RowStore {
+            rows: BTreeMap::new(alloc),
+        }
+    }
+
+    pub fn get(&self, key: &RowKey) -> Option<&Row>
+        ensures value { option_copied result ≡ map.get self.now key.now }
+        ensures kind { IfSome (option_copied result) (λ row. fits key.now row ≡ true) }
+    {
+        self.rows.get(key)
+    }
+
+    /// The key has this row from now on.
+    pub fn put(&mut self, key: RowKey, row: Row) -> Result<(), Memory>
+        requires { fits key row ≡ true }
+        ensures ok { OnOk result (self.new ≡ map.insert self.old key row) }
+        ensures err { OnErr result (self.new ≡ self.old) }
+    {
+        self.rows.insert(key, row)?;
+        Ok(())
+    }
+
+    /// The key has no row from now on; the answer is the one that it had.
+    pub fn remove(&mut self, key: &RowKey) -> Option<Row>
+        ensures value { result ≡ map.get self.old key.now }
+        ensures after { self.new ≡ map.remove self.old key.now }
+    {
+        self.rows.remove(key)
+    }
+
+    /// How many rows there are.
+    pub fn len(&self) -> usize
+        ensures value { result ≡ length (map.entries self.now) }
+        ensures small { result < 2 ^ 63 }
+    {
+        self.rows.len()
+    }
+
+    /// The rows in key order.
+    pub fn iter(&self) -> Iter<'_, RowKey, Row>
+        ensures { result ≡ map.entries self.now }
+    {
+        self.rows.iter()
+    }
+
+    pub fn warehouse(&self, warehouse: WarehouseId) -> Option<&WarehouseRow>
+        ensures { option_copied result ≡ warehouse_row self.now warehouse }
+    {
+        self.get(&RowKey::Warehouse { warehouse })?.as_warehouse()
+    }
+
+    pub fn district(&self, warehouse: WarehouseId, district: DistrictId) -> Option<&DistrictRow>
+        ensures { option_copied result ≡ district_row self.now warehouse district }
+    {
+        let key = RowKey::District {
+            warehouse,
+            district,
+        };
+        self.get(&key)?.as_district()
+    }
+
+    pub fn customer(
+        &self,
+        warehouse: WarehouseId,
+        district: DistrictId,
+        customer: CustomerId,
+    ) -> Option<&CustomerRow>
+        ensures { option_copied result ≡ customer_row self.now warehouse district customer }
+    {
+        let key = RowKey::Customer {
+            warehouse,
+            district,
+            customer,
+        };
+        self.get(&key)?.as_customer()
+    }
+
+    fn change(&mut self, key: &RowKey, new_row: &Option<Row>) -> Result<(), Memory>
+        requires { new_row_fits key.now new_row.now ≡ true }
+        ensures ok { OnOk result (self.new ≡ changed self.old key.now new_row.now) }
+        ensures err { OnErr result (self.new ≡ self.old) }
+    {
+        match new_row {
+            Some(row) => self.put(*key, row.copied()),
+            None => {
+                let _ = self.remove(key);
+                Ok(())
+            }
+        }
+    }
+
+    /// Makes the changes. After a refusal a beginning of them, in key order, is made.
+    #[tactic(auto, unfolding(crate::specs::Changing::after))]
+    pub fn apply(&mut self, delta: &Delta) -> Result<(), Memory>
+        ensures ok { OnOk result (self.new ≡ after self.old delta.now) }
+        ensures err { OnErr result (IsMadeInPart self.old self.new delta.now) }
+    {
+        for (key, new_row) in delta.iter() {
+            self.change(key, new_row)?;
+        }
+        Ok(())
+    }
+}
