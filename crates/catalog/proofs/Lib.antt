@@ -1,0 +1,2 @@
+pub mod CardKeys
+pub mod Keyed

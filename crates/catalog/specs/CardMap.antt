@@ -1,0 +1,42 @@
+-- The cards of a database, as a finite map.
+use Rattle.std.specs.Prelude.{◌≡◌, List, ◌∷◌, ◌++◌, Contains, map, Option, Some}
+use Rattle.std.specs.Coded.{Coded}
+use Rattle.std.specs.FinMap as finmap
+use Rattle.std.specs.declared.cmp.Ordering.{Ordering}
+use Rattle.catalog.specs.declared.card.CardKey.{CardKey}
+use Rattle.catalog.specs.declared.card.Card.{Card}
+use Rattle.catalog.specs.contracts.card.CardKey.{the_row as key_row}
+use Rattle.catalog.specs.contracts.card.Card.{the_row as card_row}
+use Rattle.catalog.specs.contracts.card.CardKeyOrd.TheImpl.{ghosts}
+use Rattle.catalog.specs.CardKinds.{card_key}
+
+-- the derived order of keys: by kind, and then by the columns
+abbrev pub card_key_cmp : CardKey → CardKey → Ordering
+card_key_cmp = ghosts.cmp
+
+abbrev pub Cards : Type 0
+Cards = finmap.FinMap card_key_cmp Card
+
+abbrev pub cards_code : Coded Cards
+cards_code = finmap.code key_row.coded card_row.coded
+
+abbrev pub keyed : Card → CardKey × Card
+keyed card = (card_key card, card)
+
+-- each card stands at its own key
+abbrev pub AreKeyed : Cards → Type 0
+AreKeyed cards = (key : CardKey) (card : Card) → finmap.get cards key ≡ Some card → card_key card ≡ key
+
+-- the cards, each at its own key
+abbrev pub cards_of : List Card → Cards
+cards_of list = finmap.from_entries (map keyed list)
+
+-- some card has the key of an earlier one
+pub record HasTwins (list : List Card) : Type 0 where
+  pub before : List Card
+  pub twin : Card
+  pub between : List Card
+  pub card : Card
+  pub behind : List Card
+  pub whole : list ≡ before ++ twin ∷ between ++ card ∷ behind
+  pub same : card_key twin ≡ card_key card

@@ -1,0 +1,3 @@
+pub mod CardKinds
+pub mod CardMap
+pub mod Lookups

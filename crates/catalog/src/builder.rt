@@ -1,0 +1,116 @@
+//! How a catalog is made.
+ghost use Rattle.std.specs.Prelude.{◌≡◌, IfOk, IfErr, IsSome, Ok, OnErr, OnOk, None, is_some};
+ghost use Rattle.std.specs.FinMap as map;
+ghost use Rattle.catalog.specs.CardKinds.{card_key};
+ghost use Rattle.catalog.specs.CardMap.{AreKeyed, HasTwins, cards_of};
+ghost use Rattle.catalog.specs.declared.builder.CatalogError.TheVariants.{Twice};
+ghost use Rattle.catalog.specs.declared.builder.CatalogError.TheVariants as catalog_error;
+
+use crate::card::{Card, CardKey};
+use crate::cards::Catalog;
+use std::alloc::Global;
+use std::collections::BTreeMap;
+use std::marker::Model;
+use thiserror::Error;
+use tpcc_rows::memory::Memory;
+
+/// Why there is no catalog.
+#[derive(Clone, Copy, Debug, PartialEq, Eq, Error)]
+pub enum CatalogError {
+    #[error("memory was refused")]
+    Memory,
+    #[error("two cards have one key")]
+    Twice,
+}
+
+impl From<Memory> for CatalogError {
+    ghost from_gives = { λ _ e. e ≡ catalog_error.Memory };
+
+    fn from(_: Memory) -> CatalogError {
+        CatalogError::Memory
+    }
+}
+
+/// A catalog that is being made: a finite map from keys to cards, each card at its own key.
+#[derive(Drop)]
+pub struct CatalogBuilder {
+    cards: BTreeMap<CardKey, Card>,
+}
+
+impl Model for CatalogBuilder {
+    ghost use Rattle.std.specs.FinMap as map;
+    ghost use Rattle.catalog.specs.CardMap.{AreKeyed, Cards, cards_code};
+
+    ghost Value = { Cards };
+
+    ghost coded = { cards_code };
+
+    ghost view = { λ s. map.from_entries s.cards.entries };
+
+    ghost invariant = { λ s. AreKeyed (map.from_entries s.cards.entries) };
+}
+
+impl CatalogBuilder {
+    /// No cards.
+    pub fn new(alloc: Global) -> CatalogBuilder
+        ensures { result ≡ map.empty }
+    {
+        CatalogBuilder {
+            cards: BTreeMap::new(alloc),
+        }
+    }
+
+    fn has(&self, key: &CardKey) -> bool
+        ensures { result ≡ is_some (map.get self.now key.now) }
+    {
+        self.cards.get(key).is_some()
+    }
+
+    fn insert(&mut self, key: CardKey, card: Card) -> Result<(), Memory>
+        requires { card_key card ≡ key }
+        ensures ok { OnOk result (self.new ≡ map.insert self.old key card) }
+        ensures err { OnErr result (self.new ≡ self.old) }
+    {
+        self.cards.insert(key, card)?;
+        Ok(())
+    }
+
+    /// One card more, whose key none of the others has.
+    pub fn add(&mut self, card: Card) -> Result<(), CatalogError>
+        ensures ok { OnOk result (self.new ≡ map.insert self.old (card_key card) card) }
+        ensures fresh { OnOk result (map.get self.old (card_key card) ≡ None) }
+        ensures twice { IfErr result (λ e. e ≡ Twice → IsSome (map.get self.old (card_key card))) }
+        ensures err { OnErr result (self.new ≡ self.old) }
+    {
+        let key = card.key();
+        if self.has(&key) {
+            return Err(CatalogError::Twice);
+        }
+        self.insert(key, card)?;
+        Ok(())
+    }
+
+    pub fn finish(self) -> Catalog
+        ensures cards { result ≡ self }
+        ensures keyed { AreKeyed result }
+    {
+        Catalog::from_map(self.cards)
+    }
+}
+
+impl Catalog {
+    /// The catalog of these cards; `Twice` where two of them have one key.
+    pub fn new(alloc: Global, cards: Vec<Card>) -> Result<Catalog, CatalogError>
+        ensures ok { IfOk result (λ catalog. catalog ≡ cards_of cards.items) }
+        ensures keyed { IfOk result AreKeyed }
+        ensures twice { IfErr result (λ e. e ≡ Twice → HasTwins cards.items) }
+    {
+        let mut builder = CatalogBuilder::new(alloc);
+        for card in cards {
+            if let Err(error) = builder.add(card) {
+                return Err(error);
+            }
+        }
+        Ok(builder.finish())
+    }
+}

@@ -1,0 +1,169 @@
+//! The cards and their keys (TPC-C clause 1.3; the split into fixed and moving columns by clause 1.4).
+ghost use Rattle.std.specs.Prelude.{◌≡◌, option_copied};
+ghost use Rattle.catalog.specs.CardKinds.{as_customer, as_district, as_item, as_stock, as_warehouse, card_key};
+
+use tpcc_rows::id::{CustomerId, DistrictId, ItemId, WarehouseId};
+use tpcc_rows::number::{Price, Rate};
+use tpcc_rows::text::Text;
+
+/// The key of a card. The derived order is that of the keys' codes: the kind first, then the columns from the left.
+#[derive(Clone, Copy, Debug, PartialEq, Eq, PartialOrd, Ord)]
+pub enum CardKey {
+    Warehouse {
+        warehouse: WarehouseId,
+    },
+    District {
+        warehouse: WarehouseId,
+        district: DistrictId,
+    },
+    Customer {
+        warehouse: WarehouseId,
+        district: DistrictId,
+        customer: CustomerId,
+    },
+    Stock {
+        warehouse: WarehouseId,
+        item: ItemId,
+    },
+    Item {
+        item: ItemId,
+    },
+}
+
+/// C_CREDIT.
+#[derive(Clone, Copy, Debug, PartialEq, Eq)]
+pub enum Credit {
+    /// `GC`
+    Good,
+    /// `BC`
+    Bad,
+}
+
+/// W_NAME and W_TAX.
+#[derive(Drop)]
+pub struct WarehouseCard {
+    pub warehouse: WarehouseId,
+    pub name: Text<10>,
+    pub tax: Rate,
+}
+
+/// D_NAME and D_TAX.
+#[derive(Drop)]
+pub struct DistrictCard {
+    pub warehouse: WarehouseId,
+    pub district: DistrictId,
+    pub name: Text<10>,
+    pub tax: Rate,
+}
+
+/// C_LAST, C_MIDDLE, C_FIRST, C_CREDIT and C_DISCOUNT.
+#[derive(Drop)]
+pub struct CustomerCard {
+    pub warehouse: WarehouseId,
+    pub district: DistrictId,
+    pub customer: CustomerId,
+    pub last: Text<16>,
+    pub middle: Text<2>,
+    pub first: Text<16>,
+    pub credit: Credit,
+    pub discount: Rate,
+}
+
+/// S_DATA and S_DIST_01 to S_DIST_10.
+#[derive(Drop)]
+pub struct StockCard {
+    pub warehouse: WarehouseId,
+    pub item: ItemId,
+    pub data: Text<50>,
+    pub district_infos: [Text<24>; 10],
+}
+
+/// I_NAME, I_PRICE and I_DATA.
+#[derive(Drop)]
+pub struct ItemCard {
+    pub item: ItemId,
+    pub name: Text<24>,
+    pub price: Price,
+    pub data: Text<50>,
+}
+
+/// A card of one of the kinds, which carries its key.
+#[derive(Drop)]
+pub enum Card {
+    Warehouse(WarehouseCard),
+    District(DistrictCard),
+    Customer(CustomerCard),
+    Stock(StockCard),
+    Item(ItemCard),
+}
+
+impl Card {
+    pub fn key(&self) -> CardKey
+        ensures { result ≡ card_key self.now }
+    {
+        match self {
+            Card::Warehouse(card) => CardKey::Warehouse {
+                warehouse: card.warehouse,
+            },
+            Card::District(card) => CardKey::District {
+                warehouse: card.warehouse,
+                district: card.district,
+            },
+            Card::Customer(card) => CardKey::Customer {
+                warehouse: card.warehouse,
+                district: card.district,
+                customer: card.customer,
+            },
+            Card::Stock(card) => CardKey::Stock {
+                warehouse: card.warehouse,
+                item: card.item,
+            },
+            Card::Item(card) => CardKey::Item { item: card.item },
+        }
+    }
+
+    pub fn as_warehouse(&self) -> Option<&WarehouseCard>
+        ensures { option_copied result ≡ as_warehouse self.now }
+    {
+        match self {
+            Card::Warehouse(card) => Some(card),
+            _ => None,
+        }
+    }
+
+    pub fn as_district(&self) -> Option<&DistrictCard>
+        ensures { option_copied result ≡ as_district self.now }
+    {
+        match self {
+            Card::District(card) => Some(card),
+            _ => None,
+        }
+    }
+
+    pub fn as_customer(&self) -> Option<&CustomerCard>
+        ensures { option_copied result ≡ as_customer self.now }
+    {
+        match self {
+            Card::Customer(card) => Some(card),
+            _ => None,
+        }
+    }
+
+    pub fn as_stock(&self) -> Option<&StockCard>
+        ensures { option_copied result ≡ as_stock self.now }
+    {
+        match self {
+            Card::Stock(card) => Some(card),
+            _ => None,
+        }
+    }
+
+    pub fn as_item(&self) -> Option<&ItemCard>
+        ensures { option_copied result ≡ as_item self.now }
+    {
+        match self {
+            Card::Item(card) => Some(card),
+            _ => None,
+        }
+    }
+}

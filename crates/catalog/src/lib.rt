@@ -1,0 +1,13 @@
+//! The fixed columns of the tables: a card for each warehouse, district, customer, stock and item, which never
+//! changes after loading.
+#![tactic(auto)]
+
+pub mod builder;
+pub mod card;
+pub mod cards;
+
+pub use builder::{CatalogBuilder, CatalogError};
+pub use card::{
+    Card, CardKey, Credit, CustomerCard, DistrictCard, ItemCard, StockCard, WarehouseCard,
+};
+pub use cards::Catalog;
