@@ -78,3 +78,19 @@ module _ {X : Type 0} (f : RowKey → X → ℤ) where
   pub total-remove : (m : ByKey X) (k : RowKey) → total f (remove m k) +ℤ share_at (f k) (get m k) ≡ total f m
   unfolding total
   total-remove m k = rw (entries-remove m k, get-entries m k) (sum-without k (entries m) (entries_sorted m))
+
+-- ---- one change, and what it adds
+module _ {X : Type 0} (m : ByKey X) (k : RowKey) (f : RowKey → X → ℤ) where
+  pub total-new : (x : X) → get m k ≡ None → total f (insert m k x) ≡ total f m +ℤ f k x
+  total-new x h =
+      let e = total-insert f m k x in
+      let z : share_at (f k) (get m k) ≡ pos 0 = ap (share_at (f k)) h in
+      omega (arith, ints, e, z)
+
+  pub total-same : (x : X) → share_at (f k) (get m k) ≡ f k x → total f (insert m k x) ≡ total f m
+  total-same x h = let e = total-insert f m k x in omega (arith, ints, e, h)
+
+-- a share that is nothing
+pub no_share : {X : Type 0} (f : X → ℤ) (o : Option X) → ((x : X) → f x ≡ pos 0) → share_at f o ≡ pos 0
+no_share f None h = refl
+no_share f (Some x) h = h x

@@ -1,0 +1,7 @@
+-- A database: the fixed columns by key, and the moving ones.
+use Rattle.catalog.specs.CardMap.{Cards}
+use Rattle.tpcc_rows.specs.RowMap.{Rows}
+
+pub record Database : Type 0 where
+  pub cards : Cards
+  pub rows : Rows

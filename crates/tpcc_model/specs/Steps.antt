@@ -1,0 +1,53 @@
+-- What one request does, and what requests do one after the other.
+use Rattle.std.specs.Prelude.{ℕ, List, Result, Ok, Err}
+use Rattle.std.specs.FinMap as map
+use Rattle.serializability.specs.Folds.{Step, fold_replies, fold_rows}
+use Rattle.tpcc_rows.specs.RowMap.{Rows, Changes, row_key_cmp}
+use Rattle.tpcc_rows.specs.declared.row.Row.{Row}
+use Rattle.catalog.specs.CardMap.{Cards}
+use Rattle.requests.specs.Kinds.{kind_of}
+use Rattle.requests.specs.declared.request.Payment.{Payment}
+use Rattle.requests.specs.declared.request.Request.{Request}
+use Rattle.requests.specs.declared.request.Request.TheVariants as request
+use Rattle.requests.specs.declared.request.RequestKind.{RequestKind}
+use Rattle.requests.specs.declared.request.RequestKind.TheVariants as kind
+use Rattle.requests.specs.declared.reply.Refusal.{Refusal}
+use Rattle.requests.specs.declared.reply.Refusal.TheVariants as refusal
+use Rattle.requests.specs.declared.reply.Reply.{Reply}
+use Rattle.requests.specs.declared.reply.Reply.TheVariants as reply
+use Rattle.tpcc_model.specs.Database.{Database}
+use Rattle.tpcc_model.specs.Payments.{Paid, payment, payment_reply, payment_changes}
+
+-- the reply, and the keys that are written or deleted, each with its new row or none
+pub record Outcome : Type 0 where
+  pub reply : Reply
+  pub changes : Changes
+
+-- a refused request changes nothing
+abbrev pub refused : RequestKind → Refusal → Outcome
+refused k why = record { reply = reply.Refused k why; changes = map.empty }
+
+abbrev pub payment_outcome : Payment → ℕ → Result Paid Refusal → Outcome
+payment_outcome p number (Ok paid) = record { reply = reply.Payment (payment_reply paid); changes = payment_changes p number paid }
+payment_outcome p number (Err why) = refused kind.Payment why
+
+-- the step of a request with its number, at a moment. Only payments are served yet; the others are refused.
+unfoldable pub step : Database → Request → ℕ → ℕ → Outcome
+step db (request.Payment p) number moment = payment_outcome p number (payment db p moment)
+step db (request.NewOrder p) number moment = refused kind.NewOrder refusal.UnknownKey
+step db (request.OrderStatus p) number moment = refused kind.OrderStatus refusal.UnknownKey
+step db (request.Delivery p) number moment = refused kind.Delivery refusal.UnknownKey
+step db (request.StockLevel p) number moment = refused kind.StockLevel refusal.UnknownKey
+
+-- the steps on the rows of these cards, all at one moment
+abbrev pub steps_at : Cards → ℕ → Step row_key_cmp Row Request Reply
+steps_at cards moment rows number request =
+    let outcome = step (record { cards = cards; rows = rows }) request number moment in
+    record { reply = outcome.reply; changes = map.entries outcome.changes }
+
+-- requests one after the other, the first with this number: what they reply, and the rows that they leave
+abbrev pub replies : Database → ℕ → ℕ → List Request → List Reply
+replies db moment first requests = fold_replies (steps_at db.cards moment) db.rows first requests
+
+abbrev pub rows_after : Database → ℕ → ℕ → List Request → Rows
+rows_after db moment first requests = fold_rows (steps_at db.cards moment) db.rows first requests

@@ -1,0 +1,16 @@
+-- Requests within their limits.
+use Rattle.requests.specs.declared.request.Payment.{Payment}
+use Rattle.requests.specs.declared.request.Request.{Request}
+use Rattle.requests.specs.declared.request.Request.TheVariants as request
+use Rattle.tpcc_rows.specs.Limits.{IsBetween}
+
+-- the limits of the columns that a request writes; those of its keys follow where their cards are found
+abbrev pub IsPayment : Payment → Type 0
+IsPayment p = IsBetween 100 500000 p.amount
+
+abbrev pub IsRequest : Request → Type 0
+IsRequest (request.Payment p) = IsPayment p
+IsRequest (request.NewOrder p) = Unit {0}
+IsRequest (request.OrderStatus p) = Unit {0}
+IsRequest (request.Delivery p) = Unit {0}
+IsRequest (request.StockLevel p) = Unit {0}

@@ -1,0 +1,263 @@
+//! Payment (TPC-C clause 2.5): the cards of its keys are found, then their rows, then the new rows are made. What can
+//! fail for want of memory comes last.
+ghost use Rattle.std.specs.Prelude.{◌≡◌, ◌++◌, IfOk};
+ghost use Rattle.tpcc_model.specs.Payments.{chosen_customer, field, found_cards, history_of, paid_customer, paid_data, paid_district, paid_warehouse, payment, payment_changes, payment_note, payment_reply};
+ghost use Rattle.tpcc_model.specs.Steps.{payment_outcome};
+ghost use Rattle.tpcc_rows.specs.Texts.{IsPrintable, clip};
+ghost use Rattle.transactions.specs.Outcomes.{IsOutcome, new_rows_of, paid_of};
+
+use catalog::{Catalog, Credit};
+use requests::number::PaymentAmount;
+use requests::reply::{PaymentReply, Refusal, Reply, ShownCredit};
+use requests::request::{CustomerChoice, Payment, RequestKind};
+use std::alloc::Global;
+use tpcc_rows::delta::Delta;
+use tpcc_rows::id::{CustomerId, RequestNumber};
+use tpcc_rows::key::RowKey;
+use tpcc_rows::memory::Memory;
+use tpcc_rows::number::{Amount, Moment};
+use tpcc_rows::plain::RowStore;
+use tpcc_rows::row::{CustomerRow, DistrictRow, HistoryRow, Row, WarehouseRow};
+use tpcc_rows::text::Text;
+
+/// What a payment makes: the new rows, and who paid.
+#[derive(Drop)]
+pub(crate) struct NewRows {
+    pub warehouse: WarehouseRow,
+    pub district: DistrictRow,
+    pub customer: CustomerRow,
+    pub history: HistoryRow,
+    pub customer_id: CustomerId,
+    pub credit: Credit,
+}
+
+fn chosen_customer(choice: &CustomerChoice) -> Option<CustomerId>
+    ensures { result ≡ chosen_customer choice.now }
+{
+    match choice {
+        CustomerChoice::Number(customer) => Some(*customer),
+        CustomerChoice::LastName(_) => None,
+    }
+}
+
+#[tactic(auto, unfolding(tpcc_model::specs::Payments::paid_warehouse))]
+fn paid_warehouse(old: &WarehouseRow, amount: u32) -> Result<WarehouseRow, Refusal>
+    ensures { result ≡ paid_warehouse old.now amount }
+{
+    let ytd = old.ytd.raised(amount).ok_or(Refusal::LimitReached)?;
+    Ok(WarehouseRow { ytd })
+}
+
+#[tactic(auto, unfolding(tpcc_model::specs::Payments::paid_district))]
+fn paid_district(old: &DistrictRow, amount: u32) -> Result<DistrictRow, Refusal>
+    ensures { result ≡ paid_district old.now amount }
+{
+    let ytd = old.ytd.raised(amount).ok_or(Refusal::LimitReached)?;
+    Ok(DistrictRow { ytd, ..*old })
+}
+
+#[tactic(auto, using(tpcc_rows::proofs::Clips::then_clipped))]
+fn push_field(text: &mut Text<500>, number: u32, end: u8)
+    requires { IsPrintable end }
+    ensures { text.new ≡ clip 500 (text.old ++ field number end) }
+{
+    text.push_number(number);
+    text.push_clipped(&[end]);
+}
+
+#[tactic(auto, unfolding(tpcc_model::specs::Payments::payment_note))]
+fn payment_note(p: &Payment, customer: CustomerId) -> Text<500>
+    ensures { result ≡ clip 500 (payment_note p.now customer) }
+{
+    let mut text = Text::new();
+    push_field(&mut text, u32::from(customer.number()), b' ');
+    push_field(&mut text, u32::from(p.customer_district.number()), b' ');
+    push_field(&mut text, u32::from(p.customer_warehouse.number()), b' ');
+    push_field(&mut text, u32::from(p.district.number()), b' ');
+    push_field(&mut text, u32::from(p.warehouse.number()), b' ');
+    push_field(&mut text, p.amount.cents(), b'|');
+    text
+}
+
+#[tactic(auto, unfolding(tpcc_model::specs::Payments::paid_data))]
+fn paid_data(p: &Payment, customer: CustomerId, credit: Credit, old: &Text<500>) -> Text<500>
+    ensures { result ≡ paid_data p.now customer credit old.now }
+{
+    match credit {
+        Credit::Good => old.copied(),
+        Credit::Bad => {
+            let mut text = payment_note(p, customer);
+            text.push_clipped(old.as_bytes());
+            text
+        }
+    }
+}
+
+#[tactic(auto, unfolding(tpcc_model::specs::Payments::paid_customer))]
+fn paid_customer(
+    p: &Payment,
+    customer: CustomerId,
+    credit: Credit,
+    old: &CustomerRow,
+) -> Result<CustomerRow, Refusal>
+    ensures { result ≡ paid_customer p.now customer credit old.now }
+{
+    let amount = p.amount.cents();
+    let balance = old.balance.lowered(amount).ok_or(Refusal::LimitReached)?;
+    let ytd_payment = old.ytd_payment.raised(amount).ok_or(Refusal::LimitReached)?;
+    let payment_count = old.payment_count.raised(1).ok_or(Refusal::LimitReached)?;
+    Ok(CustomerRow {
+        balance,
+        ytd_payment,
+        payment_count,
+        delivery_count: old.delivery_count,
+        data: paid_data(p, customer, credit, &old.data),
+    })
+}
+
+// H_AMOUNT, whose limits are wider than those of a payment's amount.
+fn amount_of(amount: PaymentAmount) -> Amount
+    ensures { result ≡ amount }
+{
+    Amount::new(amount.cents()).unwrap()
+}
+
+#[tactic(auto, unfolding(tpcc_model::specs::Payments::history_of))]
+fn history_of(
+    p: &Payment,
+    customer: CustomerId,
+    moment: Moment,
+    warehouse_name: &Text<10>,
+    district_name: &Text<10>,
+) -> HistoryRow
+    ensures { result ≡ history_of p.now customer moment warehouse_name.now district_name.now }
+{
+    let mut text = Text::new();
+    text.push_clipped(warehouse_name.as_bytes());
+    text.push_clipped(b"    ");
+    text.push_clipped(district_name.as_bytes());
+    HistoryRow {
+        customer,
+        customer_district: p.customer_district,
+        customer_warehouse: p.customer_warehouse,
+        district: p.district,
+        warehouse: p.warehouse,
+        date: moment,
+        amount: amount_of(p.amount),
+        data: text,
+    }
+}
+
+/// The new rows, which take no memory.
+#[tactic(auto, unfolding(tpcc_model::specs::Payments::payment, tpcc_model::specs::Payments::found_cards, tpcc_model::specs::Payments::found_rows, tpcc_model::specs::Payments::paid_rows))]
+fn payment(
+    catalog: &Catalog,
+    p: &Payment,
+    moment: Moment,
+    store: &RowStore,
+) -> Result<NewRows, Refusal>
+    ensures { result ≡ new_rows_of (payment (record { cards = catalog.now; rows = store.now }) p.now moment) }
+{
+    let warehouse_card = catalog.warehouse(p.warehouse).ok_or(Refusal::UnknownKey)?;
+    let district_card = catalog
+        .district(p.warehouse, p.district)
+        .ok_or(Refusal::UnknownKey)?;
+    let customer_id = chosen_customer(&p.customer).ok_or(Refusal::UnknownKey)?;
+    let customer_card = catalog
+        .customer(p.customer_warehouse, p.customer_district, customer_id)
+        .ok_or(Refusal::UnknownKey)?;
+    let warehouse = store.warehouse(p.warehouse).ok_or(Refusal::UnknownKey)?;
+    let district = store
+        .district(p.warehouse, p.district)
+        .ok_or(Refusal::UnknownKey)?;
+    let customer = store
+        .customer(p.customer_warehouse, p.customer_district, customer_id)
+        .ok_or(Refusal::UnknownKey)?;
+    let amount = p.amount.cents();
+    Ok(NewRows {
+        warehouse: paid_warehouse(warehouse, amount)?,
+        district: paid_district(district, amount)?,
+        customer: paid_customer(p, customer_id, customer_card.credit, customer)?,
+        history: history_of(
+            p,
+            customer_id,
+            moment,
+            &warehouse_card.name,
+            &district_card.name,
+        ),
+        customer_id,
+        credit: customer_card.credit,
+    })
+}
+
+#[tactic(auto, unfolding(tpcc_model::specs::Payments::payment_reply))]
+fn payment_reply(rows: &NewRows) -> PaymentReply
+    ensures { result ≡ payment_reply (paid_of rows.now) }
+{
+    PaymentReply {
+        customer: rows.customer_id,
+        balance: rows.customer.balance,
+        credit: match rows.credit {
+            Credit::Good => ShownCredit::Good,
+            Credit::Bad => ShownCredit::Bad {
+                data: Text::from_start(rows.customer.data.as_bytes()),
+            },
+        },
+    }
+}
+
+#[tactic(auto, unfolding(tpcc_model::specs::Payments::payment_changes))]
+fn payment_changes(
+    alloc: Global,
+    p: &Payment,
+    number: RequestNumber,
+    rows: NewRows,
+) -> Result<Delta, Memory>
+    ensures { IfOk result (λ delta. delta ≡ payment_changes p.now number (paid_of rows)) }
+{
+    let mut delta = Delta::new(alloc);
+    let warehouse = RowKey::Warehouse {
+        warehouse: p.warehouse,
+    };
+    delta.put(warehouse, Row::Warehouse(rows.warehouse))?;
+    let district = RowKey::District {
+        warehouse: p.warehouse,
+        district: p.district,
+    };
+    delta.put(district, Row::District(rows.district))?;
+    let customer = RowKey::Customer {
+        warehouse: p.customer_warehouse,
+        district: p.customer_district,
+        customer: rows.customer_id,
+    };
+    delta.put(customer, Row::Customer(rows.customer))?;
+    delta.put(RowKey::History { number }, Row::History(rows.history))?;
+    Ok(delta)
+}
+
+/// The reply to a payment, and the rows that it changes.
+pub(crate) fn execute(
+    alloc: Global,
+    catalog: &Catalog,
+    p: &Payment,
+    number: RequestNumber,
+    moment: Moment,
+    store: &RowStore,
+) -> Result<(Reply, Delta), Memory>
+    ensures { IfOk result (IsOutcome (payment_outcome p.now number (payment (record { cards = catalog.now; rows = store.now }) p.now moment))) }
+{
+    match payment(catalog, p, moment, store) {
+        Ok(rows) => {
+            let reply = payment_reply(&rows);
+            let delta = payment_changes(alloc, p, number, rows)?;
+            Ok((Reply::Payment(reply), delta))
+        }
+        Err(refusal) => Ok((
+            Reply::Refused {
+                kind: RequestKind::Payment,
+                refusal,
+            },
+            Delta::new(alloc),
+        )),
+    }
+}

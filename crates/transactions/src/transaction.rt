@@ -1,0 +1,48 @@
+//! The choice of the transaction.
+ghost use Rattle.std.specs.Prelude.{◌≡◌, IfOk};
+ghost use Rattle.requests.specs.Kinds.{kind_of};
+ghost use Rattle.requests.specs.declared.reply.Reply.TheVariants as reply;
+ghost use Rattle.tpcc_model.specs.Steps.{step};
+ghost use Rattle.transactions.specs.Outcomes.{IsOutcome};
+
+use crate::payment;
+use catalog::Catalog;
+use requests::reply::{Refusal, Reply};
+use requests::request::Request;
+use std::alloc::Global;
+use tpcc_rows::delta::Delta;
+use tpcc_rows::id::RequestNumber;
+use tpcc_rows::memory::Memory;
+use tpcc_rows::number::Moment;
+use tpcc_rows::plain::RowStore;
+
+/// The reply to a request with its number, at a moment, and the rows that it changes. The database stays as it is.
+#[tactic(auto, unfolding(tpcc_model::specs::Steps::step))]
+pub fn execute(
+    alloc: Global,
+    catalog: &Catalog,
+    request: &Request,
+    number: RequestNumber,
+    moment: Moment,
+    store: &RowStore,
+) -> Result<(Reply, Delta), Memory>
+    ensures { IfOk result (IsOutcome (step (record { cards = catalog.now; rows = store.now }) request.now number moment)) }
+{
+    match request {
+        Request::Payment(p) => payment::execute(alloc, catalog, p, number, moment, store),
+        // The other four aren't served yet: no reader gives them.
+        Request::NewOrder(_)
+        | Request::OrderStatus(_)
+        | Request::Delivery(_)
+        | Request::StockLevel(_) => Ok((refused(request, Refusal::UnknownKey), Delta::new(alloc))),
+    }
+}
+
+fn refused(request: &Request, refusal: Refusal) -> Reply
+    ensures { result ≡ reply.Refused (kind_of request.now) refusal }
+{
+    Reply::Refused {
+        kind: request.kind(),
+        refusal,
+    }
+}
