@@ -1,0 +1,68 @@
+//! The program `eve-tpcc`: it executes the batches of a file on the database of an image, and writes the replies. It is a
+//! thin layer over the crates below: it opens files, and prints what they answer.
+#![tactic(auto)]
+
+use command_line::{Line, LineFault, line_of, line_status};
+use requests::ends::Counting;
+use runner::{RunFault, fault_line, run_text};
+use std::io::Write;
+use std::process::ExitCode;
+use std::rt::{Env, Files};
+use std::{env, fs, io};
+
+fn cannot_open(rt: &impl Eprint, path: &str) -> ExitCode {
+    let _ = eprintln!(rt; "eve-tpcc: cannot open {path}");
+    ExitCode::FAILURE
+}
+
+fn report<R: Eprint + AllocGlobal>(rt: &R, fault: &RunFault) -> ExitCode {
+    let mut line = Vec::new(rt.alloc());
+    if fault_line(rt.alloc(), fault, &mut line).is_ok() {
+        let _ = io::ewriter(rt).write_all(line.as_slice());
+    }
+    ExitCode::FAILURE
+}
+
+fn run<R: Files + Print + Eprint + AllocGlobal>(rt: &R, image: &str, batches: &str) -> ExitCode
+where
+    R::File: Drop,
+{
+    let Ok(image_file) = fs::open(rt, image) else {
+        return cannot_open(rt, image);
+    };
+    let Ok(batches_file) = fs::open(rt, batches) else {
+        return cannot_open(rt, batches);
+    };
+    let mut image_source = Counting::new(image_file);
+    let mut batches_source = Counting::new(batches_file);
+    let mut output = Counting::new(io::writer(rt));
+    match run_text(
+        rt.alloc(),
+        &mut image_source,
+        &mut batches_source,
+        &mut output,
+    ) {
+        Ok(_) => ExitCode::SUCCESS,
+        Err(fault) => report(rt, &fault),
+    }
+}
+
+fn words<R: Env + AllocGlobal>(rt: &R) -> io::Result<Vec<String>> {
+    Ok(env::args(rt)?.collect(rt.alloc())?)
+}
+
+fn main(rt: HostRuntime) -> ExitCode {
+    let Ok(words) = words(&rt) else {
+        return ExitCode::from(2);
+    };
+    match line_of(rt.alloc(), words) {
+        Ok(Line::Run { image, batches }) => run(&rt, image.as_str(), batches.as_str()),
+        Err(fault) => {
+            let status = line_status(&fault);
+            if let LineFault::Refused(error) = fault {
+                let _ = error.print(&rt);
+            }
+            ExitCode::from(status)
+        }
+    }
+}

@@ -1,0 +1,134 @@
+-- Runs of batches, and one batch more.
+use Rattle.std.proofs.Common.{◌≡◌, ◌⊎◌, ◌∙◌, ◌<◌, ◌≤◌, ◌+◌, ℕ, List, [], ◌∷◌, ◌++◌, length, Option, Some, None, inl, inr, refl, sym, ap, subst, append_assoc, arith}
+use Rattle.std.specs.Prelude.{◌==◌, Result, Ok, Err}
+use Rattle.std.proofs.lemmas.Bool.{cases_Bool}
+use Rattle.std.proofs.lemmas.List.{append-nil}
+use Rattle.std.specs.Io.KnownBytes.{Appends, Keeps}
+use Rattle.catalog.specs.CardMap.{Cards}
+use Rattle.requests.specs.BatchRecords.{head_at, request_at}
+use Rattle.requests.specs.Batches.{End, Place, Reading, StopsBy, batches, begun, between, clean, continued, fault, fault_of, reading_from, settled, with_front, within}
+use Rattle.requests.specs.Fields.{Fields}
+use Rattle.requests.specs.Records.{records_in}
+use Rattle.requests.specs.declared.fault.ReadError.{ReadError}
+use Rattle.requests.specs.declared.fault.Slip.{Slip}
+use Rattle.requests.specs.declared.fault.Slip.TheVariants as slip
+use Rattle.requests.specs.declared.request.Request.{Request}
+use Rattle.requests.specs.Ends.{AppendsFront}
+use Rattle.requests.specs.declared.request.Batch.{Batch}
+use Rattle.requests.proofs.EndsLemmas.{appends_twice}
+use Rattle.runner.specs.Runs.{AllFit, Began, IsOfRecords, LeavesBatch, Left, NumbersFit, Taken, TookSome}
+use Rattle.runner.specs.Text.{batch_text, text}
+use Rattle.runner.specs.declared.fault.BatchRefusal.TheVariants as refusal
+use Rattle.runner.specs.declared.fault.RunFault.{RunFault}
+use Rattle.runner.specs.declared.fault.RunFault.TheVariants as run_fault
+use Rattle.tpcc_model.specs.Serial.{State, after_batch, serial}
+
+-- nothing was appended
+pub then_kept : (old mid new : Option (List ℕ)) (bytes : List ℕ) → Appends old mid bytes → Keeps mid new → Appends old new bytes
+then_kept None mid new bytes a k = tt
+then_kept (Some xs) None new bytes a k = absurd a
+then_kept (Some xs) (Some ys) None bytes a k = absurd k
+then_kept (Some xs) (Some ys) (Some zs) bytes a k = k ∙ a
+
+-- ---- more batches
+pub serial-more : (cards : Cards) (state : State) (done : List Batch) (batch : Batch) → serial cards state (done ++ batch ∷ []) ≡ after_batch cards (serial cards state done) batch
+serial-more cards state [] batch = refl
+serial-more cards state (b ∷ done) batch = serial-more cards (after_batch cards state b) done batch
+
+pub text-both : (cards : Cards) (state : State) (done more : List Batch) → text cards state (done ++ more) ≡ text cards state done ++ text cards (serial cards state done) more
+text-both cards state [] more = refl
+text-both cards state (b ∷ done) more =
+    ap (λ t. batch_text cards state b ++ t) (text-both cards (after_batch cards state b) done more)
+    ∙ sym (append_assoc (batch_text cards state b) (text cards (after_batch cards state b) done) (text cards (serial cards (after_batch cards state b) done) more))
+
+pub fit-more : (cards : Cards) (state : State) (done : List Batch) (batch : Batch) → AllFit cards state done → NumbersFit (serial cards state done) batch → AllFit cards state (done ++ batch ∷ [])
+fit-more cards state [] batch all one = (one, tt)
+fit-more cards state (b ∷ done) batch all one = (all.0, fit-more cards (after_batch cards state b) done batch all.1 one)
+
+pub text-more : (cards : Cards) (state : State) (done : List Batch) (batch : Batch) (old mid new : Taken) → Appends old mid (text cards state done) → Appends mid new (batch_text cards (serial cards state done) batch)
+    → Appends old new (text cards state (done ++ batch ∷ []))
+text-more cards state done batch old mid new a b =
+    let whole : text cards state (done ++ batch ∷ []) ≡ text cards state done ++ batch_text cards (serial cards state done) batch =
+        text-both cards state done (batch ∷ []) ∙ ap (λ t. text cards state done ++ t) (append-nil (batch_text cards (serial cards state done) batch)) in
+    subst (Appends old new) (sym whole) (appends_twice old mid new (text cards state done) (batch_text cards (serial cards state done) batch) a b)
+
+-- one batch more was read
+pub reading-more : (all left new : Reading) (done : List Batch) (batch : Batch) → all ≡ (done ++ left.0, left.1) → left ≡ with_front batch new → all ≡ ((done ++ batch ∷ []) ++ new.0, new.1)
+reading-more all left new done batch e split =
+    e ∙ ap (λ (r : Reading). (done ++ r.0, r.1)) split ∙ ap (λ (bs : List Batch). (bs, new.1)) (sym (append_assoc done (batch ∷ []) new.0))
+
+-- the batches, of which this one is the next
+pub next_in : (all left new : Reading) (done : List Batch) (batch : Batch) → all ≡ (done ++ left.0, left.1) → left ≡ with_front batch new → all.0 ≡ done ++ batch ∷ new.0
+next_in all left new done batch e split = ap (λ (r : Reading). r.0) e ∙ ap (λ (r : Reading). done ++ r.0) split
+
+-- ---- a run that ends in the midst of a batch
+module _ (cards : Cards) (state : State) (all : Reading) (done : List Batch) (batch : Batch) (rest : List Batch) (old mid new : Taken) (parts : all.0 ≡ done ++ batch ∷ rest) (fit : AllFit cards state done) (written : Appends old mid (text cards state done)) where
+  began : Keeps mid new → Began cards state all.0 old new done (batch ∷ rest)
+  began k = record { parts = parts; fit = fit; written = then_kept old mid new (text cards state done) written k }
+
+  -- a beginning of its text was written
+  front_written : AppendsFront mid new (batch_text cards (serial cards state done) batch) → AppendsFront old new (text cards state all.0)
+  front_written b =
+      let (front, back, cut, took) = b in
+      let now = serial cards state done in
+      let tail = text cards (after_batch cards now batch) rest in
+      let first = text cards state done in
+      let whole : text cards state all.0 ≡ (first ++ front) ++ (back ++ tail) =
+          ap (text cards state) parts ∙ text-both cards state done (batch ∷ rest) ∙ ap (λ (t : List ℕ). first ++ (t ++ tail)) cut
+          ∙ ap (λ (t : List ℕ). first ++ t) (append_assoc front back tail) ∙ sym (append_assoc first front (back ++ tail)) in
+      (first ++ front, back ++ tail, whole, appends_twice old mid new first front written took)
+
+  pub left_in_batch : (e : RunFault) → LeavesBatch e cards (serial cards state done) batch mid new → Left e cards state all old new
+  left_in_batch (run_fault.Exec refusal.NumbersExhausted) h = (done, batch, rest, began h.1, h.0)
+  left_in_batch (run_fault.Exec refusal.Memory) h = (done, batch ∷ rest, began h)
+  left_in_batch run_fault.Memory h = (done, batch ∷ rest, began h)
+  left_in_batch run_fault.Write h = front_written h.1
+  left_in_batch (run_fault.Read e) h = absurd h
+  left_in_batch (run_fault.Load e) h = absurd h
+
+-- ---- a run that read all batches
+pub all_read : (all left : Reading) (done : List Batch) → all ≡ (done ++ left.0, left.1) → left ≡ ([], clean) → all.0 ≡ done
+all_read all left done e end = ap (λ (r : Reading). r.0) e ∙ ap (λ (r : Reading). done ++ r.0) end ∙ append-nil done
+
+pub text_of_all : (cards : Cards) (state : State) (all : Reading) (done : List Batch) → all.0 ≡ done → text cards state all.0 ≡ text cards state done ++ []
+text_of_all cards state all done e = ap (text cards state) e ∙ sym (append-nil (text cards state done))
+
+-- ---- how the records of batches end
+abbrev pub EndsByRecords : End → Type 0
+EndsByRecords clean = Unit {0}
+EndsByRecords (fault e) = IsOfRecords e
+
+settled-ends : (head : _) (requests : List Request) (rest : Place → Reading) → ((p : Place) → EndsByRecords (rest p).1) → EndsByRecords (settled head requests rest).1
+settled-ends head requests rest h = elim (cases_Bool (length requests == head.count)) [
+  | inl whole ↦ rw whole (h between)
+  | inr more ↦ rw more (h (within head requests))
+]
+
+slip-ends : (n : ℕ) (s : Slip) → IsOfRecords (fault_of n s)
+slip-ends n slip.BadField = tt
+slip-ends n slip.WrongCount = tt
+slip-ends n slip.OutOfRange = tt
+slip-ends n slip.UnknownKind = tt
+slip-ends n slip.BatchTooLong = tt
+
+begun-ends : (n : ℕ) (r : _) (rest : Place → Reading) → ((p : Place) → EndsByRecords (rest p).1) → EndsByRecords (begun n r rest).1
+begun-ends n (Ok head) rest h = settled-ends head [] rest h
+begun-ends n (Err s) rest h = slip-ends n s
+
+continued-ends : (n : ℕ) (head : _) (requests : List Request) (r : Result Request Slip) (rest : Place → Reading) → ((p : Place) → EndsByRecords (rest p).1) → EndsByRecords (continued n head requests r rest).1
+continued-ends n head requests (Ok request) rest h = settled-ends head (requests ++ request ∷ []) rest h
+continued-ends n head requests (Err s) rest h = slip-ends n s
+
+reading-ends : (rows : List Fields) (n : ℕ) (p : Place) → EndsByRecords (reading_from rows n p).1
+unfolding reading_from
+reading-ends [] n between = tt
+reading-ends [] n (within head requests) = tt
+reading-ends (r ∷ rs) n between = begun-ends n (head_at r) (reading_from rs (n + 1)) (λ p. reading-ends rs (n + 1) p)
+reading-ends (r ∷ rs) n (within head requests) = continued-ends n head requests (request_at r) (reading_from rs (n + 1)) (λ p. reading-ends rs (n + 1) p)
+
+-- the fault at which reading stops is one of records
+pub stops_by_records : (bytes : List ℕ) (left : Reading) (done : List Batch) (e : ReadError) → batches bytes ≡ (done ++ left.0, left.1) → StopsBy e left → IsOfRecords e
+stops_by_records bytes left done e read (inl memory) = subst IsOfRecords (sym memory) tt
+stops_by_records bytes left done e read (inr stopped) =
+    let end : (batches bytes).1 ≡ fault e = ap (λ (r : Reading). r.1) read ∙ ap (λ (r : Reading). r.1) stopped in
+    subst EndsByRecords end (reading-ends (records_in bytes) 1 between)

@@ -1,0 +1,31 @@
+-- A run on the database of an image.
+use Rattle.std.proofs.Common.{◌≡◌, ℕ, List, Option, Some, None, Result, Ok, Err, IfOk, IfErr, IfSome}
+use Rattle.loader.specs.Image.{image}
+use Rattle.runner.specs.Runs.{Taken}
+use Rattle.runner.specs.WholeRuns.{IsOfDatabase, LeavesDatabase, LeavesRun, RanOn, RanWhole}
+use Rattle.runner.specs.declared.fault.RunFault.{RunFault}
+use Rattle.runner.specs.declared.fault.RunFault.TheVariants as run_fault
+use Rattle.tpcc_model.specs.Database.{Database}
+
+pub ran_whole : (r : Result ℕ RunFault) (images batches : Option (List ℕ)) (db : Database) (old new : Taken) → IfSome images (λ image_bytes. image image_bytes ≡ Ok db)
+    → IfOk r (λ count. IfSome batches (λ batch_bytes. RanOn db batch_bytes old new count))
+    → IfOk r (λ count. IfSome images (λ image_bytes. IfSome batches (λ batch_bytes. RanWhole image_bytes batch_bytes old new count)))
+ran_whole (Err e) images batches db old new is ran = tt
+ran_whole (Ok count) None batches db old new is ran = tt
+ran_whole (Ok count) (Some bytes) None db old new is ran = tt
+ran_whole (Ok count) (Some bytes) (Some batch_bytes) db old new is ran = (db, is, ran)
+
+left_by : (e : RunFault) (image_bytes batch_bytes : List ℕ) (db : Database) (old new : Taken) → image image_bytes ≡ Ok db → IsOfDatabase e → LeavesDatabase e db batch_bytes old new → LeavesRun e image_bytes batch_bytes old new
+left_by (run_fault.Load e) image_bytes batch_bytes db old new is kind left = absurd kind
+left_by (run_fault.Read e) image_bytes batch_bytes db old new is kind left = (db, is, left)
+left_by (run_fault.Exec r) image_bytes batch_bytes db old new is kind left = (db, is, left)
+left_by run_fault.Write image_bytes batch_bytes db old new is kind left = (db, is, left)
+left_by run_fault.Memory image_bytes batch_bytes db old new is kind left = (db, is, left)
+
+pub left_run : (r : Result ℕ RunFault) (images batches : Option (List ℕ)) (db : Database) (old new : Taken) → IfSome images (λ image_bytes. image image_bytes ≡ Ok db) → IfErr r IsOfDatabase
+    → IfErr r (λ e. IfSome batches (λ batch_bytes. LeavesDatabase e db batch_bytes old new))
+    → IfErr r (λ e. IfSome images (λ image_bytes. IfSome batches (λ batch_bytes. LeavesRun e image_bytes batch_bytes old new)))
+left_run (Ok count) images batches db old new is kind left = tt
+left_run (Err e) None batches db old new is kind left = tt
+left_run (Err e) (Some bytes) None db old new is kind left = tt
+left_run (Err e) (Some bytes) (Some batch_bytes) db old new is kind left = left_by e bytes batch_bytes db old new is kind left

@@ -1,0 +1,63 @@
+-- The line that reports a fault of a run.
+use Rattle.std.specs.Prelude.{ℕ, List, [], ◌∷◌, ◌++◌, codes, decimal, Option, Some, None}
+use Rattle.loader.specs.Faults as image
+use Rattle.loader.specs.declared.fault.LoadError.TheVariants as load_error
+use Rattle.requests.specs.Faults as batches
+use Rattle.runner.specs.declared.fault.BatchRefusal.{BatchRefusal}
+use Rattle.runner.specs.declared.fault.BatchRefusal.TheVariants as refusal
+use Rattle.runner.specs.declared.fault.RunFault.{RunFault}
+use Rattle.runner.specs.declared.fault.RunFault.TheVariants as run_fault
+
+abbrev pub refusal_code : BatchRefusal → ℕ
+refusal_code refusal.Memory = 1
+refusal_code refusal.NumbersExhausted = 5
+
+abbrev pub refusal_name : BatchRefusal → List ℕ
+refusal_name refusal.Memory = codes "Memory"
+refusal_name refusal.NumbersExhausted = codes "NumbersExhausted"
+
+abbrev pub part_of : RunFault → List ℕ
+part_of (run_fault.Load e) = codes "image"
+part_of (run_fault.Read e) = codes "batches"
+part_of (run_fault.Exec r) = codes "run"
+part_of run_fault.Write = codes "output"
+part_of run_fault.Memory = codes "output"
+
+abbrev pub code_of : RunFault → ℕ
+code_of (run_fault.Load e) = image.code_of e
+code_of (run_fault.Read e) = batches.code_of e
+code_of (run_fault.Exec r) = refusal_code r
+code_of run_fault.Write = 1
+code_of run_fault.Memory = 2
+
+abbrev pub name_of : RunFault → List ℕ
+name_of (run_fault.Load e) = image.name_of e
+name_of (run_fault.Read e) = batches.name_of e
+name_of (run_fault.Exec r) = refusal_name r
+name_of run_fault.Write = codes "Write"
+name_of run_fault.Memory = codes "Memory"
+
+-- the record at fault
+abbrev pub place_of : RunFault → Option ℕ
+place_of (run_fault.Load e) = image.place_of e
+place_of (run_fault.Read e) = batches.place_of e
+place_of (run_fault.Exec r) = None
+place_of run_fault.Write = None
+place_of run_fault.Memory = None
+
+-- the condition that doesn't hold
+abbrev pub condition_of : RunFault → Option ℕ
+condition_of (run_fault.Load (load_error.Inconsistent k)) = Some k
+condition_of _ = None
+
+abbrev pub condition_text : Option ℕ → List ℕ
+condition_text None = []
+condition_text (Some k) = codes "(" ++ decimal k ++ codes ")"
+
+abbrev pub place_text : Option ℕ → List ℕ
+place_text None = []
+place_text (Some n) = codes " at record " ++ decimal n
+
+-- `eve-tpcc: <part>: <code> <Name>`, the condition or the record where there is one, and a line feed
+unfoldable pub fault_text : RunFault → List ℕ
+fault_text f = codes "eve-tpcc: " ++ part_of f ++ codes ": " ++ decimal (code_of f) ++ codes " " ++ name_of f ++ condition_text (condition_of f) ++ place_text (place_of f) ++ 10 ∷ []

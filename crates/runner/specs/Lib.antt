@@ -1,0 +1,4 @@
+pub mod Text
+pub mod Runs
+pub mod FaultText
+pub mod WholeRuns

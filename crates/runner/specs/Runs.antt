@@ -1,0 +1,96 @@
+-- What a run leaves behind, for each of its answers.
+use Rattle.std.specs.Prelude.{◌≡◌, ◌⊎◌, ℕ, ◌+◌, ◌<◌, ◌≤◌, Bool, true, false, List, [], ◌∷◌, ◌++◌, length, Option, Result, Ok, Err}
+use Rattle.std.specs.Io.KnownBytes.{Appends, Keeps}
+use Rattle.catalog.specs.CardMap.{Cards}
+use Rattle.requests.specs.Batches.{Reading, clean, fault}
+use Rattle.requests.specs.Ends.{AppendsFront}
+use Rattle.requests.specs.declared.fault.ReadError.{ReadError}
+use Rattle.requests.specs.declared.fault.ReadError.TheVariants as read_error
+use Rattle.requests.specs.declared.request.Batch.{Batch}
+use Rattle.runner.specs.Text.{batch_text, text}
+use Rattle.runner.specs.declared.fault.BatchRefusal.TheVariants as refusal
+use Rattle.runner.specs.declared.fault.RunFault.{RunFault}
+use Rattle.runner.specs.declared.fault.RunFault.TheVariants as run_fault
+use Rattle.tpcc_model.specs.Serial.{State, after_batch, serial}
+
+-- the bytes that a sink took, where they are known
+abbrev pub Taken : Type 0
+Taken = Option (List ℕ)
+
+-- the numbers of a batch's requests stay within the limit, 10^15 - 1
+abbrev pub NumbersFit : State → Batch → Type 0
+NumbersFit state batch = state.next + length batch.requests ≤ 1000000000000000
+
+abbrev pub NumbersExhaust : State → Batch → Type 0
+NumbersExhaust state batch = 1000000000000000 < state.next + length batch.requests
+
+abbrev pub AllFit : Cards → State → List Batch → Type 0
+AllFit cards state [] = Unit {0}
+AllFit cards state (batch ∷ batches) = NumbersFit state batch × AllFit cards (after_batch cards state batch) batches
+
+-- all batches were executed and written, and no fault came behind them
+pub record Ran (cards : Cards) (state : State) (reading : Reading) (old new : Taken) (count : ℕ) : Type 0 where
+  pub end : reading.1 ≡ clean
+  pub counted : count ≡ length reading.0
+  pub fit : AllFit cards state reading.0
+  pub written : Appends old new (text cards state reading.0)
+
+-- the first of the batches were executed and written, and no other byte
+pub record Began (cards : Cards) (state : State) (batches : List Batch) (old new : Taken) (done rest : List Batch) : Type 0 where
+  pub parts : batches ≡ done ++ rest
+  pub fit : AllFit cards state done
+  pub written : Appends old new (text cards state done)
+
+abbrev pub TookSome : Cards → State → List Batch → Taken → Taken → Type 0
+TookSome cards state batches old new = (done rest : List Batch) × Began cards state batches old new done rest
+
+-- the same, and the next batch would pass the limit of numbers
+abbrev pub TookUntilExhausted : Cards → State → List Batch → Taken → Taken → Type 0
+TookUntilExhausted cards state batches old new =
+    (done : List Batch) × (batch : Batch) × (rest : List Batch) × Began cards state batches old new done (batch ∷ rest) × NumbersExhaust (serial cards state done) batch
+
+-- what a fault in one batch leaves
+abbrev pub LeavesBatch : RunFault → Cards → State → Batch → Taken → Taken → Type 0
+LeavesBatch (run_fault.Exec refusal.NumbersExhausted) cards state batch old new = NumbersExhaust state batch × Keeps old new
+LeavesBatch (run_fault.Exec refusal.Memory) cards state batch old new = Keeps old new
+LeavesBatch run_fault.Memory cards state batch old new = Keeps old new
+LeavesBatch run_fault.Write cards state batch old new = NumbersFit state batch × AppendsFront old new (batch_text cards state batch)
+LeavesBatch (run_fault.Read e) cards state batch old new = ⊥
+LeavesBatch (run_fault.Load e) cards state batch old new = ⊥
+
+-- what a run leaves that ended early
+abbrev pub Left : RunFault → Cards → State → Reading → Taken → Taken → Type 0
+Left (run_fault.Read e) cards state reading old new =
+    ((reading.1 ≡ fault e) × AllFit cards state reading.0 × Appends old new (text cards state reading.0)) ⊎ ((e ≡ read_error.Memory) × TookSome cards state reading.0 old new)
+Left (run_fault.Exec refusal.NumbersExhausted) cards state reading old new = TookUntilExhausted cards state reading.0 old new
+Left (run_fault.Exec refusal.Memory) cards state reading old new = TookSome cards state reading.0 old new
+Left run_fault.Memory cards state reading old new = TookSome cards state reading.0 old new
+Left run_fault.Write cards state reading old new = AppendsFront old new (text cards state reading.0)
+Left (run_fault.Load e) cards state reading old new = ⊥
+
+abbrev pub is_write : {A : Type 0} → Result A RunFault → Bool
+is_write (Err run_fault.Write) = true
+is_write (Ok a) = false
+is_write (Err (run_fault.Load e)) = false
+is_write (Err (run_fault.Read e)) = false
+is_write (Err (run_fault.Exec r)) = false
+is_write (Err run_fault.Memory) = false
+
+-- the reasons for which batches that are in memory can't be read on
+abbrev pub IsOfRecords : ReadError → Type 0
+IsOfRecords (read_error.BadField n) = Unit {0}
+IsOfRecords (read_error.WrongCount n) = Unit {0}
+IsOfRecords (read_error.OutOfRange n) = Unit {0}
+IsOfRecords (read_error.UnknownKind n) = Unit {0}
+IsOfRecords (read_error.BatchTooLong n) = Unit {0}
+IsOfRecords read_error.Memory = Unit {0}
+IsOfRecords read_error.Read = ⊥
+IsOfRecords read_error.InputTooLong = ⊥
+
+-- the faults of a run on a database and on batches that are in memory
+abbrev pub IsOfBatches : RunFault → Type 0
+IsOfBatches (run_fault.Load e) = ⊥
+IsOfBatches (run_fault.Read e) = IsOfRecords e
+IsOfBatches (run_fault.Exec r) = Unit {0}
+IsOfBatches run_fault.Write = Unit {0}
+IsOfBatches run_fault.Memory = Unit {0}

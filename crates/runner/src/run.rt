@@ -1,0 +1,65 @@
+//! From the bytes of an image and of batches to the bytes of the replies.
+ghost use Rattle.std.specs.Prelude.{◌≡◌, ◌+◌, ◌<◌, ◌^◌, IfErr, IfOk, IfSome, if◌then◌else◌};
+ghost use Rattle.runner.specs.WholeRuns.{IsOfDatabase, LeavesDatabase, LeavesRun, RanOn, RanWhole, is_batches_read, is_image_read};
+ghost use Rattle.runner.specs.Runs.{is_write};
+
+use crate::engine::run_batches;
+use crate::fault::RunFault;
+use catalog::Catalog;
+use loader::load;
+use requests::ends::{Sink, Source};
+use requests::whole::slurp;
+use std::alloc::Global;
+use tpcc_rows::plain::RowStore;
+
+/// The most bytes of batches.
+const MOST_BATCH_BYTES: usize = 1_073_741_824;
+
+/// Reads all bytes of batches, and runs them on a database.
+fn run_database<B: Source, S: Sink>(
+    alloc: Global,
+    catalog: &Catalog,
+    store: RowStore,
+    batches: &mut B,
+    sink: &mut S,
+) -> Result<u64, RunFault>
+    requires batches { B.failed batches.old < 2 ^ 63 }
+    requires sink { S.failed sink.old < 2 ^ 63 }
+    ensures ok { IfOk result (λ count. IfSome (B.left batches.old) (λ batch_bytes. RanOn (record { cards = catalog.now; rows = store }) batch_bytes (S.taken sink.old) (S.taken sink.new) count)) }
+    ensures err { IfErr result (λ e. IfSome (B.left batches.old) (λ batch_bytes. LeavesDatabase e (record { cards = catalog.now; rows = store }) batch_bytes (S.taken sink.old) (S.taken sink.new))) }
+    ensures kinds { IfErr result IsOfDatabase }
+    ensures batches_failures { B.failed batches.new ≡ B.failed batches.old + (if is_batches_read result then 1 else 0) }
+    ensures sink_failures { S.failed sink.new ≡ S.failed sink.old + (if is_write result then 1 else 0) }
+{
+    let text = match slurp(alloc, batches, MOST_BATCH_BYTES) {
+        Ok(text) => text,
+        Err(error) => return Err(RunFault::Read(error)),
+    };
+    run_batches(alloc, catalog, store, text.as_slice(), sink)
+}
+
+/// Loads an image, reads all bytes of batches, and then reads, executes and writes batch after batch. The answer is the
+/// number of batches.
+pub fn run_text<I: Source, B: Source, S: Sink>(
+    alloc: Global,
+    image: &mut I,
+    batches: &mut B,
+    sink: &mut S,
+) -> Result<u64, RunFault>
+    requires image { I.failed image.old < 2 ^ 63 }
+    requires batches { B.failed batches.old < 2 ^ 63 }
+    requires sink { S.failed sink.old < 2 ^ 63 }
+    ensures ok { IfOk result (λ count. IfSome (I.left image.old) (λ image_bytes. IfSome (B.left batches.old) (λ batch_bytes. RanWhole image_bytes batch_bytes (S.taken sink.old) (S.taken sink.new) count))) }
+    ensures err { IfErr result (λ e. IfSome (I.left image.old) (λ image_bytes. IfSome (B.left batches.old) (λ batch_bytes. LeavesRun e image_bytes batch_bytes (S.taken sink.old) (S.taken sink.new)))) }
+
+    // An end that failed is the reason of the answer, and every failure is answered.
+    ensures image_failures { I.failed image.new ≡ I.failed image.old + (if is_image_read result then 1 else 0) }
+    ensures batches_failures { B.failed batches.new ≡ B.failed batches.old + (if is_batches_read result then 1 else 0) }
+    ensures sink_failures { S.failed sink.new ≡ S.failed sink.old + (if is_write result then 1 else 0) }
+{
+    let (catalog, store) = match load(alloc, image) {
+        Ok(database) => database,
+        Err(error) => return Err(RunFault::Load(error)),
+    };
+    run_database(alloc, &catalog, store, batches, sink)
+}
