@@ -11,3 +11,6 @@ pub use card::{
     Card, CardKey, Credit, CustomerCard, DistrictCard, ItemCard, StockCard, WarehouseCard,
 };
 pub use cards::Catalog;
+
+#[cfg(test)]
+mod tests;

@@ -11,3 +11,6 @@ pub mod number;
 pub mod plain;
 pub mod row;
 pub mod text;
+
+#[cfg(test)]
+mod tests;

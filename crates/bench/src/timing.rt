@@ -1,0 +1,10 @@
+//! What is printed of two times.
+use std::time::Duration;
+
+/// Prints what something took, and how often as long that is as something else took.
+pub fn print_ratio(rt: &impl Eprint, what: &str, time: Duration, against: &str, other: Duration) {
+    let (time, other) = (time.as_micros(), other.as_micros().max(1));
+    let hundredths = time.saturating_mul(100) / other;
+    let (whole, part) = (hundredths / 100, hundredths % 100);
+    let _ = eprintln!(rt; "{what}: {time} us, {whole}.{part:02} times {against} ({other} us)");
+}

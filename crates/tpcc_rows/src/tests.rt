@@ -1,0 +1,86 @@
+//! Each kind of value once, and a store with changes made.
+use crate::delta::Delta;
+use crate::id::{CustomerId, DistrictId, ItemId, LineNumber, OrderId, RequestNumber, WarehouseId};
+use crate::key::RowKey;
+use crate::number::{
+    Amount, Carrier, Cents, Count, LineQuantity, Moment, Price, Rate, StockQuantity,
+};
+use crate::plain::RowStore;
+use crate::row::{Row, WarehouseRow, fits};
+use crate::text::Text;
+use std::test::Fail;
+
+#[test]
+fn limits(rt: HostRuntime) {
+    assert_eq!(rt; WarehouseId::new(100).map(WarehouseId::number), Some(100));
+    assert!(rt; WarehouseId::new(0).is_none() && WarehouseId::new(101).is_none());
+    assert!(rt; DistrictId::new(10).is_some() && DistrictId::new(11).is_none());
+    assert!(rt; CustomerId::new(3000).is_some() && CustomerId::new(3001).is_none());
+    assert!(rt; ItemId::new(999_999).is_some() && ItemId::new(1_000_000).is_none());
+    assert!(rt; OrderId::new(9_999_999).is_some() && OrderId::new(10_000_000).is_none());
+    assert!(rt; LineNumber::new(15).is_some() && LineNumber::new(16).is_none());
+    assert!(rt; RequestNumber::new(999_999_999_999_999).is_some());
+    assert!(rt; RequestNumber::new(1_000_000_000_000_000).is_none());
+}
+
+#[test]
+fn amounts(rt: HostRuntime) {
+    let most = 1_000_000_000_000_000;
+    assert_eq!(rt; Cents::new(-most).map(Cents::amount), Some(-most));
+    assert!(rt; Cents::new(most + 1).is_none() && Cents::new(-most - 1).is_none());
+    assert!(rt; Rate::new(9_999).is_some() && Rate::new(10_000).is_none());
+    assert!(rt; Moment::new(999_999_999_999).is_some());
+    assert!(rt; Moment::new(1_000_000_000_000).is_none());
+    assert!(rt; Count::new(1_000_000_000).is_some() && Count::new(1_000_000_001).is_none());
+    assert!(rt; Amount::new(999_999).is_some() && Amount::new(1_000_000).is_none());
+    assert!(rt; Price::new(99_999).is_some() && Price::new(100_000).is_none());
+    assert!(rt; LineQuantity::new(99).is_some() && LineQuantity::new(100).is_none());
+    assert!(rt; Carrier::new(0).is_none() && Carrier::new(10).is_some());
+    assert!(rt; StockQuantity::new(-9_999).is_some() && StockQuantity::new(10_000).is_none());
+}
+
+#[test]
+fn texts(rt: HostRuntime) -> Result<(), Fail> {
+    let name = Text::<10>::parse(b"abcdefghij").ok_or("a text")?;
+    assert_eq!(rt; name.copied().as_bytes(), b"abcdefghij".as_slice());
+    assert!(rt; Text::<10>::parse(b"abcdefghijk").is_none());
+    assert!(rt; Text::<10>::parse(b"a\nb").is_none() && Text::<10>::parse(b"a\x7f").is_none());
+    let mut note = Text::<8>::new();
+    note.push_number(1234567);
+    note.push_clipped(b"|xy");
+    assert_eq!(rt; note.as_bytes(), b"1234567|".as_slice());
+    Ok(())
+}
+
+fn warehouse(ytd: i64) -> Option<Row> {
+    Some(Row::Warehouse(WarehouseRow {
+        ytd: Cents::new(ytd)?,
+    }))
+}
+
+#[test]
+fn changes(rt: HostRuntime) -> Result<(), Fail> {
+    let one = RowKey::Warehouse {
+        warehouse: WarehouseId::new(1).ok_or("an id")?,
+    };
+    let two = RowKey::Warehouse {
+        warehouse: WarehouseId::new(2).ok_or("an id")?,
+    };
+    let row = warehouse(5).ok_or("a row")?;
+    assert!(rt; fits(&one, &row) && !fits(&one, &Row::NewOrder));
+    let mut store = RowStore::new(rt.alloc());
+    store.put(one, row)?;
+    let mut delta = Delta::new(rt.alloc());
+    let changed = warehouse(7).ok_or("a row")?;
+    if fits(&two, &changed) {
+        delta.put(two, changed)?;
+    }
+    delta.remove(one)?;
+    assert!(rt; delta.get(&one).is_some());
+    store.apply(&delta)?;
+    assert_eq!(rt; store.len(), 1);
+    assert!(rt; store.get(&one).is_none());
+    let ytd = store.remove(&two).as_ref().and_then(Row::as_warehouse).map(|row| row.ytd.amount());
+    assert_eq!(rt; ytd, Some(7));
+    Ok(())
+}
