@@ -33,7 +33,9 @@ fn add_customers(
         let is_bad = c % 10 == 0;
         let credit = if is_bad { "BC" } else { "GC" };
         let name = c % 10;
-        let line = format!(in alloc; "C,{w},{d},{c},NAME{name},OE,F9,{credit},1000,-1000,1000,1,0,")?;
+        let line = format!(in alloc;
+            "C,{w},{d},{c},NAME{name},OE,F9,{credit},1000,-1000,1000,1,0,"
+        )?;
         text.extend_from_slice(line.as_bytes())?;
         if is_bad {
             text.extend_from_slice(&data)?;

@@ -1,5 +1,5 @@
-//! Measurements, as ratios within one run: `rt run bench -- go`. With no word on its command line it does nothing. Times
-//! go to standard error.
+//! Measurements, as ratios within one run: `rt run bench -- load` for the loading of an image, `rt run bench -- pay` for
+//! payments. With no word on its command line it does nothing. Times go to standard error.
 #![tactic(auto)]
 
 mod images;
@@ -8,23 +8,28 @@ mod paying;
 mod timing;
 
 use std::process::ExitCode;
-use std::rt::Env;
+use std::rt::{Clock, Env};
 use std::{env, io};
 
-fn is_asked<R: Env + AllocGlobal>(rt: &R) -> io::Result<bool> {
-    let words = env::args(rt)?.collect::<Vec<String>>(rt.alloc())?;
-    Ok(words.len() > 1)
+/// The first word of the command line behind the program's name, where there is one.
+fn asked<R: Env + AllocGlobal>(rt: &R) -> io::Result<Option<String>> {
+    Ok(env::args(rt)?.nth(1))
+}
+
+fn measure<R: Clock + Eprint + AllocGlobal>(rt: &R, what: &str) -> io::Result<()> {
+    match what {
+        "load" => loading::measure(rt),
+        "pay" => paying::measure(rt),
+        _ => Err(io::ErrorKind::InvalidInput.into()),
+    }
 }
 
 fn main(rt: HostRuntime) -> ExitCode {
-    match is_asked(&rt) {
-        Ok(true) => {}
-        _ => return ExitCode::SUCCESS,
-    }
-    let loaded = loading::measure(&rt);
-    let paid = paying::measure(&rt);
-    match (loaded, paid) {
-        (Ok(()), Ok(())) => ExitCode::SUCCESS,
-        _ => ExitCode::FAILURE,
+    let Ok(Some(what)) = asked(&rt) else {
+        return ExitCode::SUCCESS;
+    };
+    match measure(&rt, what.as_str()) {
+        Ok(()) => ExitCode::SUCCESS,
+        Err(_) => ExitCode::FAILURE,
     }
 }

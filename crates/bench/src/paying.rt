@@ -13,6 +13,7 @@ use tpcc_rows::id::{CustomerId, RequestNumber};
 use tpcc_rows::number::Cents;
 
 const BATCHES: u32 = 100;
+
 const SIZE: u32 = 1000;
 
 fn invalid() -> io::Error {
@@ -21,6 +22,9 @@ fn invalid() -> io::Error {
 
 /// How many requests the batches of a text have.
 fn requests_in(alloc: Global, text: &[u8]) -> Option<u64> {
+    if text.len() >= 1 << 32 {
+        return None;
+    }
     let mut reader = BatchReader::new(alloc, text).ok()?;
     let mut count = 0u64;
     for _ in 0..u64::MAX {
@@ -73,9 +77,6 @@ fn whole(rt: &(impl Clock + AllocGlobal), image: &[u8], text: &[u8]) -> io::Resu
 pub fn measure(rt: &(impl Clock + Eprint + AllocGlobal)) -> io::Result<()> {
     let image = image(rt.alloc(), 1, 3000)?;
     let text = payments(rt.alloc(), BATCHES, SIZE)?;
-    if text.len() >= 1 << 32 {
-        return Err(invalid());
-    }
     let mut alone = ends_alone(rt, text.as_slice())?;
     let mut empty = whole(rt, image.as_slice(), b"")?;
     let mut all = whole(rt, image.as_slice(), text.as_slice())?;

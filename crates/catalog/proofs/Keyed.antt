@@ -1,8 +1,8 @@
 -- Cards, each at its own key, after one card more.
-use Rattle.std.proofs.Common.{◌≡◌, List, [], ◌∷◌, ◌++◌, map, cond, Bool, true, false, Option, Some, None, IsSome, refl, sym, ap, subst, ◌∙◌, inl, inr, append_assoc, Bor}
+use Rattle.std.proofs.Common.{◌≡◌, List, [], ◌∷◌, ◌++◌, map, cond, Bool, true, false, Option, Some, None, IsSome, refl, sym, ap, subst, ◌∙◌, inl, inr, Bor}
 use Rattle.std.specs.Prelude.{is_some, option_copied}
 use Rattle.std.specs.Ordering.{eq_by_cmp}
-use Rattle.std.specs.FinMap.{get, insert, find, from_entries, get-from_entries, get-insert, same_map, empty}
+use Rattle.std.specs.FinMap.{get, insert, find, from_entries, get-from_entries, get-insert, same_map}
 use Rattle.std.proofs.lemmas.Bool.{cases_Bool}
 use Rattle.catalog.specs.declared.card.CardKey.{CardKey}
 use Rattle.catalog.specs.declared.card.Card.{Card}

@@ -1,5 +1,5 @@
 -- The cards of a database, as a finite map.
-use Rattle.std.specs.Prelude.{◌≡◌, List, ◌∷◌, ◌++◌, Contains, map, Option, Some}
+use Rattle.std.specs.Prelude.{◌≡◌, List, ◌∷◌, ◌++◌, map, Some}
 use Rattle.std.specs.Coded.{Coded}
 use Rattle.std.specs.FinMap as finmap
 use Rattle.std.specs.declared.cmp.Ordering.{Ordering}

@@ -1,7 +1,8 @@
 //! The cards and their keys (TPC-C clause 1.3; the split into fixed and moving columns by clause 1.4).
-ghost use Rattle.std.specs.Prelude.{◌≡◌, option_copied};
+ghost use Rattle.std.specs.Prelude.{◌≡◌, ◌==◌, ◌-◌, None, Some, if◌then◌else◌, option_copied, slice_get, vec_len};
 ghost use Rattle.catalog.specs.CardKinds.{as_customer, as_district, as_item, as_stock, as_warehouse, card_key};
 
+use std::marker::Model;
 use tpcc_rows::id::{CustomerId, DistrictId, ItemId, WarehouseId};
 use tpcc_rows::number::{Price, Rate};
 use tpcc_rows::text::Text;
@@ -69,13 +70,49 @@ pub struct CustomerCard {
     pub discount: Rate,
 }
 
+/// S_DIST_01 to S_DIST_10, a text for each district of the stock's warehouse.
+#[derive(Drop)]
+pub struct DistrictInfos {
+    infos: Vec<Text<24>>,
+}
+
+impl Model for DistrictInfos {
+    ghost use Rattle.std.specs.Prelude.{◌≡◌, ℕ, List, length};
+
+    ghost Value = { List (List ℕ) };
+
+    ghost view = { λ x. x.infos.items };
+
+    ghost invariant = { λ x. length x.infos.items ≡ 10 };
+}
+
+impl DistrictInfos {
+    /// The texts of the ten districts in their order, None where they aren't ten.
+    pub fn new(infos: Vec<Text<24>>) -> Option<DistrictInfos>
+        ensures { result ≡ (if vec_len infos == 10 then Some infos.items else None) }
+    {
+        if infos.len() == 10 {
+            Some(DistrictInfos { infos })
+        } else {
+            None
+        }
+    }
+
+    /// The text of a district.
+    pub fn of(&self, district: DistrictId) -> &Text<24>
+        ensures { slice_get self.now (district - 1) ≡ Some result.now }
+    {
+        &self.infos[usize::from(district.number()) - 1]
+    }
+}
+
 /// S_DATA and S_DIST_01 to S_DIST_10.
 #[derive(Drop)]
 pub struct StockCard {
     pub warehouse: WarehouseId,
     pub item: ItemId,
     pub data: Text<50>,
-    pub district_infos: [Text<24>; 10],
+    pub district_infos: DistrictInfos,
 }
 
 /// I_NAME, I_PRICE and I_DATA.

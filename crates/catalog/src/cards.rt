@@ -4,9 +4,7 @@ ghost use Rattle.std.specs.FinMap as map;
 ghost use Rattle.catalog.specs.CardMap.{AreKeyed};
 ghost use Rattle.catalog.specs.Lookups.{customer_card, district_card, item_card, stock_card, warehouse_card};
 
-use crate::card::{
-    Card, CardKey, CustomerCard, DistrictCard, ItemCard, StockCard, WarehouseCard,
-};
+use crate::card::{Card, CardKey, CustomerCard, DistrictCard, ItemCard, StockCard, WarehouseCard};
 use std::collections::BTreeMap;
 use std::collections::btree_map::Iter;
 use std::marker::Model;

@@ -8,7 +8,8 @@ pub mod cards;
 
 pub use builder::{CatalogBuilder, CatalogError};
 pub use card::{
-    Card, CardKey, Credit, CustomerCard, DistrictCard, ItemCard, StockCard, WarehouseCard,
+    Card, CardKey, Credit, CustomerCard, DistrictCard, DistrictInfos, ItemCard, StockCard,
+    WarehouseCard,
 };
 pub use cards::Catalog;
 

@@ -47,11 +47,21 @@ fn look_ups(rt: HostRuntime) -> Result<(), Fail> {
     let ten = DistrictId::new(10).ok_or("an id")?;
     let seven = ItemId::new(7).ok_or("an id")?;
     assert_eq!(rt; catalog.len(), 3);
-    assert_eq!(rt; catalog.warehouse(one).ok_or("a card")?.name.as_bytes(), b"W1".as_slice());
-    assert_eq!(rt; catalog.district(one, ten).ok_or("a card")?.tax.value(), 500);
+    assert_eq!(rt;
+        catalog.warehouse(one).ok_or("a card")?.name.as_bytes(),
+        b"W1".as_slice()
+    );
+    assert_eq!(rt;
+        catalog.district(one, ten).ok_or("a card")?.tax.value(),
+        500
+    );
     assert_eq!(rt; catalog.item(seven).ok_or("a card")?.price.cents(), 100);
     assert!(rt; catalog.stock(one, seven).is_none());
-    assert!(rt; catalog.warehouse(WarehouseId::new(2).ok_or("an id")?).is_none());
+    assert!(rt;
+        catalog
+            .warehouse(WarehouseId::new(2).ok_or("an id")?)
+            .is_none()
+    );
     let first = catalog.cards().next().ok_or("a card")?;
     assert_eq!(rt; *first.0, CardKey::Warehouse { warehouse: one });
     Ok(())

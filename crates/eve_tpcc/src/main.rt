@@ -5,10 +5,9 @@
 use command_line::{Line, LineFault, line_of, line_status};
 use requests::ends::Counting;
 use runner::{RunFault, fault_line, run_text};
-use std::io::Write;
 use std::process::ExitCode;
 use std::rt::{Env, Files};
-use std::{env, fs, io};
+use std::{env, fs, io, str};
 
 fn cannot_open(rt: &impl Eprint, path: &str) -> ExitCode {
     let _ = eprintln!(rt; "eve-tpcc: cannot open {path}");
@@ -18,7 +17,9 @@ fn cannot_open(rt: &impl Eprint, path: &str) -> ExitCode {
 fn report<R: Eprint + AllocGlobal>(rt: &R, fault: &RunFault) -> ExitCode {
     let mut line = Vec::new(rt.alloc());
     if fault_line(rt.alloc(), fault, &mut line).is_ok() {
-        let _ = io::ewriter(rt).write_all(line.as_slice());
+        if let Ok(text) = str::from_utf8(line.as_slice()) {
+            let _ = eprint!(rt; "{text}");
+        }
     }
     ExitCode::FAILURE
 }

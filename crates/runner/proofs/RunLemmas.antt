@@ -1,5 +1,5 @@
 -- Runs of batches, and one batch more.
-use Rattle.std.proofs.Common.{◌≡◌, ◌⊎◌, ◌∙◌, ◌<◌, ◌≤◌, ◌+◌, ℕ, List, [], ◌∷◌, ◌++◌, length, Option, Some, None, inl, inr, refl, sym, ap, subst, append_assoc, arith}
+use Rattle.std.proofs.Common.{◌≡◌, ◌∙◌, ◌+◌, ℕ, List, [], ◌∷◌, ◌++◌, length, Option, Some, None, inl, inr, refl, sym, ap, subst, append_assoc}
 use Rattle.std.specs.Prelude.{◌==◌, Result, Ok, Err}
 use Rattle.std.proofs.lemmas.Bool.{cases_Bool}
 use Rattle.std.proofs.lemmas.List.{append-nil}
@@ -16,7 +16,7 @@ use Rattle.requests.specs.declared.request.Request.{Request}
 use Rattle.requests.specs.Ends.{AppendsFront}
 use Rattle.requests.specs.declared.request.Batch.{Batch}
 use Rattle.requests.proofs.EndsLemmas.{appends_twice}
-use Rattle.runner.specs.Runs.{AllFit, Began, IsOfRecords, LeavesBatch, Left, NumbersFit, Taken, TookSome}
+use Rattle.runner.specs.Runs.{AllFit, Began, IsOfRecords, LeavesBatch, Left, NumbersFit, Taken}
 use Rattle.runner.specs.Text.{batch_text, text}
 use Rattle.runner.specs.declared.fault.BatchRefusal.TheVariants as refusal
 use Rattle.runner.specs.declared.fault.RunFault.{RunFault}
@@ -49,7 +49,7 @@ pub text-more : (cards : Cards) (state : State) (done : List Batch) (batch : Bat
     → Appends old new (text cards state (done ++ batch ∷ []))
 text-more cards state done batch old mid new a b =
     let whole : text cards state (done ++ batch ∷ []) ≡ text cards state done ++ batch_text cards (serial cards state done) batch =
-        text-both cards state done (batch ∷ []) ∙ ap (λ t. text cards state done ++ t) (append-nil (batch_text cards (serial cards state done) batch)) in
+    text-both cards state done (batch ∷ []) ∙ ap (λ t. text cards state done ++ t) (append-nil (batch_text cards (serial cards state done) batch)) in
     subst (Appends old new) (sym whole) (appends_twice old mid new (text cards state done) (batch_text cards (serial cards state done) batch) a b)
 
 -- one batch more was read
@@ -74,8 +74,8 @@ module _ (cards : Cards) (state : State) (all : Reading) (done : List Batch) (ba
       let tail = text cards (after_batch cards now batch) rest in
       let first = text cards state done in
       let whole : text cards state all.0 ≡ (first ++ front) ++ (back ++ tail) =
-          ap (text cards state) parts ∙ text-both cards state done (batch ∷ rest) ∙ ap (λ (t : List ℕ). first ++ (t ++ tail)) cut
-          ∙ ap (λ (t : List ℕ). first ++ t) (append_assoc front back tail) ∙ sym (append_assoc first front (back ++ tail)) in
+      ap (text cards state) parts ∙ text-both cards state done (batch ∷ rest) ∙ ap (λ (t : List ℕ). first ++ (t ++ tail)) cut
+      ∙ ap (λ (t : List ℕ). first ++ t) (append_assoc front back tail) ∙ sym (append_assoc first front (back ++ tail)) in
       (first ++ front, back ++ tail, whole, appends_twice old mid new first front written took)
 
   pub left_in_batch : (e : RunFault) → LeavesBatch e cards (serial cards state done) batch mid new → Left e cards state all old new

@@ -4,5 +4,4 @@ ghost use Rattle.serializability.specs.Laws.{FoldsInTwo};
 /// Requests in order may be cut in two: the second part begins where the first one ends.
 pub fn folds()
     ensures { FoldsInTwo }
-{
-}
+{}

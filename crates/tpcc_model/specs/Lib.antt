@@ -4,4 +4,5 @@ pub mod Payments
 pub mod Steps
 pub mod Conditions
 pub mod Soundness
+pub mod Serial
 pub mod Laws

@@ -1,6 +1,6 @@
 -- A sound database: its values are within their limits, its cards and rows have their parents, and the consistency
 -- conditions hold.
-use Rattle.std.specs.Prelude.{◌≡◌, ℕ, ◌≤◌, Some, IsSome, IfSome}
+use Rattle.std.specs.Prelude.{◌≡◌, ℕ, length, Some, IsSome, IfSome}
 use Rattle.std.specs.FinMap as map
 use Rattle.tpcc_rows.specs.Limits.{IsBetween, IsCents, IsStockQuantity}
 use Rattle.tpcc_rows.specs.Texts.{IsText}
@@ -40,6 +40,7 @@ pub record IsStockCard (c : StockCard) : Type 0 where
   pub warehouse : IsBetween 1 100 c.warehouse
   pub item : IsBetween 1 100000 c.item
   pub text : IsText 50 c.data
+  pub ten_infos : length c.district_infos ≡ 10
   pub district_infos : AllByRecursion (IsText 24) c.district_infos
 
 -- the columns of a card are within their limits

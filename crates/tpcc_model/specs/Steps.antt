@@ -5,7 +5,6 @@ use Rattle.serializability.specs.Folds.{Step, fold_replies, fold_rows}
 use Rattle.tpcc_rows.specs.RowMap.{Rows, Changes, row_key_cmp}
 use Rattle.tpcc_rows.specs.declared.row.Row.{Row}
 use Rattle.catalog.specs.CardMap.{Cards}
-use Rattle.requests.specs.Kinds.{kind_of}
 use Rattle.requests.specs.declared.request.Payment.{Payment}
 use Rattle.requests.specs.declared.request.Request.{Request}
 use Rattle.requests.specs.declared.request.Request.TheVariants as request

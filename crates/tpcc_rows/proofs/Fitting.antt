@@ -1,5 +1,5 @@
 -- Rows of their keys' kinds, after one change more.
-use Rattle.std.proofs.Common.{◌≡◌, true, List, [], IfSome, Option, Some, None, refl, sym, ap, ap₂, subst, ◌∙◌, inl, inr}
+use Rattle.std.proofs.Common.{◌≡◌, true, List, [], IfSome, Option, Some, None, refl, sym, ap, ap₂, ◌∙◌, inl, inr}
 use Rattle.std.specs.FinMap.{empty, get, insert, remove, get-empty, entries, find, from_entries, get-from_entries}
 use Rattle.std.specs.List.{list_all}
 use Rattle.tpcc_rows.specs.declared.key.RowKey.{RowKey}

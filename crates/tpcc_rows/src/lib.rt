@@ -10,7 +10,6 @@ pub mod memory;
 pub mod number;
 pub mod plain;
 pub mod row;
-pub mod text;
-
 #[cfg(test)]
 mod tests;
+pub mod text;

@@ -80,7 +80,11 @@ fn changes(rt: HostRuntime) -> Result<(), Fail> {
     store.apply(&delta)?;
     assert_eq!(rt; store.len(), 1);
     assert!(rt; store.get(&one).is_none());
-    let ytd = store.remove(&two).as_ref().and_then(Row::as_warehouse).map(|row| row.ytd.amount());
+    let ytd = store
+        .remove(&two)
+        .as_ref()
+        .and_then(Row::as_warehouse)
+        .map(|row| row.ytd.amount());
     assert_eq!(rt; ytd, Some(7));
     Ok(())
 }

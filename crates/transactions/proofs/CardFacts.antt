@@ -1,5 +1,5 @@
 -- What a sound catalog says of a card that is found.
-use Rattle.std.proofs.Common.{◌≡◌, ℕ, Option, Some, None, sym, ap, subst, ◌∙◌}
+use Rattle.std.proofs.Common.{◌≡◌, ℕ, Option, Some, None, subst}
 use Rattle.std.specs.Option.{option_and_then}
 use Rattle.std.specs.FinMap.{get}
 use Rattle.catalog.specs.CardKinds.{as_warehouse, as_district, as_customer}

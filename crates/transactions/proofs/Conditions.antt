@@ -1,5 +1,5 @@
 -- How the consistency conditions go through changes elsewhere.
-use Rattle.std.proofs.Common.{◌≡◌, ◌⊎◌, ◌≢◌, ℕ, ℤ, pos, ◌+ℤ◌, ◌==◌, Bool, true, false, cond, Option, Some, None, IfSome, inl, inr, refl, sym, ap, subst, ◌∙◌, arith}
+use Rattle.std.proofs.Common.{◌≡◌, ℕ, ℤ, pos, ◌+ℤ◌, ◌==◌, true, false, cond, Option, Some, IfSome, inl, inr, sym, subst, ◌∙◌, arith}
 use Rattle.std.proofs.lemmas.Int.{ints}
 use Rattle.std.proofs.lemmas.Bool.{cases_eq}
 use Rattle.std.proofs.lemmas.Bool.Decides.{nat_tests}
@@ -9,7 +9,7 @@ use Rattle.tpcc_rows.specs.RowMap.{Rows}
 use Rattle.tpcc_rows.specs.Totals.{total}
 use Rattle.tpcc_rows.specs.declared.key.RowKey.TheVariants as key
 use Rattle.tpcc_rows.specs.declared.row.WarehouseRow.{WarehouseRow}
-use Rattle.tpcc_model.specs.Conditions.{HasNewOrder, HasOrder, IsConsistent, IsGreatest, IsGreatestOr0, IsLeast, line_share, new_order_share, promised_share}
+use Rattle.tpcc_model.specs.Conditions.{HasNewOrder, HasOrder, IsConsistent, line_share, new_order_share, promised_share}
 
 -- a district whose orders and new orders stay, and whose sums stay
 module _ (m n : Rows) (w d : ℕ) (orders : (o : ℕ) → get n (key.Order w d o) ≡ get m (key.Order w d o)) (news : (o : ℕ) → get n (key.NewOrder w d o) ≡ get m (key.NewOrder w d o)) where

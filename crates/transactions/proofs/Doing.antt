@@ -1,7 +1,7 @@
 -- What a step that wasn't refused went through.
-use Rattle.std.proofs.Common.{◌≡◌, ◌≤◌, ℕ, ℤ, ◌≤ℤ◌, Bool, true, false, cond, ◌&&◌, Option, Some, None, IsSome, Result, Ok, Err, refl, subst, arith, pos, negsuc}
+use Rattle.std.proofs.Common.{◌≡◌, ℕ, ℤ, ◌≤ℤ◌, Bool, true, false, cond, Option, Some, None, IsSome, Result, Ok, Err, refl, subst, arith, pos, negsuc}
 use Rattle.std.specs.Prelude.{nat_le, int_le}
-use Rattle.std.specs.Option.{ok_or, option_and_then}
+use Rattle.std.specs.Option.{ok_or}
 use Rattle.std.proofs.lemmas.Int.{ints}
 use Rattle.std.proofs.lemmas.Bool.Decides.{nat_tests}
 use Rattle.requests.specs.declared.reply.Refusal.{Refusal}

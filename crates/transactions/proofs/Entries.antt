@@ -1,6 +1,6 @@
 -- How the rows' own part of soundness goes through single changes.
-use Rattle.std.proofs.Common.{◌≡◌, ◌⊎◌, ℕ, Option, Some, IsSome, inl, inr, refl, sym, ap, subst, subst₂, ◌∙◌, is_some}
-use Rattle.std.specs.FinMap.{get, insert, remove}
+use Rattle.std.proofs.Common.{◌≡◌, ℕ, Some, IsSome, inl, inr, sym, ap, subst, subst₂, ◌∙◌, is_some}
+use Rattle.std.specs.FinMap.{get, insert}
 use Rattle.catalog.specs.CardMap.{Cards}
 use Rattle.tpcc_rows.specs.Limits.{IsBetween}
 use Rattle.tpcc_rows.specs.RowMap.{Rows}
@@ -11,7 +11,7 @@ use Rattle.tpcc_rows.specs.declared.row.Row.TheVariants as row
 use Rattle.tpcc_rows.specs.declared.row.OrderRow.{OrderRow}
 use Rattle.tpcc_rows.specs.declared.row.OrderLineRow.{OrderLineRow}
 use Rattle.tpcc_rows.proofs.Keys.{row_key_cmp_total, exact_keys}
-use Rattle.tpcc_rows.proofs.Singles.{same_key, here, apart, left, entry_of, entry_left}
+use Rattle.tpcc_rows.proofs.Singles.{same_key, here, apart, entry_of}
 use Rattle.tpcc_model.specs.Soundness.{HasCard, IsEntry, IsOrderLine}
 
 -- each row of m is as it should be, with its parents in p

@@ -1,6 +1,6 @@
 -- What a payment that isn't refused found and made.
-use Rattle.std.proofs.Common.{◌≡◌, ◌≤◌, ◌<◌, ◌+◌, ◌^◌, ℕ, zero, suc, ℤ, pos, ◌+ℤ◌, ◌-ℤ◌, List, [], ◌∷◌, ◌++◌, Option, Some, None, IsSome, Result, Ok, Err, refl, sym, ap, subst, ◌∙◌, arith, codes, decimal}
-use Rattle.std.specs.Option.{ok_or, option_and_then}
+use Rattle.std.proofs.Common.{◌≡◌, ◌≤◌, ◌<◌, ◌+◌, ◌^◌, ℕ, zero, suc, pos, ◌+ℤ◌, ◌-ℤ◌, List, [], ◌∷◌, ◌++◌, Option, Some, None, IsSome, Ok, refl, sym, ap, subst, ◌∙◌, arith, codes, decimal}
+use Rattle.std.specs.Option.{option_and_then}
 use Rattle.std.specs.FinMap.{get}
 use Rattle.std.proofs.lemmas.List.Elements.{All-append}
 use Rattle.catalog.specs.Lookups.{warehouse_card, district_card, customer_card}
@@ -10,7 +10,7 @@ use Rattle.catalog.specs.declared.card.Credit.{Credit}
 use Rattle.catalog.specs.declared.card.Credit.TheVariants.{Good, Bad}
 use Rattle.requests.specs.declared.request.Payment.{Payment}
 use Rattle.tpcc_rows.specs.Limits.{IsBetween, IsCents, between, cents_of}
-use Rattle.tpcc_rows.specs.Texts.{ArePrintable, IsPrintable, IsText, clip}
+use Rattle.tpcc_rows.specs.Texts.{ArePrintable, IsPrintable, IsText}
 use Rattle.tpcc_rows.specs.Rows.{warehouse_row, district_row, customer_row}
 use Rattle.tpcc_rows.specs.declared.key.RowKey.TheVariants as key
 use Rattle.tpcc_rows.specs.declared.row.Row.{Row}
@@ -18,13 +18,12 @@ use Rattle.tpcc_rows.specs.declared.row.Row.TheVariants as row
 use Rattle.tpcc_rows.specs.declared.row.WarehouseRow.{WarehouseRow}
 use Rattle.tpcc_rows.specs.declared.row.DistrictRow.{DistrictRow}
 use Rattle.tpcc_rows.specs.declared.row.CustomerRow.{CustomerRow}
-use Rattle.tpcc_rows.specs.declared.row.HistoryRow.{HistoryRow}
 use Rattle.tpcc_rows.specs.RowKinds.{as_warehouse, as_district, as_customer}
 use Rattle.tpcc_rows.proofs.Clips.{clip-is, decimal_printable}
 use Rattle.tpcc_model.specs.Database.{Database}
 use Rattle.tpcc_model.specs.Payments.{Paid, chosen_customer, field, found_cards, found_rows, history_of, paid_customer, paid_data, paid_district, paid_rows, paid_warehouse, payment, payment_note}
-use Rattle.tpcc_model.specs.Soundness.{IsCustomerRow, IsEntry, IsHistory, IsSound}
-use Rattle.tpcc_model.specs.Staging.{◌>>=◌, known, within}
+use Rattle.tpcc_model.specs.Soundness.{IsCustomerRow, IsHistory, IsSound}
+use Rattle.tpcc_model.specs.Staging.{known, within}
 use Rattle.transactions.specs.Requests.{IsPayment}
 use Rattle.transactions.proofs.CardFacts.{warehouse-limits, district-limits, customer-limits}
 use Rattle.transactions.proofs.Doing.{ok-by, ok_or-ok, is_there, cents-some, between-some}

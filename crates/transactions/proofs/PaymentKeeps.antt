@@ -1,5 +1,5 @@
 -- A payment keeps a database sound.
-use Rattle.std.proofs.Common.{◌≡◌, ◌⊎◌, ◌≤◌, ℕ, ℤ, pos, ◌+ℤ◌, ◌==◌, Bool, true, false, cond, Option, Some, None, Ok, IfSome, inl, inr, refl, sym, ap, subst, ◌∙◌, arith}
+use Rattle.std.proofs.Common.{◌≡◌, ◌⊎◌, ℕ, ℤ, pos, ◌+ℤ◌, ◌==◌, Bool, true, false, cond, Option, Some, Ok, inl, inr, refl, sym, ap, subst, ◌∙◌, arith}
 use Rattle.std.proofs.lemmas.Int.{ints}
 use Rattle.std.specs.Option.{option_and_then}
 use Rattle.std.specs.Ordering.{eq_by_cmp, nat_cmp}
@@ -10,7 +10,7 @@ use Rattle.tpcc_rows.specs.Changing.{after}
 use Rattle.tpcc_rows.specs.RowKinds.{as_warehouse}
 use Rattle.tpcc_rows.specs.RowMap.{Rows}
 use Rattle.tpcc_rows.specs.Rows.{warehouse_row}
-use Rattle.tpcc_rows.specs.Totals.{total, share_at}
+use Rattle.tpcc_rows.specs.Totals.{total}
 use Rattle.tpcc_rows.specs.declared.key.RowKey.{RowKey}
 use Rattle.tpcc_rows.specs.declared.key.RowKey.TheVariants as key
 use Rattle.tpcc_rows.specs.declared.row.Row.{Row}

@@ -5,5 +5,4 @@ ghost use Rattle.transactions.specs.Laws.{StepKeeps};
 /// history is that of before and at most one row more, at the request's number.
 pub fn keeps()
     ensures { StepKeeps }
-{
-}
+{}

@@ -12,7 +12,10 @@ fn a_byte_a_call(rt: HostRuntime) -> Result<(), Fail> {
     let mut image = BytesSource::new(IMAGE, 1);
     let mut batches = BytesSource::new(PAYMENTS, 1);
     let mut sink = BytesSink::new(rt.alloc(), 1);
-    assert_eq!(rt; run_text(rt.alloc(), &mut image, &mut batches, &mut sink)?, 1);
+    assert_eq!(rt;
+        run_text(rt.alloc(), &mut image, &mut batches, &mut sink)?,
+        1
+    );
     assert_eq!(rt; sink.bytes.as_slice(), REPLIES);
     Ok(())
 }

@@ -8,16 +8,46 @@ use std::test::Fail;
 #[test]
 fn lines(rt: HostRuntime) -> Result<(), Fail> {
     let cases: [(RunFault, &[u8]); 12] = [
-        (RunFault::Load(LoadError::BadRecord(15)), b"eve-tpcc: image: 1 BadRecord at record 15\n"),
-        (RunFault::Load(LoadError::Duplicate(3)), b"eve-tpcc: image: 2 Duplicate at record 3\n"),
-        (RunFault::Load(LoadError::MissingParent), b"eve-tpcc: image: 3 MissingParent\n"),
-        (RunFault::Load(LoadError::Inconsistent(1)), b"eve-tpcc: image: 4 Inconsistent(1)\n"),
-        (RunFault::Load(LoadError::Truncated), b"eve-tpcc: image: 8 Truncated\n"),
-        (RunFault::Read(ReadError::OutOfRange(2)), b"eve-tpcc: batches: 3 OutOfRange at record 2\n"),
-        (RunFault::Read(ReadError::Read), b"eve-tpcc: batches: 7 Read\n"),
-        (RunFault::Read(ReadError::InputTooLong), b"eve-tpcc: batches: 8 InputTooLong\n"),
-        (RunFault::Exec(BatchRefusal::Memory), b"eve-tpcc: run: 1 Memory\n"),
-        (RunFault::Exec(BatchRefusal::NumbersExhausted), b"eve-tpcc: run: 5 NumbersExhausted\n"),
+        (
+            RunFault::Load(LoadError::BadRecord(15)),
+            b"eve-tpcc: image: 1 BadRecord at record 15\n",
+        ),
+        (
+            RunFault::Load(LoadError::Duplicate(3)),
+            b"eve-tpcc: image: 2 Duplicate at record 3\n",
+        ),
+        (
+            RunFault::Load(LoadError::MissingParent),
+            b"eve-tpcc: image: 3 MissingParent\n",
+        ),
+        (
+            RunFault::Load(LoadError::Inconsistent(1)),
+            b"eve-tpcc: image: 4 Inconsistent(1)\n",
+        ),
+        (
+            RunFault::Load(LoadError::Truncated),
+            b"eve-tpcc: image: 8 Truncated\n",
+        ),
+        (
+            RunFault::Read(ReadError::OutOfRange(2)),
+            b"eve-tpcc: batches: 3 OutOfRange at record 2\n",
+        ),
+        (
+            RunFault::Read(ReadError::Read),
+            b"eve-tpcc: batches: 7 Read\n",
+        ),
+        (
+            RunFault::Read(ReadError::InputTooLong),
+            b"eve-tpcc: batches: 8 InputTooLong\n",
+        ),
+        (
+            RunFault::Exec(BatchRefusal::Memory),
+            b"eve-tpcc: run: 1 Memory\n",
+        ),
+        (
+            RunFault::Exec(BatchRefusal::NumbersExhausted),
+            b"eve-tpcc: run: 5 NumbersExhausted\n",
+        ),
         (RunFault::Write, b"eve-tpcc: output: 1 Write\n"),
         (RunFault::Memory, b"eve-tpcc: output: 2 Memory\n"),
     ];

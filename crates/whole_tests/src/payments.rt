@@ -35,7 +35,8 @@ fn no_batches(rt: HostRuntime) -> Result<(), Fail> {
 
 #[test]
 fn numbers_go_on_from_batch_to_batch(rt: HostRuntime) -> Result<(), Fail> {
-    let batches: &[u8] = b"B,7,commit,1\nP,1,1,1,1,I,1,1000\nB,8,rerun,2\nP,1,1,1,1,I,1,100\nP,9,1,1,1,I,1,100\n";
+    let batches: &[u8] =
+        b"B,7,commit,1\nP,1,1,1,1,I,1,1000\nB,8,rerun,2\nP,1,1,1,1,I,1,100\nP,9,1,1,1,I,1,100\n";
     let (answer, text) = run(rt.alloc(), IMAGE, batches);
     assert_eq!(rt; answer?, 2);
     let wanted: &[u8] =
@@ -63,7 +64,10 @@ E,12
 ";
     let (answer, text) = run(rt.alloc(), image, b"B,0,commit,1\nP,1,2,1,1,I,1,100\n");
     assert_eq!(rt; answer?, 1);
-    assert_eq!(rt; text.as_slice(), b"1,payment,refused,3,Limit reached\n".as_slice());
+    assert_eq!(rt;
+        text.as_slice(),
+        b"1,payment,refused,3,Limit reached\n".as_slice()
+    );
     Ok(())
 }
 

@@ -1,11 +1,11 @@
-use Rattle.std.proofs.Common.{rules, ◌≡◌, ◌∙◌, ◌+◌, ◌∷◌, ◌++◌, [], ℕ, length, refl, arith, length-append, sym, ap, ap₂, subst}
+use Rattle.std.proofs.Common.{rules, ◌≡◌, ◌∙◌, ◌+◌, ◌∷◌, ◌++◌, [], ℕ, arith, length-append, sym, ap, ap₂, subst}
 use Rattle.std.specs.Io.KnownBytes.{Appends}
 use Rattle.requests.specs.Batches.{StopsBy, batches, clean}
-use Rattle.runner.specs.Runs.{LeavesBatch, Left, NumbersFit}
+use Rattle.runner.specs.Runs.{LeavesBatch, NumbersFit}
 use Rattle.runner.specs.Text.{batch_text, text}
 use Rattle.runner.proofs.RunLemmas.{all_read, fit-more, left_in_batch, next_in, reading-more, serial-more, stops_by_records, text-more, text_of_all, then_kept}
 use Rattle.runner.proofs.engine.run_batches.Goals as goal
-use Rattle.tpcc_model.specs.Serial.{State, after_batch, opening, serial}
+use Rattle.tpcc_model.specs.Serial.{State, after_batch, opening}
 use Rattle.tpcc_rows.specs.RowMap.{Rows}
 
 pub returns-in-Err-serve_batch-clause-err : goal.returns-in-Err-serve_batch-clause-err
@@ -26,7 +26,7 @@ batches-preserved g c =
     let low = range.0 in
     let failed = c.in_default.ensures.failures in
     let after : after_batch c.args.catalog.now (record { rows = c.batches.store; next = c.batches.next }) batch ≡ record { rows = c.serve_batch.new.store; next = c.batches.next + c.len.result } =
-        ap₂ (λ (r : Rows) (n : ℕ). let s : State = record { rows = r; next = n } in s) (sym c.in_default.ensures.rows) (ap (λ n. c.batches.next + n) (sym size)) in (
+    ap₂ (λ (r : Rows) (n : ℕ). let s : State = record { rows = r; next = n } in s) (sym c.in_default.ensures.rows) (ap (λ n. c.batches.next + n) (sym size)) in (
       search rules,
       (omega (arith, low), omega (arith, fits, size)),
       done ++ batch ∷ [],

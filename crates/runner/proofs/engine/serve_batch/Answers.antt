@@ -1,4 +1,4 @@
-use Rattle.std.proofs.Common.{arith, ◌≡◌, ◌≤◌, length, sym, ap, ◌∙◌}
+use Rattle.std.proofs.Common.{arith, length, ap, ◌∙◌}
 use Rattle.serializability.proofs.Folding.{length-fold_replies}
 use Rattle.tpcc_model.specs.Steps.{steps_at}
 use Rattle.runner.proofs.engine.serve_batch.Goals as goal

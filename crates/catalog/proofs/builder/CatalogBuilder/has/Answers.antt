@@ -1,6 +1,5 @@
 use Rattle.std.proofs.Common.{sym, ap, ◌∙◌}
 use Rattle.std.specs.Prelude.{is_some}
-use Rattle.std.specs.Option.{option_copied}
 use Rattle.std.specs.FinMap as map
 use Rattle.catalog.proofs.CardKeys.{card_key_cmp_total, exact_cards}
 use Rattle.catalog.proofs.Keyed.{some-copied}

@@ -9,9 +9,10 @@ use Rattle.catalog.proofs.cards.Catalog.new.Goals as goal
 pub loop-card-preserved : goal.loop-card-preserved
 loop-card-preserved c =
     let (so_far, whole) = c.loop-card.invariant in
-    let fresh = subst (λ (m : Cards). map.get m (card_key c.in-Some.card) ≡ None) so_far c.in_default.ensures.fresh in
-    (c.in_default.ensures.ok ∙ ap (λ (m : Cards). map.insert m (card_key c.in-Some.card) c.in-Some.card) so_far ∙ sym (cards_of-more c.loop-card.yielded c.in-Some.card fresh),
-    whole ∙ ap (λ (t : List Card). c.loop-card.yielded ++ t) c.in-Some.ensures.steps.0 ∙ sym (append_assoc c.loop-card.yielded (c.in-Some.card ∷ []) c.next.new.self.rest.items))
+    let fresh = subst (λ (m : Cards). map.get m (card_key c.in-Some.card) ≡ None) so_far c.in_default.ensures.fresh in (
+      c.in_default.ensures.ok ∙ ap (λ (m : Cards). map.insert m (card_key c.in-Some.card) c.in-Some.card) so_far ∙ sym (cards_of-more c.loop-card.yielded c.in-Some.card fresh),
+      whole ∙ ap (λ (t : List Card). c.loop-card.yielded ++ t) c.in-Some.ensures.steps.0 ∙ sym (append_assoc c.loop-card.yielded (c.in-Some.card ∷ []) c.next.new.self.rest.items),
+    )
 
 pub returns-in-Err-clause-twice : goal.returns-in-Err-clause-twice
 returns-in-Err-clause-twice c =

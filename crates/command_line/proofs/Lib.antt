@@ -1,0 +1,4 @@
+pub mod FaultLemmas
+pub mod LineLemmas
+pub mod SubcommandLemmas
+pub mod ValueLemmas

@@ -1,0 +1,77 @@
+//! The line that the words of the command line are, and why they are none.
+ghost use Rattle.std.specs.Prelude.{◌≡◌, [], IfErr, IfOk, IsSomeAnd, OnOk, map, string_bytes};
+ghost use Rattle.clap.specs.Words.{fault_of, kind_of, subcommand_of};
+ghost use Rattle.command_line.specs.declared.line.LineFault.TheVariants.{Memory};
+ghost use Rattle.command_line.specs.CommandLine.{IsFaultOf, IsLineOf, fault_by, program_app};
+ghost use Rattle.command_line.specs.CommandLine.{status_of};
+
+use crate::matches::{line_in, matches_of};
+use clap::Error;
+use clap::error::ErrorKind;
+use std::alloc::{AllocError, Global};
+
+/// What the program is asked to do.
+#[derive(Debug, Drop)]
+pub enum Line {
+    /// To execute the batches of one file on the database whose image another holds.
+    Run {
+        /// The path of the image.
+        image: String,
+        /// The path of the batches.
+        batches: String,
+    },
+}
+
+/// Why the words are no line.
+#[derive(Debug, Drop)]
+pub enum LineFault {
+    /// The words are refused, or ask for help. The error prints its own text.
+    Refused(Error),
+    /// Memory ran out.
+    Memory,
+}
+
+impl From<AllocError> for LineFault {
+    ghost from_gives = { λ _ fault. fault ≡ Memory };
+
+    fn from(_error: AllocError) -> LineFault {
+        LineFault::Memory
+    }
+}
+
+impl From<Error> for LineFault {
+    ghost from_gives = { λ error fault. fault ≡ fault_by (kind_of error) error };
+
+    fn from(error: Error) -> LineFault {
+        match error.kind() {
+            ErrorKind::OutOfMemory => LineFault::Memory,
+            _ => LineFault::Refused(error),
+        }
+    }
+}
+
+/// The line that the words are, the program's name first. When memory runs out is left open, so
+/// `Memory` may come for any words.
+pub fn line_of(alloc: Global, words: Vec<String>) -> Result<Line, LineFault>
+    ensures line { IfOk result (λ line.
+        IsSomeAnd (subcommand_of program_app (map string_bytes words.items)) (IsLineOf line)) }
+    ensures accepted { OnOk result (fault_of program_app (map string_bytes words.items) ≡ []) }
+    ensures refused { IfErr result (IsFaultOf (fault_of program_app
+        (map string_bytes words.items))) }
+{
+    let matches = matches_of(alloc, words.as_slice())?;
+    Ok(line_in(alloc, &matches)?)
+}
+
+/// The status that the program ends with: 0 for a request for help, else 2.
+pub fn line_status(fault: &LineFault) -> u8
+    ensures { result ≡ status_of fault.now }
+{
+    match fault {
+        LineFault::Refused(error) => match error.kind() {
+            ErrorKind::DisplayHelp => 0,
+            _ => 2,
+        },
+        LineFault::Memory => 2,
+    }
+}

@@ -1,0 +1,108 @@
+//! What no clause says: words that are a line, words that are none, and the texts of help.
+
+use crate::{Line, LineFault, line_of, line_status};
+use clap::error::ErrorKind;
+use std::alloc::Global;
+use std::test::Fail;
+
+// A line's words, the program's name first.
+fn words(alloc: Global, line: &str) -> Result<Vec<String>, Fail> {
+    let mut words = Vec::new(alloc);
+    for word in line.split(' ') {
+        words.push(String::from_str(alloc, word)?)?;
+    }
+    Ok(words)
+}
+
+// The error at which a line is refused, with the status.
+fn refusal(alloc: Global, line: &str) -> Result<(clap::Error, u8), Fail> {
+    let Err(fault) = line_of(alloc, words(alloc, line)?) else {
+        return Err(Fail::new("the words are taken"));
+    };
+    let status = line_status(&fault);
+    match fault {
+        LineFault::Refused(error) => Ok((error, status)),
+        LineFault::Memory => Err(Fail::new("memory ran out")),
+    }
+}
+
+#[test]
+fn takes_a_run(rt: HostRuntime) -> Result<(), Fail> {
+    let words = words(rt.alloc(), "eve-tpcc run image.csv batches.csv")?;
+    let Line::Run { image, batches } = line_of(rt.alloc(), words)?;
+    assert_eq!(rt; image.as_str(), "image.csv");
+    assert_eq!(rt; batches.as_str(), "batches.csv");
+    Ok(())
+}
+
+#[test]
+fn refuses_other_words(rt: HostRuntime) -> Result<(), Fail> {
+    let cases = [
+        ("eve-tpcc", ErrorKind::MissingSubcommand),
+        ("eve-tpcc walk", ErrorKind::InvalidSubcommand),
+        ("eve-tpcc --version", ErrorKind::UnknownArgument),
+        ("eve-tpcc run", ErrorKind::MissingRequiredArgument),
+        ("eve-tpcc run a", ErrorKind::MissingRequiredArgument),
+        ("eve-tpcc run a b c", ErrorKind::UnknownArgument),
+        ("eve-tpcc run a b --workers 2", ErrorKind::UnknownArgument),
+    ];
+    for (line, kind) in cases {
+        let (error, status) = refusal(rt.alloc(), line)?;
+        assert_eq!(rt; error.kind(), kind, "at {line}");
+        assert_eq!(rt; status, 2, "at {line}");
+        assert!(rt; error.use_stderr(), "at {line}");
+    }
+    Ok(())
+}
+
+#[test]
+fn helps(rt: HostRuntime) -> Result<(), Fail> {
+    for line in [
+        "eve-tpcc --help",
+        "eve-tpcc -h",
+        "eve-tpcc help",
+        "eve-tpcc help run",
+        "eve-tpcc run --help",
+        "eve-tpcc run a -h",
+    ] {
+        let (error, status) = refusal(rt.alloc(), line)?;
+        assert_eq!(rt; status, 0, "at {line}");
+        assert!(rt; !error.use_stderr(), "at {line}");
+    }
+    Ok(())
+}
+
+const RUN_HELP: &str = "\
+Executes the batches of a file on the database of an image
+
+Usage: eve-tpcc run <IMAGE> <BATCHES>
+
+Arguments:
+  <IMAGE>    The file of the database's image
+  <BATCHES>  The file of the batches
+
+Options:
+  -h, --help  Print help
+";
+
+const NO_BATCHES: &str = "\
+error: the following required arguments were not provided:
+  <BATCHES>
+
+Usage: eve-tpcc run <IMAGE> <BATCHES>
+
+For more information, try '--help'.
+";
+
+#[test]
+fn names_the_program_whatever_it_was_started_as(rt: HostRuntime) -> Result<(), Fail> {
+    for (line, text) in [
+        ("out/eve_tpcc run --help", RUN_HELP),
+        ("out/eve_tpcc run a", NO_BATCHES),
+    ] {
+        let (error, _) = refusal(rt.alloc(), line)?;
+        let printed = format!(in rt.alloc(); "{error}")?;
+        assert_eq!(rt; printed.as_str(), text);
+    }
+    Ok(())
+}

@@ -1,0 +1,57 @@
+-- The faults that a text can have.
+use Rattle.std.proofs.Common.{◌≡◌, ◌⊎◌, ◌+◌, ◌∙◌, ℕ, List, [], ◌∷◌, Bool, true, false, cond, Result, Ok, Err, refl, sym, subst, inl, inr}
+use Rattle.std.proofs.lemmas.Bool.{cases_Bool}
+use Rattle.requests.specs.Fields.{Fields}
+use Rattle.requests.specs.Records.{records_in}
+use Rattle.requests.specs.declared.fault.Slip.{Slip}
+use Rattle.requests.specs.declared.fault.Slip.TheVariants as slip
+use Rattle.tpcc_model.specs.Database.{Database}
+use Rattle.loader.specs.Checks.{checked, next_orders_agree, parents_there, ytds_agree}
+use Rattle.loader.specs.Faults.{IsOfText, StopsBy, fault_of}
+use Rattle.loader.specs.Image.{counts, ended, image, is_end, is_first, placed, read_all, read_from, tested}
+use Rattle.loader.specs.ImageRecords.{record_at}
+use Rattle.loader.specs.Tables.{is_taken, no_tables, with_record}
+use Rattle.loader.specs.declared.fault.LoadError.{LoadError}
+use Rattle.loader.specs.declared.fault.LoadError.TheVariants as err
+use Rattle.loader.specs.declared.image_record.ImageRecord.{ImageRecord}
+
+-- an answer whose error, if it is one, is of this kind
+abbrev Faults : Result Database LoadError → Type 0
+Faults (Ok db) = Unit {0}
+Faults (Err e) = IsOfText e
+
+either : (b : Bool) (x y : Result Database LoadError) → Faults x → Faults y → Faults (cond b x y)
+either true x y p q = p
+either false x y p q = q
+
+of_slip : (n : ℕ) (s : Slip) → IsOfText (fault_of n s)
+of_slip n slip.BadField = tt
+of_slip n slip.WrongCount = tt
+of_slip n slip.OutOfRange = tt
+of_slip n slip.UnknownKind = tt
+of_slip n slip.BatchTooLong = tt
+
+placed-faults : (n : ℕ) (db : Database) (o : Result ImageRecord Slip) (rest : Database → Result Database LoadError) → ((d : Database) → Faults (rest d)) → Faults (placed n db o rest)
+placed-faults n db (Err s) rest more = of_slip n s
+placed-faults n db (Ok said) rest more = either (is_taken db said) (Err (err.Duplicate n)) (rest (with_record db said)) tt (more (with_record db said))
+
+ended-faults : (rs : List Fields) (n : ℕ) (db : Database) → Faults (ended rs n db)
+ended-faults [] n db = tt
+ended-faults (r ∷ rs) n db = tt
+
+read_from-faults : (rs : List Fields) (n : ℕ) (db : Database) → Faults (read_from rs n db)
+unfolding read_from
+read_from-faults [] n db = tt
+read_from-faults (r ∷ rs) n db = either (is_end r) _ _
+    (either (counts n r) (ended rs (n + 1) db) (Err (err.BadRecord n)) (ended-faults rs (n + 1) db) tt)
+    (placed-faults n db (record_at r) (read_from rs (n + 1)) (read_from-faults rs (n + 1)))
+
+read_all-faults : (rs : List Fields) → Faults (read_all rs)
+unfolding read_all
+read_all-faults [] = tt
+read_all-faults (r ∷ rs) = either (is_first r) _ _ (read_from-faults rs 2 no_tables) tt
+
+-- what stops the records of a text is no fault of its source
+pub stops-of_records : (e : LoadError) (bytes : List ℕ) → StopsBy e (read_all (records_in bytes)) → IsOfText e
+stops-of_records e bytes (inl memory) = subst IsOfText (sym memory) tt
+stops-of_records e bytes (inr fault) = subst Faults fault (read_all-faults (records_in bytes))

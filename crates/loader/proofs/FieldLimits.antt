@@ -1,0 +1,82 @@
+-- What is read from a field is within its limits.
+use Rattle.std.proofs.Common.{◌≡◌, ◌≤◌, ◌≤ℤ◌, ◌-ℤ◌, ℕ, ℤ, pos, negsuc, List, [], ◌∷◌, ◌&&◌, Bool, true, false, cond, Option, Some, None, Result, Ok, Err, refl, subst, arith, inl, inr}
+use Rattle.std.specs.Prelude.{IfOk, length, nat_le, ◌==◌, codes}
+use Rattle.std.specs.List.{list_all}
+use Rattle.std.specs.Option.{ok_or}
+use Rattle.std.specs.Str.{bytes_eq}
+use Rattle.std.specs.Str.Parse.{digits_value}
+use Rattle.std.proofs.lemmas.Int.{ints}
+use Rattle.std.proofs.lemmas.Bool.{cases_Bool}
+use Rattle.std.proofs.lemmas.List.Elements.{All-cons, All-nil}
+use Rattle.std.proofs.lemmas.Bool.Decides.{nat_tests}
+use Rattle.csv.specs.Records.{field_at}
+use Rattle.requests.specs.Fields.{◌>>=◌, Fields, below_zero, in_range, is_numeral, number_at, number_in, said_by, signed_at, signed_in, text_at, text_in}
+use Rattle.requests.specs.declared.fault.Slip.{Slip}
+use Rattle.requests.specs.declared.fault.Slip.TheVariants as slip
+use Rattle.tpcc_rows.specs.Limits.{IsBetween, IsCents}
+use Rattle.tpcc_rows.specs.Texts.{ArePrintable, IsPrintable, IsText, is_printable, is_text}
+use Rattle.tpcc_rows.proofs.Singles.{and-left, and-right}
+
+-- a field, and what is made of it
+pub then-gives : {A B : Type 0} (P : A → Type 0) (Q : B → Type 0) (r : Result A Slip) (f : A → Result B Slip) → IfOk r P → ((a : A) → P a → IfOk (f a) Q) → IfOk (r >>= f) Q
+then-gives P Q (Ok a) f h more = more a h
+then-gives P Q (Err e) f h more = tt
+
+-- a field with no limits
+pub any-gives : {A B : Type 0} (Q : B → Type 0) (r : Result A Slip) (f : A → Result B Slip) → ((a : A) → IfOk (f a) Q) → IfOk (r >>= f) Q
+any-gives Q (Ok a) f more = more a
+any-gives Q (Err e) f more = tt
+
+test-gives : {A : Type 0} (P : A → Type 0) (b : Bool) (r : Result A Slip) (e : Slip) → (b ≡ true → IfOk r P) → IfOk (cond b r (Err e)) P
+test-gives P true r e h = h refl
+test-gives P false r e h = tt
+
+number_in-within : (low high : ℕ) (bytes : List ℕ) → IfOk (number_in low high bytes) (IsBetween low high)
+number_in-within low high bytes = test-gives (IsBetween low high) (is_numeral bytes) (in_range low high (digits_value 10 bytes)) slip.BadField (λ _.
+    test-gives (IsBetween low high) (nat_le low (digits_value 10 bytes) && nat_le (digits_value 10 bytes) high) (Ok (digits_value 10 bytes)) slip.OutOfRange (λ test.
+    let above = and-left (nat_le low (digits_value 10 bytes)) (nat_le (digits_value 10 bytes) high) test in
+    let below = and-right (nat_le low (digits_value 10 bytes)) (nat_le (digits_value 10 bytes) high) test in
+    (grind (arith, nat_tests), grind (arith, nat_tests))))
+
+-- the field at a place
+said_by-within : {A : Type 0} (P : A → Type 0) (says : List ℕ → Result A Slip) → ((bytes : List ℕ) → IfOk (says bytes) P) → (field : Option (List ℕ)) → IfOk (said_by says field) P
+said_by-within P says all None = tt
+said_by-within P says all (Some bytes) = all bytes
+
+pub number_at-within : (fields : Fields) (i low high : ℕ) → IfOk (number_at fields i low high) (IsBetween low high)
+number_at-within fields i low high = said_by-within (IsBetween low high) (number_in low high) (number_in-within low high) (field_at fields i)
+
+below_zero-within : (digits : List ℕ) → IfOk (below_zero 1000000000000000 digits) IsCents
+below_zero-within digits = elim (cases_Bool (bytes_eq digits (codes "0"))) [
+  | inl zero ↦ rw zero tt
+  | inr other ↦ rw other (then-gives (IsBetween 0 1000000000000000) IsCents (number_in 0 1000000000000000 digits) (λ n. Ok (pos 0 -ℤ pos n)) (number_in-within 0 1000000000000000 digits) (λ n h. let most = h.1 in (omega (arith, ints, most), omega (arith, ints, most))))
+]
+
+cents_in-within : (bytes : List ℕ) → IfOk (signed_in 1000000000000000 bytes) IsCents
+cents_in-within [] = tt
+cents_in-within (b ∷ bytes) = elim (cases_Bool (b == 45)) [
+  | inl sign ↦ rw sign (below_zero-within bytes)
+  | inr other ↦ rw other (then-gives (IsBetween 0 1000000000000000) IsCents (number_in 0 1000000000000000 (b ∷ bytes)) (λ n. Ok (pos n)) (number_in-within 0 1000000000000000 (b ∷ bytes)) (λ n h. let most = h.1 in (omega (arith, ints, most), omega (arith, ints, most))))
+]
+
+pub cents_at-within : (fields : Fields) (i : ℕ) → IfOk (signed_at fields i 1000000000000000) IsCents
+cents_at-within fields i = said_by-within IsCents (signed_in 1000000000000000) cents_in-within (field_at fields i)
+
+printable-all : (xs : List ℕ) → list_all is_printable xs ≡ true → ArePrintable xs
+printable-all [] h = All-nil IsPrintable
+printable-all (x ∷ xs) h =
+    let here = and-left (is_printable x) (list_all is_printable xs) h in
+    let low = and-left (nat_le 32 x) (nat_le x 126) here in
+    let high = and-right (nat_le 32 x) (nat_le x 126) here in
+    All-cons IsPrintable x xs (grind (arith, nat_tests), grind (arith, nat_tests)) (printable-all xs (and-right (is_printable x) (list_all is_printable xs) h))
+
+text_in-within : (most : ℕ) (bytes : List ℕ) → IfOk (text_in most bytes) (IsText most)
+text_in-within most bytes = elim (cases_Bool (is_text most bytes)) [
+  | inl good ↦
+      let short = and-left (nat_le (length bytes) most) (list_all is_printable bytes) good in
+      rw good (record { fits = grind (arith, nat_tests); printable = printable-all bytes (and-right (nat_le (length bytes) most) (list_all is_printable bytes) good) })
+  | inr bad ↦ rw bad tt
+]
+
+pub text_at-within : (fields : Fields) (i most : ℕ) → IfOk (text_at fields i most) (IsText most)
+text_at-within fields i most = said_by-within (IsText most) (text_in most) (text_in-within most) (field_at fields i)

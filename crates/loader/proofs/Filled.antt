@@ -1,0 +1,149 @@
+-- Tables as they are filled: each value is within its limits, and a row that goes with a card is there with it.
+use Rattle.std.proofs.Common.{◌≡◌, ◌⊎◌, ◌∙◌, ℕ, Option, Some, None, IsSome, refl, sym, ap, subst, inl, inr}
+use Rattle.std.specs.Cmp.{IsTotalOrder}
+use Rattle.std.specs.FinMap.{FinMap, IsAntisymmetric, get, get-empty, insert}
+use Rattle.std.specs.declared.cmp.Ordering.{Ordering}
+use Rattle.catalog.specs.CardKinds.{card_key as own_key}
+use Rattle.catalog.specs.CardMap.{AreKeyed, Cards, card_key_cmp}
+use Rattle.catalog.specs.declared.card.Card.{Card}
+use Rattle.catalog.specs.declared.card.Card.TheVariants as card
+use Rattle.catalog.specs.declared.card.CardKey.{CardKey}
+use Rattle.catalog.specs.declared.card.CardKey.TheVariants as card_key
+use Rattle.catalog.proofs.CardKeys.{card_key_cmp_total, exact_cards}
+use Rattle.catalog.proofs.Keyed.{keyed-insert}
+use Rattle.tpcc_model.specs.Database.{Database}
+use Rattle.tpcc_model.specs.Soundness.{IsCard, IsCustomerRow}
+use Rattle.tpcc_rows.specs.Limits.{IsBetween, IsCents}
+use Rattle.tpcc_rows.specs.Texts.{IsText}
+use Rattle.tpcc_rows.specs.RowMap.{Rows, row_key_cmp}
+use Rattle.tpcc_rows.specs.declared.key.RowKey.{RowKey}
+use Rattle.tpcc_rows.specs.declared.key.RowKey.TheVariants as key
+use Rattle.tpcc_rows.specs.declared.row.HistoryRow.{HistoryRow}
+use Rattle.tpcc_rows.specs.declared.row.Row.{Row}
+use Rattle.tpcc_rows.specs.declared.row.Row.TheVariants as row
+use Rattle.tpcc_rows.proofs.Keys.{exact_keys, row_key_cmp_total}
+use Rattle.tpcc_rows.proofs.Singles.{apart, entry_of, here, same_key}
+use Rattle.loader.specs.Tables.{no_tables, with_record}
+use Rattle.loader.specs.declared.image_record.ImageRecord.{ImageRecord}
+use Rattle.loader.specs.declared.image_record.ImageRecord.TheVariants as said
+
+-- the key of the card that a row goes with
+abbrev pub card_key_of : RowKey → Option CardKey
+card_key_of (key.Warehouse w) = Some (card_key.Warehouse w)
+card_key_of (key.District w d) = Some (card_key.District w d)
+card_key_of (key.Customer w d c) = Some (card_key.Customer w d c)
+card_key_of (key.Stock w i) = Some (card_key.Stock w i)
+card_key_of (key.Order w d o) = None
+card_key_of (key.NewOrder w d o) = None
+card_key_of (key.OrderLine w d o n) = None
+card_key_of (key.History n) = None
+
+-- the key of the row that a card goes with
+abbrev pub row_key_of : CardKey → Option RowKey
+row_key_of (card_key.Warehouse w) = Some (key.Warehouse w)
+row_key_of (card_key.District w d) = Some (key.District w d)
+row_key_of (card_key.Customer w d c) = Some (key.Customer w d c)
+row_key_of (card_key.Stock w i) = Some (key.Stock w i)
+row_key_of (card_key.Item i) = None
+
+pub record IsHistoryRow (n : ℕ) (r : HistoryRow) : Type 0 where
+  pub number : IsBetween 1 999999999999999 n
+  pub date : IsBetween 0 999999999999 r.date
+  pub amount : IsBetween 0 999999 r.amount
+  pub text : IsText 24 r.data
+
+-- the row is of its key's kind, one of those that images have, and within its limits
+abbrev pub IsLimited : RowKey → Row → Type 0
+IsLimited (key.Warehouse w) (row.Warehouse r) = IsCents r.ytd
+IsLimited (key.District w d) (row.District r) = IsCents r.ytd × IsBetween 1 9999999 r.next_order
+IsLimited (key.Customer w d c) (row.Customer r) = IsCustomerRow r
+IsLimited (key.History n) (row.History r) = IsHistoryRow n r
+IsLimited _ _ = ⊥
+
+pub record IsFilled (db : Database) : Type 0 where
+  pub keyed : AreKeyed db.cards
+  pub limits : (q : CardKey) (c : Card) → get db.cards q ≡ Some c → IsCard c
+  pub there : (k : RowKey) (q : CardKey) → row_key_of q ≡ Some k → IsSome (get db.cards q) → IsSome (get db.rows k)
+  pub owned : (k : RowKey) (q : CardKey) (x : Row) → card_key_of k ≡ Some q → get db.rows k ≡ Some x → IsSome (get db.cards q)
+  pub entries : (k : RowKey) (x : Row) → get db.rows k ≡ Some x → IsLimited k x
+
+-- what a record says is within its limits
+abbrev pub IsRead : ImageRecord → Type 0
+IsRead (said.Warehouse c r) = IsCard (card.Warehouse c) × IsCents r.ytd
+IsRead (said.District c r) = IsCard (card.District c) × IsCents r.ytd × IsBetween 1 9999999 r.next_order
+IsRead (said.Customer c r) = IsCard (card.Customer c) × IsCustomerRow r
+IsRead (said.History n r) = IsHistoryRow n r
+
+pub filled-none : IsFilled no_tables
+filled-none = record {
+  keyed = λ q c there. let no : None ≡ Some c = sym (get-empty card_key_cmp q) ∙ there in cc;
+  limits = λ q c there. let no : None ≡ Some c = sym (get-empty card_key_cmp q) ∙ there in let bad : ⊥ = cc in absurd bad;
+  there = λ k q e some. let no : IsSome {T = Card} None = subst IsSome (get-empty card_key_cmp q) some in let bad : ⊥ = cc in absurd bad;
+  owned = λ k q x e there. let no : None ≡ Some x = sym (get-empty row_key_cmp k) ∙ there in let bad : ⊥ = cc in absurd bad;
+  entries = λ k x there. let no : None ≡ Some x = sym (get-empty row_key_cmp k) ∙ there in let bad : ⊥ = cc in absurd bad;
+}
+
+-- one entry more
+module _ {K X : Type 0} {R : K → K → Ordering} (total : IsTotalOrder R) (exact : IsAntisymmetric R) (m : FinMap R X) (k : K) (x : X) where
+  some-here : IsSome (get (insert m k x) k)
+  some-here = subst IsSome (sym (here total exact m k x)) refl
+
+  some-insert : (q : K) → IsSome (get m q) → IsSome (get (insert m k x) q)
+  some-insert q some = elim (same_key total exact q k) [
+    | inl e ↦ subst (λ z. IsSome (get (insert m k x) z)) (sym e) some-here
+    | inr n ↦ subst IsSome (sym (apart total exact m k x q n)) some
+  ]
+
+-- a card more, with its row
+module _ (db : Database) (q : CardKey) (c : Card) (k : RowKey) (x : Row) (filled : IsFilled db) where
+  filled-both : row_key_of q ≡ Some k → card_key_of k ≡ Some q → own_key c ≡ q → IsCard c → IsLimited k x → IsFilled (record { cards = insert db.cards q c; rows = insert db.rows k x })
+  filled-both row_is card_is own limited row_limited = record {
+    keyed = keyed-insert db.cards q c own filled.keyed;
+    limits = λ p b there. elim (entry_of card_key_cmp_total exact_cards db.cards q c p b there) [
+      | inl new ↦ subst IsCard new.1 limited
+      | inr old ↦ filled.limits p b old
+    ];
+    there = λ l p e some. elim (same_key card_key_cmp_total exact_cards p q) [
+      | inl same ↦
+          let is : l ≡ k = cc in
+          subst (λ z. IsSome (get (insert db.rows k x) z)) (sym is) (some-here row_key_cmp_total exact_keys db.rows k x)
+      | inr other ↦ some-insert row_key_cmp_total exact_keys db.rows k x l (filled.there l p e (subst IsSome (apart card_key_cmp_total exact_cards db.cards q c p other) some))
+    ];
+    owned = λ l p y e there. elim (entry_of row_key_cmp_total exact_keys db.rows k x l y there) [
+      | inl new ↦
+          let same : l ≡ k = new.0 in
+          let is : p ≡ q = cc in
+          subst (λ z. IsSome (get (insert db.cards q c) z)) (sym is) (some-here card_key_cmp_total exact_cards db.cards q c)
+      | inr old ↦ some-insert card_key_cmp_total exact_cards db.cards q c p (filled.owned l p y e old)
+    ];
+    entries = λ l y there. elim (entry_of row_key_cmp_total exact_keys db.rows k x l y there) [
+      | inl new ↦ subst (λ z. IsLimited z y) (sym new.0) (subst (λ z. IsLimited k z) new.1 row_limited)
+      | inr old ↦ filled.entries l y old
+    ];
+  }
+
+-- a row more, which goes with no card
+module _ (db : Database) (k : RowKey) (x : Row) (filled : IsFilled db) where
+  filled-row : card_key_of k ≡ None → IsLimited k x → IsFilled (record { cards = db.cards; rows = insert db.rows k x })
+  filled-row alone limited = record {
+    keyed = filled.keyed;
+    limits = filled.limits;
+    there = λ l p e some. some-insert row_key_cmp_total exact_keys db.rows k x l (filled.there l p e some);
+    owned = λ l p y e there. elim (entry_of row_key_cmp_total exact_keys db.rows k x l y there) [
+      | inl new ↦
+          let same : l ≡ k = new.0 in
+          let bad : ⊥ = cc in absurd bad
+      | inr old ↦ filled.owned l p y e old
+    ];
+    entries = λ l y there. elim (entry_of row_key_cmp_total exact_keys db.rows k x l y there) [
+      | inl new ↦ subst (λ z. IsLimited z y) (sym new.0) (subst (λ z. IsLimited k z) new.1 limited)
+      | inr old ↦ filled.entries l y old
+    ];
+  }
+
+-- the tables with what one more record says
+pub filled-more : (db : Database) (record_said : ImageRecord) → IsRead record_said → IsFilled db → IsFilled (with_record db record_said)
+filled-more db (said.Warehouse c r) h filled = filled-both db (card_key.Warehouse c.warehouse) (card.Warehouse c) (key.Warehouse c.warehouse) (row.Warehouse r) filled refl refl refl h.0 h.1
+filled-more db (said.District c r) h filled = filled-both db (card_key.District c.warehouse c.district) (card.District c) (key.District c.warehouse c.district) (row.District r) filled refl refl refl h.0 (h.1, h.2)
+filled-more db (said.Customer c r) h filled = filled-both db (card_key.Customer c.warehouse c.district c.customer) (card.Customer c) (key.Customer c.warehouse c.district c.customer) (row.Customer r) filled refl refl refl h.0 h.1
+filled-more db (said.History n r) h filled = filled-row db (key.History n) (row.History r) filled refl h

@@ -1,0 +1,52 @@
+-- The database of an image is sound.
+use Rattle.std.proofs.Common.{◌≡◌, ◌+◌, ℕ, List, [], ◌∷◌, Bool, true, false, cond, Result, Ok, Err, refl, subst, inl, inr}
+use Rattle.std.specs.Prelude.{IfOk}
+use Rattle.std.proofs.lemmas.Bool.{cases_Bool}
+use Rattle.requests.specs.Fields.{Fields}
+use Rattle.requests.specs.Records.{records_in}
+use Rattle.requests.specs.declared.fault.Slip.{Slip}
+use Rattle.tpcc_model.specs.Database.{Database}
+use Rattle.tpcc_model.specs.Soundness.{IsSound}
+use Rattle.loader.specs.Checks.{checked, next_orders_agree, parents_there, ytds_agree}
+use Rattle.loader.specs.Image.{counts, ended, image, is_end, is_first, placed, read_all, read_from, tested}
+use Rattle.loader.specs.ImageRecords.{record_at}
+use Rattle.loader.specs.Tables.{is_taken, no_tables, with_record}
+use Rattle.loader.specs.declared.fault.LoadError.{LoadError}
+use Rattle.loader.specs.declared.fault.LoadError.TheVariants as err
+use Rattle.loader.specs.declared.image_record.ImageRecord.{ImageRecord}
+use Rattle.loader.proofs.Filled.{IsFilled, IsRead, filled-more, filled-none}
+use Rattle.loader.proofs.RecordLimits.{record_at-limits}
+use Rattle.loader.proofs.Sound.{is-sound}
+
+either : (P : Database → Type 0) (b : Bool) (x y : Result Database LoadError) → (b ≡ true → IfOk x P) → (b ≡ false → IfOk y P) → IfOk (cond b x y) P
+either P true x y p q = p refl
+either P false x y p q = q refl
+
+placed-filled : (n : ℕ) (db : Database) (o : Result ImageRecord Slip) (rest : Database → Result Database LoadError) → IfOk o IsRead → IsFilled db → ((d : Database) → IsFilled d → IfOk (rest d) IsFilled)
+    → IfOk (placed n db o rest) IsFilled
+placed-filled n db (Err e) rest read filled more = tt
+placed-filled n db (Ok said) rest read filled more = either IsFilled (is_taken db said) (Err (err.Duplicate n)) (rest (with_record db said)) (λ _. tt) (λ _. more (with_record db said) (filled-more db said read filled))
+
+ended-filled : (rs : List Fields) (n : ℕ) (db : Database) → IsFilled db → IfOk (ended rs n db) IsFilled
+ended-filled [] n db filled = filled
+ended-filled (r ∷ rs) n db filled = tt
+
+read_from-filled : (rs : List Fields) (n : ℕ) (db : Database) → IsFilled db → IfOk (read_from rs n db) IsFilled
+unfolding read_from
+read_from-filled [] n db filled = tt
+read_from-filled (r ∷ rs) n db filled = either IsFilled (is_end r) _ _
+    (λ _. either IsFilled (counts n r) (ended rs (n + 1) db) (Err (err.BadRecord n)) (λ _. ended-filled rs (n + 1) db filled) (λ _. tt))
+    (λ _. placed-filled n db (record_at r) (read_from rs (n + 1)) (record_at-limits r) filled (read_from-filled rs (n + 1)))
+
+read_all-filled : (rs : List Fields) → IfOk (read_all rs) IsFilled
+unfolding read_all
+read_all-filled [] = tt
+read_all-filled (r ∷ rs) = either IsFilled (is_first r) (read_from rs 2 no_tables) (Err (err.BadRecord 1)) (λ _. read_from-filled rs 2 no_tables filled-none) (λ _. tt)
+
+tested-sound : (said : Result Database LoadError) → IfOk said IsFilled → IfOk (tested said) IsSound
+tested-sound (Err e) h = tt
+tested-sound (Ok db) h = either IsSound (parents_there db) _ _
+    (λ parents. either IsSound (ytds_agree db.rows) _ _ (λ ytds. either IsSound (next_orders_agree db.rows) (Ok db) (Err (err.Inconsistent 2)) (λ nexts. is-sound db h parents ytds nexts) (λ _. tt)) (λ _. tt)) (λ _. tt)
+
+pub image-sound : (bytes : List ℕ) (db : Database) → image bytes ≡ Ok db → IsSound db
+image-sound bytes db is = subst (λ (said : Result Database LoadError). IfOk said IsSound) is (tested-sound (read_all (records_in bytes)) (read_all-filled (records_in bytes)))

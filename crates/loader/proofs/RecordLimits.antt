@@ -1,0 +1,104 @@
+-- What a record says is within its limits.
+use Rattle.std.proofs.Common.{ℕ, ℤ, List, Bool, cond, Result, Ok, Err, inl, inr, true, false}
+use Rattle.std.specs.Prelude.{IfOk, ◌==◌, length, codes}
+use Rattle.csv.specs.Records.{field_at}
+use Rattle.requests.specs.BatchRecords.{of_count}
+use Rattle.requests.specs.Fields.{◌>>=◌, Fields, is_text, number_at, signed_at, text_at}
+use Rattle.requests.specs.declared.fault.Slip.{Slip}
+use Rattle.requests.specs.declared.fault.Slip.TheVariants as slip
+use Rattle.tpcc_rows.specs.Limits.{IsBetween, IsCents}
+use Rattle.tpcc_rows.specs.Texts.{IsText}
+use Rattle.loader.specs.Columns.{credit_of}
+use Rattle.loader.specs.ImageRecords.{customer_fields, district_fields, history_fields, record_at, warehouse_fields}
+use Rattle.loader.specs.declared.image_record.ImageRecord.{ImageRecord}
+use Rattle.loader.proofs.FieldLimits.{any-gives, cents_at-within, number_at-within, text_at-within, then-gives}
+use Rattle.loader.proofs.Filled.{IsRead}
+
+module _ (fields : Fields) where
+  number : (i low high : ℕ) (f : ℕ → Result ImageRecord Slip) → ((n : ℕ) → IsBetween low high n → IfOk (f n) IsRead) → IfOk (number_at fields i low high >>= f) IsRead
+  number i low high f more = then-gives (IsBetween low high) IsRead (number_at fields i low high) f (number_at-within fields i low high) more
+
+  text : (i most : ℕ) (f : List ℕ → Result ImageRecord Slip) → ((t : List ℕ) → IsText most t → IfOk (f t) IsRead) → IfOk (text_at fields i most >>= f) IsRead
+  text i most f more = then-gives (IsText most) IsRead (text_at fields i most) f (text_at-within fields i most) more
+
+  cents : (i : ℕ) (f : ℤ → Result ImageRecord Slip) → ((z : ℤ) → IsCents z → IfOk (f z) IsRead) → IfOk (signed_at fields i 1000000000000000 >>= f) IsRead
+  cents i f more = then-gives IsCents IsRead (signed_at fields i 1000000000000000) f (cents_at-within fields i) more
+
+  warehouse : IfOk (warehouse_fields fields) IsRead
+  unfolding warehouse_fields
+  warehouse =
+      number 1 1 100 _ (λ w w_is.
+      text 2 10 _ (λ name name_is.
+      number 3 0 9999 _ (λ tax tax_is.
+      cents 4 _ (λ ytd ytd_is. ((w_is, name_is, tax_is), ytd_is)))))
+
+  district : IfOk (district_fields fields) IsRead
+  unfolding district_fields
+  district =
+      number 1 1 100 _ (λ w w_is.
+      number 2 1 10 _ (λ d d_is.
+      text 3 10 _ (λ name name_is.
+      number 4 0 9999 _ (λ tax tax_is.
+      cents 5 _ (λ ytd ytd_is.
+      number 6 1 9999999 _ (λ next next_is. ((w_is, d_is, name_is, tax_is), ytd_is, next_is)))))))
+
+  customer : IfOk (customer_fields fields) IsRead
+  unfolding customer_fields
+  customer =
+      number 1 1 100 _ (λ w w_is.
+      number 2 1 10 _ (λ d d_is.
+      number 3 1 3000 _ (λ c c_is.
+      text 4 16 _ (λ last last_is.
+      text 5 2 _ (λ middle middle_is.
+      text 6 16 _ (λ first first_is.
+      any-gives IsRead (credit_of (field_at fields 7)) _ (λ credit.
+      number 8 0 9999 _ (λ discount discount_is.
+      cents 9 _ (λ balance balance_is.
+      cents 10 _ (λ ytd_payment ytd_payment_is.
+      number 11 0 1000000000 _ (λ payments payments_is.
+      number 12 0 1000000000 _ (λ deliveries deliveries_is.
+      text 13 500 _ (λ note note_is. (
+        record {
+          warehouse = w_is;
+          district = d_is;
+          customer = c_is;
+          last = last_is;
+          middle = middle_is;
+          first = first_is;
+          discount = discount_is;
+        },
+        record {
+          balance = balance_is;
+          ytd_payment = ytd_payment_is;
+          payment_count = payments_is;
+          delivery_count = deliveries_is;
+          text = note_is;
+        },
+      ))))))))))))))
+
+  history : IfOk (history_fields fields) IsRead
+  unfolding history_fields
+  history =
+      number 1 1 999999999999999 _ (λ n n_is.
+      number 2 1 3000 _ (λ c c_is.
+      number 3 1 10 _ (λ cd cd_is.
+      number 4 1 100 _ (λ cw cw_is.
+      number 5 1 10 _ (λ d d_is.
+      number 6 1 100 _ (λ w w_is.
+      number 7 0 999999999999 _ (λ date date_is.
+      number 8 0 999999 _ (λ amount amount_is.
+      text 9 24 _ (λ note note_is. record { number = n_is; date = date_is; amount = amount_is; text = note_is })))))))))
+
+  kind : (b : Bool) (x y : Result ImageRecord Slip) → IfOk x IsRead → IfOk y IsRead → IfOk (cond b x y) IsRead
+  kind true x y p q = p
+  kind false x y p q = q
+
+  counted : (count : ℕ) (said : Result ImageRecord Slip) → IfOk said IsRead → IfOk (of_count count fields said) IsRead
+  counted count said h = kind (length fields == count) said (Err slip.WrongCount) h tt
+
+  pub record_at-limits : IfOk (record_at fields) IsRead
+  record_at-limits =
+      kind (is_text (codes "W") (field_at fields 0)) _ _ (counted 5 (warehouse_fields fields) warehouse)
+      (kind (is_text (codes "D") (field_at fields 0)) _ _ (counted 7 (district_fields fields) district)
+      (kind (is_text (codes "C") (field_at fields 0)) _ _ (counted 14 (customer_fields fields) customer)
+      (kind (is_text (codes "H") (field_at fields 0)) (of_count 10 fields (history_fields fields)) (Err slip.UnknownKind) (counted 10 (history_fields fields) history) tt)))

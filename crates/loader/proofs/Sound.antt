@@ -1,0 +1,226 @@
+-- Filled tables that pass the tests are sound.
+use Rattle.std.proofs.Common.{◌≡◌, ◌≢◌, ◌⊎◌, ◌∙◌, ◌+◌, ◌-◌, ◌≤◌, ◌<◌, ℕ, zero, suc, ℤ, pos, ◌+ℤ◌, List, [], ◌∷◌, ◌&&◌, Bool, true, false, Option, Some, None, IsSome, IfSome, is_some, get_or, Result, Ok, Err, refl, sym, ap, ap₂, subst, inl, inr, arith}
+use Rattle.std.specs.Prelude.{IfOk, ◌==◌}
+use Rattle.std.specs.List.{list_all}
+use Rattle.std.specs.Option.{option_and_then}
+use Rattle.std.specs.Ordering.{int_eq}
+use Rattle.std.specs.FinMap.{entries, get}
+use Rattle.std.proofs.lemmas.Bool.{cases_Bool, eqb-true}
+use Rattle.std.proofs.lemmas.Bool.Decides.{Decides-int_eq}
+use Rattle.std.proofs.lemmas.Int.{ints}
+use Rattle.std.proofs.lemmas.List.Folds.{list_all_at}
+use Rattle.catalog.specs.CardKinds.{as_customer, as_district, as_item, as_stock, as_warehouse, card_key as own_key}
+use Rattle.catalog.specs.CardMap.{AreKeyed, Cards}
+use Rattle.catalog.specs.Lookups.{customer_card, district_card, item_card, stock_card, warehouse_card}
+use Rattle.catalog.specs.declared.card.Card.{Card}
+use Rattle.catalog.specs.declared.card.Card.TheVariants as card
+use Rattle.catalog.specs.declared.card.CardKey.{CardKey}
+use Rattle.catalog.specs.declared.card.CardKey.TheVariants as card_key
+use Rattle.catalog.proofs.CardKeys.{card_key_cmp_total, exact_cards}
+use Rattle.tpcc_model.specs.Conditions.{Condition1, HasNewOrder, HasOrder, IsConsistent, IsGreatest, IsGreatestOr0, IsLeast, district_share, line_share, new_order_share, promised_share}
+use Rattle.tpcc_model.specs.Database.{Database}
+use Rattle.tpcc_model.specs.Soundness.{AreCards, HasCard, IsEntry, IsSound}
+use Rattle.tpcc_rows.specs.Limits.{IsBetween, ten}
+use Rattle.tpcc_rows.specs.RowKinds.{as_warehouse as row_as_warehouse}
+use Rattle.tpcc_rows.specs.RowMap.{Rows}
+use Rattle.tpcc_rows.specs.Rows.{warehouse_row}
+use Rattle.tpcc_rows.specs.Totals.{sum_entries, total}
+use Rattle.tpcc_rows.specs.declared.key.RowKey.{RowKey}
+use Rattle.tpcc_rows.specs.declared.key.RowKey.TheVariants as key
+use Rattle.tpcc_rows.specs.declared.row.DistrictRow.{DistrictRow}
+use Rattle.tpcc_rows.specs.declared.row.HistoryRow.{HistoryRow}
+use Rattle.tpcc_rows.specs.declared.row.Row.{Row}
+use Rattle.tpcc_rows.specs.declared.row.Row.TheVariants as row
+use Rattle.tpcc_rows.proofs.Keys.{exact_keys, row_key_cmp_total}
+use Rattle.tpcc_rows.proofs.Singles.{all-pass, and-left, and-right, passes}
+use Rattle.loader.specs.Checks.{card_has_parents, checked, next_order_agrees, next_orders_agree, parents_there, row_has_parents, ytd_agrees, ytds_agree}
+use Rattle.loader.specs.Tables.{has_card}
+use Rattle.loader.specs.declared.fault.LoadError.{LoadError}
+use Rattle.loader.proofs.Filled.{IsFilled, IsHistoryRow, IsLimited}
+
+-- ---- look-ups of cards
+then-some : {A B : Type 0} (f : A → Option B) (o : Option A) → IsSome (option_and_then f o) → IsSome o
+then-some f None h = h
+then-some f (Some a) h = refl
+
+-- what is there by its key is of the key's kind
+then-kind : {B : Type 0} (f : Card → Option B) (cards : Cards) (q : CardKey) → AreKeyed cards → ((c : Card) → own_key c ≡ q → IsSome (f c)) → IsSome (get cards q) → IsSome (option_and_then f (get cards q))
+then-kind f cards q keyed kind some = at (get cards q) refl some
+  where
+    at : (o : Option Card) → get cards q ≡ o → IsSome o → IsSome (option_and_then f o)
+    at None e h = h
+    at (Some c) e h = kind c (keyed q c e)
+
+warehouse-kind : (w : ℕ) (c : Card) → own_key c ≡ card_key.Warehouse w → IsSome (as_warehouse c)
+warehouse-kind w (card.Warehouse c) e = refl
+warehouse-kind w _ e = cc
+
+district-kind : (w d : ℕ) (c : Card) → own_key c ≡ card_key.District w d → IsSome (as_district c)
+district-kind w d (card.District c) e = refl
+district-kind w d _ e = cc
+
+customer-kind : (w d n : ℕ) (c : Card) → own_key c ≡ card_key.Customer w d n → IsSome (as_customer c)
+customer-kind w d n (card.Customer c) e = refl
+customer-kind w d n _ e = cc
+
+item-kind : (i : ℕ) (c : Card) → own_key c ≡ card_key.Item i → IsSome (as_item c)
+item-kind i (card.Item c) e = refl
+item-kind i _ e = cc
+
+value-of : {X : Type 0} (o : Option X) → IsSome o → (x : X) × (o ≡ Some x)
+value-of None h = let bad : ⊥ = cc in absurd bad
+value-of (Some x) h = (x, refl)
+
+-- ---- parents
+-- each of the ten districts passes
+ten-at : (i : ℕ) → i < 10 → get_or ten i 0 ≡ i + 1
+ten-at zero h = refl
+ten-at (suc zero) h = refl
+ten-at (suc (suc zero)) h = refl
+ten-at (suc (suc (suc zero))) h = refl
+ten-at (suc (suc (suc (suc zero)))) h = refl
+ten-at (suc (suc (suc (suc (suc zero))))) h = refl
+ten-at (suc (suc (suc (suc (suc (suc zero)))))) h = refl
+ten-at (suc (suc (suc (suc (suc (suc (suc zero))))))) h = refl
+ten-at (suc (suc (suc (suc (suc (suc (suc (suc zero)))))))) h = refl
+ten-at (suc (suc (suc (suc (suc (suc (suc (suc (suc zero))))))))) h = refl
+ten-at (suc (suc (suc (suc (suc (suc (suc (suc (suc (suc i)))))))))) h = absurd (omega arith)
+
+ten-pass : (p : ℕ → Bool) → list_all p ten ≡ true → (d : ℕ) → IsBetween 1 10 d → p d ≡ true
+ten-pass p all d within = elim (cases_Bool (p d)) [
+  | inl good ↦ good
+  | inr bad ↦
+      let low = within.0 in
+      let high = within.1 in
+      let place : d - 1 < 10 = omega (arith, low, high) in
+      let is : get_or ten (d - 1) 0 ≡ d = ten-at (d - 1) place ∙ omega (arith, low) in
+      let no : false ≡ true = sym (list_all_at p ten (d - 1) 0 place (ap p is ∙ bad)) ∙ all in
+      cc
+]
+
+module _ (db : Database) (filled : IsFilled db) (parents : parents_there db ≡ true) where
+  cards-pass : list_all (card_has_parents db.cards) (entries db.cards) ≡ true
+  unfolding parents_there
+  cards-pass = and-left (list_all (card_has_parents db.cards) (entries db.cards)) (list_all (row_has_parents db.cards) (entries db.rows)) parents
+
+  rows-pass : list_all (row_has_parents db.cards) (entries db.rows) ≡ true
+  unfolding parents_there
+  rows-pass = and-right (list_all (card_has_parents db.cards) (entries db.cards)) (list_all (row_has_parents db.cards) (entries db.rows)) parents
+
+  -- a card that is there has its parents
+  card-parents : (q : CardKey) → IsSome (get db.cards q) → (c : Card) × (card_has_parents db.cards (q, c) ≡ true)
+  card-parents q some =
+      let (c, there) = value-of (get db.cards q) some in
+      (c, passes card_key_cmp_total exact_cards (card_has_parents db.cards) db.cards q c cards-pass there)
+
+  pub are-cards : AreCards db.cards
+  are-cards = record {
+    keyed = filled.keyed;
+    limits = filled.limits;
+    ten_districts = λ w d some within.
+        let (c, pass) = card-parents (card_key.Warehouse w) (then-some as_warehouse (get db.cards (card_key.Warehouse w)) some) in
+        then-kind as_district db.cards (card_key.District w d) filled.keyed (district-kind w d) (ten-pass (λ d. has_card db.cards (card_key.District w d)) pass d within);
+    warehouse_of_district = λ w d some.
+        let (c, pass) = card-parents (card_key.District w d) (then-some as_district (get db.cards (card_key.District w d)) some) in
+        then-kind as_warehouse db.cards (card_key.Warehouse w) filled.keyed (warehouse-kind w) pass;
+    district_of_customer = λ w d n some.
+        let (c, pass) = card-parents (card_key.Customer w d n) (then-some as_customer (get db.cards (card_key.Customer w d n)) some) in
+        then-kind as_district db.cards (card_key.District w d) filled.keyed (district-kind w d) pass;
+    warehouse_of_stock = λ w i some.
+        let (c, pass) = card-parents (card_key.Stock w i) (then-some as_stock (get db.cards (card_key.Stock w i)) some) in
+        then-kind as_warehouse db.cards (card_key.Warehouse w) filled.keyed (warehouse-kind w) (and-left (has_card db.cards (card_key.Warehouse w)) (has_card db.cards (card_key.Item i)) pass);
+    item_of_stock = λ w i some.
+        let (c, pass) = card-parents (card_key.Stock w i) (then-some as_stock (get db.cards (card_key.Stock w i)) some) in
+        then-kind as_item db.cards (card_key.Item i) filled.keyed (item-kind i) (and-right (has_card db.cards (card_key.Warehouse w)) (has_card db.cards (card_key.Item i)) pass);
+  }
+
+  -- where a card is, its row is
+  rows-there : (k : RowKey) → HasCard db.cards k → IsSome (get db.rows k)
+  rows-there (key.Warehouse w) some = filled.there (key.Warehouse w) (card_key.Warehouse w) refl (then-some as_warehouse (get db.cards (card_key.Warehouse w)) some)
+  rows-there (key.District w d) some = filled.there (key.District w d) (card_key.District w d) refl (then-some as_district (get db.cards (card_key.District w d)) some)
+  rows-there (key.Customer w d n) some = filled.there (key.Customer w d n) (card_key.Customer w d n) refl (then-some as_customer (get db.cards (card_key.Customer w d n)) some)
+  rows-there (key.Stock w i) some = filled.there (key.Stock w i) (card_key.Stock w i) refl (then-some as_stock (get db.cards (card_key.Stock w i)) some)
+  rows-there (key.Order w d o) some = absurd some
+  rows-there (key.NewOrder w d o) some = absurd some
+  rows-there (key.OrderLine w d o n) some = absurd some
+  rows-there (key.History n) some = absurd some
+
+  -- each row is as it should be
+  entry : (k : RowKey) (x : Row) → get db.rows k ≡ Some x → IsLimited k x → IsEntry db.cards db.rows k x
+  entry (key.Warehouse w) (row.Warehouse r) there h = (then-kind as_warehouse db.cards (card_key.Warehouse w) filled.keyed (warehouse-kind w) (filled.owned (key.Warehouse w) (card_key.Warehouse w) (row.Warehouse r) refl there), h)
+  entry (key.District w d) (row.District r) there h = (then-kind as_district db.cards (card_key.District w d) filled.keyed (district-kind w d) (filled.owned (key.District w d) (card_key.District w d) (row.District r) refl there), h.0, h.1)
+  entry (key.Customer w d n) (row.Customer r) there h = (then-kind as_customer db.cards (card_key.Customer w d n) filled.keyed (customer-kind w d n) (filled.owned (key.Customer w d n) (card_key.Customer w d n) (row.Customer r) refl there), h)
+  entry (key.History n) (row.History r) there h =
+      let customer = has_card db.cards (card_key.Customer r.customer_warehouse r.customer_district r.customer) in
+      let district = has_card db.cards (card_key.District r.warehouse r.district) in
+      let pass : (customer && district) ≡ true = passes row_key_cmp_total exact_keys (row_has_parents db.cards) db.rows (key.History n) (row.History r) rows-pass there in
+      record {
+        number = h.number;
+        customer = then-kind as_customer db.cards (card_key.Customer r.customer_warehouse r.customer_district r.customer) filled.keyed (customer-kind r.customer_warehouse r.customer_district r.customer) (and-left customer district pass);
+        district = then-kind as_district db.cards (card_key.District r.warehouse r.district) filled.keyed (district-kind r.warehouse r.district) (and-right customer district pass);
+        date = h.date;
+        amount = h.amount;
+        text = h.text;
+      }
+  entry _ _ there h = absurd h
+
+-- ---- conditions
+sum-none : (share : RowKey → Row → ℤ) (es : List (RowKey × Row)) → list_all (λ e. int_eq (share e.0 e.1) (pos 0)) es ≡ true → sum_entries share es ≡ pos 0
+sum-none share [] all = refl
+sum-none share (e ∷ es) all =
+    let here = (Decides-int_eq (share e.0 e.1) (pos 0)).0 (and-left (int_eq (share e.0 e.1) (pos 0)) (list_all (λ e. int_eq (share e.0 e.1) (pos 0)) es) all) in
+    let rest = sum-none share es (and-right (int_eq (share e.0 e.1) (pos 0)) (list_all (λ e. int_eq (share e.0 e.1) (pos 0)) es) all) in
+    omega (arith, ints, here, rest)
+
+-- nothing has a share
+total-none : (share : RowKey → Row → ℤ) (rows : Rows) → ((k : RowKey) (x : Row) → get rows k ≡ Some x → share k x ≡ pos 0) → total share rows ≡ pos 0
+unfolding total
+total-none share rows none = sum-none share (entries rows) (all-pass row_key_cmp_total exact_keys (λ e. int_eq (share e.0 e.1) (pos 0)) rows (λ k x there. (Decides-int_eq (share k x) (pos 0)).1 (none k x there)))
+
+-- among these rows are no orders and no order lines
+no-promise : (w d : ℕ) (k : RowKey) (x : Row) → IsLimited k x → promised_share w d k x ≡ pos 0
+no-promise w d (key.Order v e o) x h = absurd h
+no-promise w d _ x h = refl
+
+no-line : (w d : ℕ) (k : RowKey) (x : Row) → IsLimited k x → line_share w d k x ≡ pos 0
+no-line w d (key.OrderLine v e o n) x h = absurd h
+no-line w d _ x h = refl
+
+module _ (db : Database) (filled : IsFilled db) where
+  no-order : (w d o : ℕ) → HasOrder db.rows w d o → ⊥
+  no-order w d o h = filled.entries (key.Order w d o) (row.Order h.0) h.1
+
+  no-new_order : (w d o : ℕ) → HasNewOrder db.rows w d o → ⊥
+  no-new_order w d o h = filled.entries (key.NewOrder w d o) row.NewOrder h
+
+  consistent : next_orders_agree db.rows ≡ true → (w d : ℕ) (r : DistrictRow) → get db.rows (key.District w d) ≡ Some (row.District r) → IsConsistent db.rows w d r.next_order
+  unfolding next_orders_agree
+  consistent nexts w d r there =
+      let next : r.next_order ≡ 1 = eqb-true _ _ (passes row_key_cmp_total exact_keys next_order_agrees db.rows (key.District w d) (row.District r) nexts there) in
+      record {
+        last_order = record { there = inl (omega (arith, next)); above = λ o h. absurd (no-order w d o h) };
+        last_new_order = λ o h. absurd (no-new_order w d o h);
+        new_orders = λ low high least most. absurd (no-new_order w d low least.there);
+        lines =
+            total-none (promised_share w d) db.rows (λ k x h. no-promise w d k x (filled.entries k x h))
+            ∙ sym (total-none (line_share w d) db.rows (λ k x h. no-line w d k x (filled.entries k x h)));
+      }
+
+-- the test of condition 1, at a look-up
+first-at : (rows : Rows) (w : ℕ) (o : Option Row) → ((r : Row) → o ≡ Some r → ytd_agrees rows (key.Warehouse w, r) ≡ true) → IfSome (option_and_then row_as_warehouse o) (λ r. r.ytd ≡ total (district_share w) rows)
+first-at rows w None pass = tt
+first-at rows w (Some (row.Warehouse r)) pass = (Decides-int_eq r.ytd (total (district_share w) rows)).0 (pass (row.Warehouse r) refl)
+first-at rows w (Some _) pass = tt
+
+first-condition : (rows : Rows) → ytds_agree rows ≡ true → Condition1 rows
+unfolding ytds_agree
+first-condition rows ytds w = first-at rows w (get rows (key.Warehouse w)) (λ r there. passes row_key_cmp_total exact_keys (ytd_agrees rows) rows (key.Warehouse w) r ytds there)
+
+pub is-sound : (db : Database) → IsFilled db → parents_there db ≡ true → ytds_agree db.rows ≡ true → next_orders_agree db.rows ≡ true → IsSound db
+is-sound db filled parents ytds nexts = record {
+  cards = are-cards db filled parents;
+  there = rows-there db filled parents;
+  entries = λ k x there. entry db filled parents k x there (filled.entries k x there);
+  condition_1 = first-condition db.rows ytds;
+  districts = consistent db filled nexts;
+}

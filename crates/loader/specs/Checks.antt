@@ -1,0 +1,72 @@
+-- Tests of parents and of the consistency conditions (TPC-C clauses 3.3.2.1 and 3.3.2.2).
+use Rattle.std.specs.Prelude.{◌≡◌, ◌<◌, ◌*◌, ◌+ℤ◌, ◌-ℤ◌, ◌≤ℤ◌, slice_index_or, ◌==◌, ◌&&◌, Bool, true, ℕ, ℤ, pos, List, Result, Ok, Err, if◌then◌else◌}
+use Rattle.std.specs.Ordering.{int_eq}
+use Rattle.std.specs.List.{list_all}
+use Rattle.std.specs.FinMap as map
+use Rattle.catalog.specs.CardMap.{Cards}
+use Rattle.catalog.specs.declared.card.Card.{Card}
+use Rattle.catalog.specs.declared.card.CardKey.{CardKey}
+use Rattle.catalog.specs.declared.card.CardKey.TheVariants as card_key
+use Rattle.tpcc_model.specs.Conditions.{district_share}
+use Rattle.tpcc_model.specs.Database.{Database}
+use Rattle.tpcc_rows.specs.Limits.{ten}
+use Rattle.tpcc_rows.specs.RowMap.{Rows}
+use Rattle.tpcc_rows.specs.Totals.{sum_entries, total}
+use Rattle.tpcc_rows.specs.declared.key.RowKey.{RowKey}
+use Rattle.tpcc_rows.specs.declared.key.RowKey.TheVariants as key
+use Rattle.tpcc_rows.specs.declared.row.Row.{Row}
+use Rattle.tpcc_rows.specs.declared.row.Row.TheVariants as row
+use Rattle.loader.specs.Tables.{has_card}
+use Rattle.loader.specs.declared.fault.LoadError.{LoadError}
+use Rattle.loader.specs.declared.fault.LoadError.TheVariants as err
+
+-- a warehouse has its ten districts, a district its warehouse, a customer its district, a stock its warehouse and item
+abbrev pub card_has_parents : Cards → CardKey × Card → Bool
+card_has_parents cards (card_key.Warehouse w, _) = list_all (λ d. has_card cards (card_key.District w d)) ten
+card_has_parents cards (card_key.District w d, _) = has_card cards (card_key.Warehouse w)
+card_has_parents cards (card_key.Customer w d c, _) = has_card cards (card_key.District w d)
+card_has_parents cards (card_key.Stock w i, _) = has_card cards (card_key.Warehouse w) && has_card cards (card_key.Item i)
+card_has_parents cards (card_key.Item i, _) = true
+
+-- a row of HISTORY has its customer, and its district
+abbrev pub row_has_parents : Cards → RowKey × Row → Bool
+row_has_parents cards (_, row.History r) = has_card cards (card_key.Customer r.customer_warehouse r.customer_district r.customer) && has_card cards (card_key.District r.warehouse r.district)
+row_has_parents cards (_, _) = true
+
+unfoldable pub parents_there : Database → Bool
+parents_there db = list_all (card_has_parents db.cards) (map.entries db.cards) && list_all (row_has_parents db.cards) (map.entries db.rows)
+
+-- condition 1: W_YTD of a warehouse is the sum of D_YTD over its districts
+abbrev pub ytd_agrees : Rows → RowKey × Row → Bool
+ytd_agrees rows (key.Warehouse w, row.Warehouse r) = int_eq r.ytd (total (district_share w) rows)
+ytd_agrees rows (_, _) = true
+
+unfoldable pub ytds_agree : Rows → Bool
+ytds_agree rows = list_all (ytd_agrees rows) (map.entries rows)
+
+-- condition 2: D_NEXT_O_ID of a district is 1, since no district has an order
+abbrev pub next_order_agrees : RowKey × Row → Bool
+next_order_agrees (_, row.District r) = r.next_order == 1
+next_order_agrees (_, _) = true
+
+unfoldable pub next_orders_agree : Rows → Bool
+next_orders_agree rows = list_all next_order_agrees (map.entries rows)
+
+-- the database where its parents are there and its conditions hold, or else the first of these faults
+abbrev pub checked : Database → Result Database LoadError
+checked db =
+    if parents_there db then
+    (if ytds_agree db.rows then (if next_orders_agree db.rows then Ok db else Err (err.Inconsistent 2)) else Err (err.Inconsistent 1))
+    else Err err.MissingParent
+
+-- ---- sums of the warehouses, while they are added up
+-- the sum of each warehouse, and what the rows that are left add to it
+abbrev pub AreSumsBefore : List (RowKey × Row) → List ℤ → Rows → Type 0
+AreSumsBefore left sums rows = (w : ℕ) → w < 101 → (slice_index_or sums w (pos 0) +ℤ sum_entries (district_share w) left) ≡ total (district_share w) rows
+
+-- each is within so many times the greatest amount
+abbrev pub AreWithin : ℕ → List ℤ → Type 0
+AreWithin n sums = (w : ℕ) → w < 101 → ((pos 0 -ℤ pos (n * 1000000000000000)) ≤ℤ slice_index_or sums w (pos 0)) × (slice_index_or sums w (pos 0) ≤ℤ pos (n * 1000000000000000))
+
+abbrev pub AreSums : List ℤ → Rows → Type 0
+AreSums sums rows = (w : ℕ) → w < 101 → slice_index_or sums w (pos 0) ≡ total (district_share w) rows

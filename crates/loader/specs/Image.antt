@@ -1,0 +1,66 @@
+-- The database of an image, or its one fault.
+use Rattle.std.specs.Prelude.{◌==◌, ◌&&◌, ◌+◌, ◌-◌, ◌∷◌, [], Bool, ℕ, List, length, codes, decimal, Result, Ok, Err, if◌then◌else◌}
+use Rattle.csv.specs.Records.{field_at}
+use Rattle.requests.specs.Fields.{Fields, is_text}
+use Rattle.requests.specs.Records.{records_in}
+use Rattle.requests.specs.declared.fault.Slip.{Slip}
+use Rattle.catalog.specs.CardMap.{Cards}
+use Rattle.tpcc_model.specs.Database.{Database}
+use Rattle.tpcc_rows.specs.RowMap.{Rows}
+use Rattle.loader.specs.Checks.{checked}
+use Rattle.loader.specs.Faults.{fault_of}
+use Rattle.loader.specs.ImageRecords.{record_at}
+use Rattle.loader.specs.Tables.{is_taken, no_tables, with_record}
+use Rattle.loader.specs.declared.fault.LoadError.{LoadError}
+use Rattle.loader.specs.declared.fault.LoadError.TheVariants as err
+use Rattle.loader.specs.declared.image_record.ImageRecord.{ImageRecord}
+
+-- what the record of this number says is taken in, unless its key came before, and what follows goes on from there
+abbrev pub placed : ℕ → Database → Result ImageRecord Slip → (Database → Result Database LoadError) → Result Database LoadError
+placed n db (Err e) rest = Err (fault_of n e)
+placed n db (Ok said) rest = if is_taken db said then Err (err.Duplicate n) else rest (with_record db said)
+
+abbrev pub is_end : Fields → Bool
+is_end fields = is_text (codes "E") (field_at fields 0)
+
+-- `E,count`: the number of records between the first and this one, whose own number is n
+abbrev pub counts : ℕ → Fields → Bool
+counts n fields = (length fields == 2) && is_text (decimal (n - 2)) (field_at fields 1)
+
+-- nothing comes after the end record
+abbrev pub ended : List Fields → ℕ → Database → Result Database LoadError
+ended [] n db = Ok db
+ended (r ∷ rs) n db = Err (err.BadRecord n)
+
+-- the tables of these records, from the one of this number on, after what came before
+unfoldable pub read_from : List Fields → ℕ → Database → Result Database LoadError
+read_from [] n db = Err err.Truncated
+read_from (r ∷ rs) n db =
+    if is_end r then (if counts n r then ended rs (n + 1) db else Err (err.BadRecord n))
+    else placed n db (record_at r) (read_from rs (n + 1))
+
+-- `eve-tpcc,1`
+abbrev pub is_first : Fields → Bool
+is_first fields = (length fields == 2) && (is_text (codes "eve-tpcc") (field_at fields 0) && is_text (codes "1") (field_at fields 1))
+
+-- the tables of all records
+unfoldable pub read_all : List Fields → Result Database LoadError
+read_all [] = Err err.Truncated
+read_all (r ∷ rs) = if is_first r then read_from rs 2 no_tables else Err (err.BadRecord 1)
+
+-- the tests of parents and of conditions come after all records
+abbrev pub tested : Result Database LoadError → Result Database LoadError
+tested (Ok db) = checked db
+tested (Err e) = Err e
+
+-- the most bytes of an image
+abbrev pub most_bytes : ℕ
+most_bytes = 4294967295
+
+-- the sound database of an image, or its fault
+abbrev pub image : List ℕ → Result Database LoadError
+image bytes = tested (read_all (records_in bytes))
+
+-- the database that was loaded
+abbrev pub loaded : Cards × Rows → Database
+loaded parts = record { cards = parts.0; rows = parts.1 }

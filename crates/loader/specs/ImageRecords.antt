@@ -1,0 +1,95 @@
+-- What a record of an image says.
+use Rattle.std.specs.Prelude.{Result, Ok, Err, codes, if◌then◌else◌}
+use Rattle.csv.specs.Records.{field_at}
+use Rattle.requests.specs.BatchRecords.{of_count}
+use Rattle.requests.specs.Fields.{Fields, ◌>>=◌, is_text, number_at, signed_at, text_at}
+use Rattle.requests.specs.declared.fault.Slip.{Slip}
+use Rattle.requests.specs.declared.fault.Slip.TheVariants as slip
+use Rattle.loader.specs.Columns.{credit_of}
+use Rattle.loader.specs.declared.image_record.ImageRecord.{ImageRecord}
+use Rattle.loader.specs.declared.image_record.ImageRecord.TheVariants as said
+
+-- `W,w,name,tax,ytd`
+unfoldable pub warehouse_fields : Fields → Result ImageRecord Slip
+warehouse_fields fields = do
+  w ← number_at fields 1 1 100
+  name ← text_at fields 2 10
+  tax ← number_at fields 3 0 9999
+  ytd ← signed_at fields 4 1000000000000000
+  Ok (said.Warehouse (record { warehouse = w; name = name; tax = tax }) (record { ytd = ytd }))
+
+-- `D,w,d,name,tax,ytd,next`
+unfoldable pub district_fields : Fields → Result ImageRecord Slip
+district_fields fields = do
+  w ← number_at fields 1 1 100
+  d ← number_at fields 2 1 10
+  name ← text_at fields 3 10
+  tax ← number_at fields 4 0 9999
+  ytd ← signed_at fields 5 1000000000000000
+  next ← number_at fields 6 1 9999999
+  Ok (said.District (record { warehouse = w; district = d; name = name; tax = tax }) (record { ytd = ytd; next_order = next }))
+
+-- `C,w,d,c,last,middle,first,credit,discount,balance,ytd_payment,payment_cnt,delivery_cnt,data`
+unfoldable pub customer_fields : Fields → Result ImageRecord Slip
+customer_fields fields = do
+  w ← number_at fields 1 1 100
+  d ← number_at fields 2 1 10
+  c ← number_at fields 3 1 3000
+  last ← text_at fields 4 16
+  middle ← text_at fields 5 2
+  first ← text_at fields 6 16
+  credit ← credit_of (field_at fields 7)
+  discount ← number_at fields 8 0 9999
+  balance ← signed_at fields 9 1000000000000000
+  ytd_payment ← signed_at fields 10 1000000000000000
+  payments ← number_at fields 11 0 1000000000
+  deliveries ← number_at fields 12 0 1000000000
+  text ← text_at fields 13 500
+  Ok (said.Customer (record {
+    warehouse = w;
+    district = d;
+    customer = c;
+    last = last;
+    middle = middle;
+    first = first;
+    credit = credit;
+    discount = discount;
+  }) (record {
+    balance = balance;
+    ytd_payment = ytd_payment;
+    payment_count = payments;
+    delivery_count = deliveries;
+    «data» = text;
+  }))
+
+-- `H,number,c,cd,cw,d,w,date,amount,data`
+unfoldable pub history_fields : Fields → Result ImageRecord Slip
+history_fields fields = do
+  number ← number_at fields 1 1 999999999999999
+  c ← number_at fields 2 1 3000
+  cd ← number_at fields 3 1 10
+  cw ← number_at fields 4 1 100
+  d ← number_at fields 5 1 10
+  w ← number_at fields 6 1 100
+  date ← number_at fields 7 0 999999999999
+  amount ← number_at fields 8 0 999999
+  text ← text_at fields 9 24
+  Ok (said.History number (record {
+    customer = c;
+    customer_district = cd;
+    customer_warehouse = cw;
+    district = d;
+    warehouse = w;
+    date = date;
+    amount = amount;
+    «data» = text;
+  }))
+
+-- what a record says: its kind is told by its first field, and each kind has its number of fields
+abbrev pub record_at : Fields → Result ImageRecord Slip
+record_at fields =
+    if is_text (codes "W") (field_at fields 0) then of_count 5 fields (warehouse_fields fields)
+    else if is_text (codes "D") (field_at fields 0) then of_count 7 fields (district_fields fields)
+    else if is_text (codes "C") (field_at fields 0) then of_count 14 fields (customer_fields fields)
+    else if is_text (codes "H") (field_at fields 0) then of_count 10 fields (history_fields fields)
+    else Err slip.UnknownKind

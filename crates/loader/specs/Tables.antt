@@ -1,0 +1,50 @@
+-- Cards and rows as they are filled.
+use Rattle.std.specs.Prelude.{Bool, is_some}
+use Rattle.std.specs.FinMap as map
+use Rattle.catalog.specs.CardMap.{Cards}
+use Rattle.catalog.specs.declared.card.Card.TheVariants as card
+use Rattle.catalog.specs.declared.card.CardKey.{CardKey}
+use Rattle.catalog.specs.declared.card.CardKey.TheVariants as card_key
+use Rattle.tpcc_model.specs.Database.{Database}
+use Rattle.tpcc_rows.specs.RowMap.{Rows}
+use Rattle.tpcc_rows.specs.declared.key.RowKey.{RowKey}
+use Rattle.tpcc_rows.specs.declared.key.RowKey.TheVariants as key
+use Rattle.tpcc_rows.specs.declared.row.Row.TheVariants as row
+use Rattle.loader.specs.declared.image_record.ImageRecord.{ImageRecord}
+use Rattle.loader.specs.declared.image_record.ImageRecord.TheVariants as said
+use Rattle.loader.specs.declared.tables.Tables.{Tables}
+
+abbrev pub database_of : Tables → Database
+database_of tables = record { cards = tables.cards; rows = tables.rows }
+
+abbrev pub no_tables : Database
+no_tables = record { cards = map.empty; rows = map.empty }
+
+abbrev pub has_card : Cards → CardKey → Bool
+has_card cards k = is_some (map.get cards k)
+
+abbrev pub has_row : Rows → RowKey → Bool
+has_row rows k = is_some (map.get rows k)
+
+-- the key of what a record says came before
+abbrev pub is_taken : Database → ImageRecord → Bool
+is_taken db (said.Warehouse c r) = has_card db.cards (card_key.Warehouse c.warehouse)
+is_taken db (said.District c r) = has_card db.cards (card_key.District c.warehouse c.district)
+is_taken db (said.Customer c r) = has_card db.cards (card_key.Customer c.warehouse c.district c.customer)
+is_taken db (said.History number r) = has_row db.rows (key.History number)
+
+-- the database with what a record says
+abbrev pub with_record : Database → ImageRecord → Database
+with_record db (said.Warehouse c r) = record {
+  cards = map.insert db.cards (card_key.Warehouse c.warehouse) (card.Warehouse c);
+  rows = map.insert db.rows (key.Warehouse c.warehouse) (row.Warehouse r);
+}
+with_record db (said.District c r) = record {
+  cards = map.insert db.cards (card_key.District c.warehouse c.district) (card.District c);
+  rows = map.insert db.rows (key.District c.warehouse c.district) (row.District r);
+}
+with_record db (said.Customer c r) = record {
+  cards = map.insert db.cards (card_key.Customer c.warehouse c.district c.customer) (card.Customer c);
+  rows = map.insert db.rows (key.Customer c.warehouse c.district c.customer) (row.Customer r);
+}
+with_record db (said.History number r) = record db { rows = map.insert db.rows (key.History number) (row.History r) }

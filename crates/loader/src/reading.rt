@@ -1,0 +1,117 @@
+//! The tables of the records of an image.
+ghost use Rattle.std.specs.Prelude.{◌≡◌, ◌+◌, ◌<◌, ◌≤◌, ◌^◌, [], length, Ok, IfOk, IfErr, OnOk};
+ghost use Rattle.csv.specs.Records.{fields_of};
+ghost use Rattle.requests.specs.Records.{IsGoing, records_in, records_left};
+ghost use Rattle.loader.specs.Faults.{StopsBy};
+ghost use Rattle.loader.specs.Image.{counts, ended, is_first, placed, read_all, read_from};
+ghost use Rattle.loader.specs.ImageRecords.{record_at};
+ghost use Rattle.loader.specs.Tables.{database_of};
+
+use crate::fault::{LoadError, fault};
+use crate::image_record::image_record;
+use crate::tables::Tables;
+use catalog::builder::CatalogError;
+use csv::{ByteRecord, Reader};
+use itoa::Buffer;
+use requests::fields::has_text;
+use requests::records::{next_record, records_of};
+use std::alloc::Global;
+
+/// Whether this is `eve-tpcc,1`.
+fn is_first(fields: &ByteRecord) -> bool
+    ensures { result ≡ is_first (fields_of fields.now) }
+{
+    if fields.len() != 2 {
+        return false;
+    }
+    if !has_text(fields, 0, b"eve-tpcc") {
+        return false;
+    }
+    has_text(fields, 1, b"1")
+}
+
+/// Whether the record of this number gives the number of records between the first and this one.
+fn counts(number: u64, fields: &ByteRecord) -> bool
+    requires { 2 ≤ number }
+    ensures { result ≡ counts number (fields_of fields.now) }
+{
+    if fields.len() != 2 {
+        return false;
+    }
+    let mut buffer = Buffer::new();
+    has_text(fields, 1, buffer.format(number - 2).as_bytes())
+}
+
+/// Takes in the record of this number.
+fn place(tables: &mut Tables, number: u64, fields: &ByteRecord) -> Result<(), LoadError>
+    ensures ok { OnOk result ((rest : _) → placed number (database_of tables.old) (record_at (fields_of fields.now)) rest ≡ rest (database_of tables.new)) }
+    ensures err { IfErr result (λ e. (rest : _) → StopsBy e (placed number (database_of tables.old) (record_at (fields_of fields.now)) rest)) }
+{
+    let said = match image_record(fields) {
+        Ok(said) => said,
+        Err(slip) => return Err(fault(number, slip)),
+    };
+    match tables.add(said) {
+        Ok(()) => Ok(()),
+        Err(CatalogError::Twice) => Err(LoadError::Duplicate(number)),
+        Err(CatalogError::Memory) => Err(LoadError::Memory),
+    }
+}
+
+/// Sees that nothing comes after the end record. `number` is that of the next record.
+fn end(reader: &mut Reader<&[u8]>, fields: &mut ByteRecord, number: u64) -> Result<(), LoadError>
+    requires { IsGoing reader.old }
+    ensures ok { OnOk result (records_left reader.old ≡ []) }
+    ensures err { IfErr result (λ e. (db : _) → StopsBy e (ended (records_left reader.old) number db)) }
+{
+    if next_record(reader, fields)? {
+        return Err(LoadError::BadRecord(number));
+    }
+    Ok(())
+}
+
+/// Takes in the records after the first, up to the end.
+#[tactic(auto, unfolding(crate::specs::Image::read_from))]
+fn read_rest(
+    reader: &mut Reader<&[u8]>,
+    fields: &mut ByteRecord,
+    tables: &mut Tables,
+) -> Result<(), LoadError>
+    requires going { IsGoing reader.old }
+    requires room { 2 + length (records_left reader.old) < 2 ^ 64 }
+    ensures ok { OnOk result (read_from (records_left reader.old) 2 (database_of tables.old) ≡ Ok (database_of tables.new)) }
+    ensures err { IfErr result (λ e. StopsBy e (read_from (records_left reader.old) 2 (database_of tables.old))) }
+{
+    let mut number = 2;
+    while next_record(reader, fields)? {
+        if has_text(fields, 0, b"E") {
+            if !counts(number, fields) {
+                return Err(LoadError::BadRecord(number));
+            }
+            return end(reader, fields, number + 1);
+        }
+        place(tables, number, fields)?;
+        number += 1;
+    }
+    Err(LoadError::Truncated)
+}
+
+/// The tables of a text, unchecked.
+#[tactic(auto, unfolding(crate::specs::Image::read_all))]
+pub(crate) fn read_tables(alloc: Global, text: &[u8]) -> Result<Tables, LoadError>
+    requires { length text.now < 2 ^ 32 }
+    ensures ok { IfOk result (λ tables. read_all (records_in text.now) ≡ Ok (database_of tables)) }
+    ensures err { IfErr result (λ e. StopsBy e (read_all (records_in text.now))) }
+{
+    let mut reader = records_of(alloc, text);
+    let mut fields = ByteRecord::new(alloc);
+    if !next_record(&mut reader, &mut fields)? {
+        return Err(LoadError::Truncated);
+    }
+    if !is_first(&fields) {
+        return Err(LoadError::BadRecord(1));
+    }
+    let mut tables = Tables::new(alloc);
+    read_rest(&mut reader, &mut fields, &mut tables)?;
+    Ok(tables)
+}

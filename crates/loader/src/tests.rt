@@ -1,0 +1,65 @@
+//! What no clause says: that images load with ample memory, and that the definitions say what the format says.
+mod ends;
+mod faults;
+mod fields;
+mod images;
+mod sources;
+
+use crate::{LoadError, load};
+use requests::BytesSource;
+use std::alloc::{AllocError, Global};
+
+/// A warehouse with its ten districts, a customer of each credit, and a payment's record.
+const IMAGE: [&str; 16] = [
+    "eve-tpcc,1",
+    "W,1,W1,1000,30000000",
+    "D,1,1,D1,500,3000000,1",
+    "D,1,2,D2,500,3000000,1",
+    "D,1,3,D3,500,3000000,1",
+    "D,1,4,D4,500,3000000,1",
+    "D,1,5,D5,500,3000000,1",
+    "D,1,6,D6,500,3000000,1",
+    "D,1,7,D7,500,3000000,1",
+    "D,1,8,D8,500,3000000,1",
+    "D,1,9,D9,500,3000000,1",
+    "D,1,10,D10,500,3000000,1",
+    "C,1,1,1,NAME1,OE,F9,GC,1000,-1000,1000,1,0,",
+    "C,1,1,10,NAME0,OE,F9,BC,1000,-1000,1000,1,0,x",
+    "H,5,10,1,1,2,1,7,100,W1    D2",
+    "E,14",
+];
+
+/// The text of the image's records, the one at `place` replaced. What stands there may be several records, or none.
+fn text_with(alloc: Global, place: usize, replacement: &[u8]) -> Result<Vec<u8>, AllocError> {
+    let mut text = Vec::new(alloc);
+    for (i, record) in IMAGE.iter().enumerate() {
+        let record = if i == place {
+            replacement
+        } else {
+            record.as_bytes()
+        };
+        text.extend_from_slice(record)?;
+        text.push(b'\n')?;
+    }
+    Ok(text)
+}
+
+/// The fault of a text, None where it loads.
+fn fault_of(alloc: Global, text: &[u8]) -> Option<LoadError> {
+    load(alloc, &mut BytesSource::new(text, 1000)).err()
+}
+
+/// The fault of the image with the record at `place` replaced.
+fn fault_with(
+    alloc: Global,
+    place: usize,
+    replacement: &[u8],
+) -> Result<Option<LoadError>, AllocError> {
+    let text = text_with(alloc, place, replacement)?;
+    Ok(fault_of(alloc, text.as_slice()))
+}
+
+/// The number of the record at a place.
+fn number_of(place: usize) -> u64 {
+    (place as u64).saturating_add(1)
+}

@@ -1,0 +1,69 @@
+-- The batches that a text holds.
+use Rattle.std.specs.Prelude.{◌≡◌, ◌⊎◌, ◌==◌, ◌+◌, ◌∷◌, ◌++◌, [], ℕ, List, length, Result, Ok, Err, if◌then◌else◌}
+use Rattle.requests.specs.BatchRecords.{head_at, request_at}
+use Rattle.requests.specs.Fields.{Fields}
+use Rattle.requests.specs.Records.{records_in}
+use Rattle.requests.specs.declared.batch_record.BatchHead.{BatchHead}
+use Rattle.requests.specs.declared.request.Batch.{Batch}
+use Rattle.requests.specs.declared.request.Request.{Request}
+use Rattle.requests.specs.declared.fault.Slip.{Slip}
+use Rattle.requests.specs.declared.fault.Slip.TheVariants as slip
+use Rattle.requests.specs.declared.fault.ReadError.{ReadError}
+use Rattle.requests.specs.declared.fault.ReadError.TheVariants as err
+
+-- how an input ends: where a batch would begin, or with a fault
+pub data End : Type 0 where
+  clean : End
+  fault : ReadError → End
+
+-- the fault of the record of this number
+abbrev pub fault_of : ℕ → Slip → ReadError
+fault_of n slip.BadField = err.BadField n
+fault_of n slip.WrongCount = err.WrongCount n
+fault_of n slip.OutOfRange = err.OutOfRange n
+fault_of n slip.UnknownKind = err.UnknownKind n
+fault_of n slip.BatchTooLong = err.BatchTooLong n
+
+-- the batches, and the end after them
+abbrev pub Reading : Type 0
+Reading = List Batch × End
+
+abbrev pub with_front : Batch → Reading → Reading
+with_front batch reading = (batch ∷ reading.0, reading.1)
+
+-- between batches, or within one of which these requests were read
+pub data Place : Type 0 where
+  between : Place
+  within : BatchHead → List Request → Place
+
+abbrev pub batch_of : BatchHead → List Request → Batch
+batch_of head requests = record { moment = head.moment; verdict = head.verdict; requests = requests }
+
+-- a batch with as many requests as its count is whole, and what follows goes on from there
+abbrev pub settled : BatchHead → List Request → (Place → Reading) → Reading
+settled head requests rest = if length requests == head.count then with_front (batch_of head requests) (rest between) else rest (within head requests)
+
+-- the record of this number begins a batch
+abbrev pub begun : ℕ → Result BatchHead Slip → (Place → Reading) → Reading
+begun n (Ok head) rest = settled head [] rest
+begun n (Err e) rest = ([], fault (fault_of n e))
+
+-- the record of this number is the batch's next request
+abbrev pub continued : ℕ → BatchHead → List Request → Result Request Slip → (Place → Reading) → Reading
+continued n head requests (Ok request) rest = settled head (requests ++ request ∷ []) rest
+continued n head requests (Err e) rest = ([], fault (fault_of n e))
+
+-- what these records say, from the one of this number on
+unfoldable pub reading_from : List Fields → ℕ → Place → Reading
+reading_from [] n between = ([], clean)
+reading_from [] n (within head requests) = ([], fault (err.WrongCount n))
+reading_from (r ∷ rs) n between = begun n (head_at r) (reading_from rs (n + 1))
+reading_from (r ∷ rs) n (within head requests) = continued n head requests (request_at r) (reading_from rs (n + 1))
+
+-- the batches of a text, whose records are numbered from 1
+abbrev pub batches : List ℕ → Reading
+batches bytes = reading_from (records_in bytes) 1 between
+
+-- a reading stopped with this fault, or for want of memory
+abbrev pub StopsBy : ReadError → Reading → Type 0
+StopsBy e reading = (e ≡ err.Memory) ⊎ (reading ≡ ([], fault e))

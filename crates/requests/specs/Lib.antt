@@ -1,0 +1,12 @@
+pub mod Kinds
+pub mod Lines
+pub mod Faults
+pub mod Ends
+pub mod Fields
+pub mod Records
+pub mod Spelling
+pub mod BatchRecords
+pub mod Batches
+pub mod Reader
+pub mod Replies
+pub mod BatchText

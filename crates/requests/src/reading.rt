@@ -1,0 +1,108 @@
+//! A batch, read from the records that a text has left.
+ghost use Rattle.std.specs.Prelude.{◌≡◌, ◌+◌, ◌<◌, ◌^◌, ◌++◌, ◌∷◌, [], List, length, IfOk, IfErr, IfSome, IfNone, OnSome, OnOk};
+ghost use Rattle.requests.specs.Batches.{StopsBy, between, clean, fault_of, reading_from, settled, with_front, within};
+ghost use Rattle.requests.specs.Records.{IsGoing, records_left};
+ghost use Rattle.requests.specs.declared.batch_record.BatchHead.{BatchHead};
+ghost use Rattle.requests.specs.declared.request.Request.{Request};
+
+use crate::batch_record::{BatchHead, batch_head};
+use crate::fault::{ReadError, Slip};
+use crate::records::next_record;
+use crate::request::{Batch, Request, Requests};
+use crate::request_record::request;
+use csv::{ByteRecord, Reader};
+use std::alloc::Global;
+
+fn fault(number: u64, slip: Slip) -> ReadError
+    ensures { result ≡ fault_of number slip }
+{
+    match slip {
+        Slip::BadField => ReadError::BadField(number),
+        Slip::WrongCount => ReadError::WrongCount(number),
+        Slip::OutOfRange => ReadError::OutOfRange(number),
+        Slip::UnknownKind => ReadError::UnknownKind(number),
+        Slip::BatchTooLong => ReadError::BatchTooLong(number),
+    }
+}
+
+/// The first record of the next batch, if there is one. `number` is that of the next record.
+#[tactic(auto, unfolding(crate::specs::Batches::reading_from))]
+fn read_head(
+    reader: &mut Reader<&[u8]>,
+    fields: &mut ByteRecord,
+    number: &mut u64,
+) -> Result<Option<BatchHead>, ReadError>
+    requires going { IsGoing reader.old }
+    requires room { number.old + length (records_left reader.old) < 2 ^ 64 }
+    ensures going { IfOk result (λ o. OnSome o (IsGoing reader.new)) }
+    ensures room { IfOk result (λ o. OnSome o (number.new + length (records_left reader.new) < 2 ^ 64)) }
+    ensures head { IfOk result (λ o. IfSome o (λ h. reading_from (records_left reader.old) number.old between ≡ settled h [] (reading_from (records_left reader.new) number.new))) }
+    ensures end { IfOk result (λ o. IfNone o (reading_from (records_left reader.old) number.old between ≡ ([], clean))) }
+    ensures err { IfErr result (λ e. StopsBy e (reading_from (records_left reader.old) number.old between)) }
+{
+    if !next_record(reader, fields)? {
+        return Ok(None);
+    }
+    match batch_head(fields) {
+        Ok(head) => {
+            *number += 1;
+            Ok(Some(head))
+        }
+        Err(slip) => Err(fault(*number, slip)),
+    }
+}
+
+/// The next request of a batch.
+#[tactic(auto, unfolding(crate::specs::Batches::reading_from))]
+fn read_request(
+    reader: &mut Reader<&[u8]>,
+    fields: &mut ByteRecord,
+    number: &mut u64,
+) -> Result<Request, ReadError>
+    requires going { IsGoing reader.old }
+    requires room { number.old + length (records_left reader.old) < 2 ^ 64 }
+    ensures going { OnOk result (IsGoing reader.new) }
+    ensures room { OnOk result (number.new + length (records_left reader.new) < 2 ^ 64) }
+    ensures request { IfOk result (λ q. (h : BatchHead) (qs : List Request) → reading_from (records_left reader.old) number.old (within h qs) ≡ settled h (qs ++ q ∷ []) (reading_from (records_left reader.new) number.new)) }
+    ensures err { IfErr result (λ e. (h : BatchHead) (qs : List Request) → StopsBy e (reading_from (records_left reader.old) number.old (within h qs))) }
+{
+    if !next_record(reader, fields)? {
+        return Err(ReadError::WrongCount(*number));
+    }
+    match request(fields) {
+        Ok(request) => {
+            *number += 1;
+            Ok(request)
+        }
+        Err(slip) => Err(fault(*number, slip)),
+    }
+}
+
+/// The next batch, if there is one. `number` is that of the next record.
+pub(crate) fn read_batch(
+    alloc: Global,
+    reader: &mut Reader<&[u8]>,
+    fields: &mut ByteRecord,
+    number: &mut u64,
+) -> Result<Option<Batch>, ReadError>
+    requires going { IsGoing reader.old }
+    requires room { number.old + length (records_left reader.old) < 2 ^ 64 }
+    ensures going { IfOk result (λ o. OnSome o (IsGoing reader.new)) }
+    ensures room { IfOk result (λ o. OnSome o (number.new + length (records_left reader.new) < 2 ^ 64)) }
+    ensures batch { IfOk result (λ o. IfSome o (λ b. reading_from (records_left reader.old) number.old between ≡ with_front b (reading_from (records_left reader.new) number.new between))) }
+    ensures end { IfOk result (λ o. IfNone o (reading_from (records_left reader.old) number.old between ≡ ([], clean))) }
+    ensures err { IfErr result (λ e. StopsBy e (reading_from (records_left reader.old) number.old between)) }
+{
+    let Some(head) = read_head(reader, fields, number)? else {
+        return Ok(None);
+    };
+    let mut requests = Vec::new(alloc);
+    for _ in 0..head.count {
+        requests.push(read_request(reader, fields, number)?)?;
+    }
+    Ok(Some(Batch {
+        moment: head.moment,
+        verdict: head.verdict,
+        requests: Requests::new(requests),
+    }))
+}

@@ -1,0 +1,223 @@
+//! What is answered to requests.
+ghost use Rattle.std.specs.Prelude.{◌≡◌, ◌<◌, ◌≤◌, [], ◌∷◌, ◌++◌, length};
+
+use crate::request::RequestKind;
+use arrayvec::ArrayVec;
+use std::marker::Model;
+use tpcc_rows::id::{CustomerId, ItemId, OrderId, WarehouseId};
+use tpcc_rows::number::{Amount, Carrier, Cents, LineQuantity, Moment, StockQuantity};
+use tpcc_rows::text::Text;
+
+/// Why a request changes nothing.
+#[derive(Clone, Copy, Debug, PartialEq, Eq)]
+pub enum Refusal {
+    /// A new order names an item that isn't there (TPC-C clause 2.4.2.3).
+    ItemNotValid,
+    /// A warehouse, a district, a customer or a stock isn't there.
+    UnknownKey,
+    /// A column would leave its limits.
+    LimitReached,
+}
+
+/// `Brand` where the item's data and the stock's data both name it so, else `Generic` (TPC-C clause 2.4.2.2).
+#[derive(Clone, Copy, Debug, PartialEq, Eq)]
+pub enum Brand {
+    Brand,
+    Generic,
+}
+
+/// What is answered for one line of a new order: what the stock then has, and what the line costs.
+#[derive(Clone, Copy, Debug, PartialEq, Eq)]
+pub struct LineReply {
+    pub stock: StockQuantity,
+    pub brand: Brand,
+    pub amount: Amount,
+}
+
+/// What fills a list's places that are not in use.
+impl Default for LineReply {
+    fn default() -> LineReply {
+        LineReply {
+            stock: StockQuantity::new(0).unwrap(),
+            brand: Brand::Generic,
+            amount: Amount::new(0).unwrap(),
+        }
+    }
+}
+
+/// What is answered for the lines of a new order: at most 15.
+#[derive(Drop)]
+pub struct LineReplies {
+    lines: ArrayVec<LineReply, 15>,
+}
+
+impl Model for LineReplies {
+    ghost use Rattle.std.specs.Prelude.{List, length, ◌≤◌};
+    ghost use Rattle.requests.specs.declared.reply.LineReply.{LineReply};
+
+    ghost Value = { List LineReply };
+
+    ghost view = { λ x. x.lines.items };
+
+    ghost invariant = { λ x. length x.lines.items ≤ 15 };
+}
+
+impl LineReplies {
+    /// No line.
+    pub fn new() -> LineReplies
+        ensures { result ≡ [] }
+    {
+        LineReplies {
+            lines: ArrayVec::new(),
+        }
+    }
+
+    /// One line more.
+    pub fn push(&mut self, line: LineReply)
+        requires { length self.old < 15 }
+        ensures { self.new ≡ self.old ++ line ∷ [] }
+    {
+        self.lines.push(line);
+    }
+
+    pub fn as_slice(&self) -> &[LineReply]
+        ensures value { result.now ≡ self.now }
+        ensures fits { length result.now ≤ 15 }
+    {
+        self.lines.as_slice()
+    }
+}
+
+/// What is answered to a new order.
+#[derive(Drop)]
+pub struct NewOrderReply {
+    pub order: OrderId,
+    pub total: Cents,
+    pub lines: LineReplies,
+}
+
+/// A customer's credit, C_CREDIT, and what is shown of C_DATA where it is bad (TPC-C clause 2.5.3.3).
+#[derive(Drop)]
+pub enum ShownCredit {
+    Good,
+    Bad { data: Text<200> },
+}
+
+/// What is answered to a payment.
+#[derive(Drop)]
+pub struct PaymentReply {
+    pub customer: CustomerId,
+    pub balance: Cents,
+    pub credit: ShownCredit,
+}
+
+/// One line of an order that is shown.
+#[derive(Clone, Copy, Debug, PartialEq, Eq)]
+pub struct ShownLine {
+    pub item: ItemId,
+    pub supply: WarehouseId,
+    pub quantity: LineQuantity,
+    pub amount: Amount,
+    pub delivery: Option<Moment>,
+}
+
+/// What fills a list's places that are not in use.
+impl Default for ShownLine {
+    fn default() -> ShownLine {
+        ShownLine {
+            item: ItemId::new(1).unwrap(),
+            supply: WarehouseId::new(1).unwrap(),
+            quantity: LineQuantity::new(0).unwrap(),
+            amount: Amount::new(0).unwrap(),
+            delivery: None,
+        }
+    }
+}
+
+/// The lines of an order that is shown: at most 15.
+#[derive(Drop)]
+pub struct ShownLines {
+    lines: ArrayVec<ShownLine, 15>,
+}
+
+impl Model for ShownLines {
+    ghost use Rattle.std.specs.Prelude.{List, length, ◌≤◌};
+    ghost use Rattle.requests.specs.declared.reply.ShownLine.{ShownLine};
+
+    ghost Value = { List ShownLine };
+
+    ghost view = { λ x. x.lines.items };
+
+    ghost invariant = { λ x. length x.lines.items ≤ 15 };
+}
+
+impl ShownLines {
+    /// No line.
+    pub fn new() -> ShownLines
+        ensures { result ≡ [] }
+    {
+        ShownLines {
+            lines: ArrayVec::new(),
+        }
+    }
+
+    /// One line more.
+    pub fn push(&mut self, line: ShownLine)
+        requires { length self.old < 15 }
+        ensures { self.new ≡ self.old ++ line ∷ [] }
+    {
+        // The read lets the proof of the call know the type of this field.
+        let _delivery = line.delivery;
+        self.lines.push(line);
+    }
+
+    pub fn as_slice(&self) -> &[ShownLine]
+        ensures value { result.now ≡ self.now }
+        ensures fits { length result.now ≤ 15 }
+    {
+        self.lines.as_slice()
+    }
+}
+
+/// The last order of a customer. Without a carrier it wasn't delivered yet.
+#[derive(Drop)]
+pub struct ShownOrder {
+    pub order: OrderId,
+    pub entry: Moment,
+    pub carrier: Option<Carrier>,
+    pub lines: ShownLines,
+}
+
+/// What is answered to a question for the last order, which may not be there.
+#[derive(Drop)]
+pub struct OrderStatusReply {
+    pub customer: CustomerId,
+    pub first: Text<16>,
+    pub middle: Text<2>,
+    pub last: Text<16>,
+    pub balance: Cents,
+    pub order: Option<ShownOrder>,
+}
+
+/// What is answered to a delivery: by district from the first, the order that was delivered, if there was one.
+#[derive(Clone, Copy, Debug, PartialEq, Eq)]
+pub struct DeliveryReply {
+    pub orders: [Option<OrderId>; 10],
+}
+
+/// What is answered to the question for low stocks: how many items.
+#[derive(Clone, Copy, Debug, PartialEq, Eq)]
+pub struct StockLevelReply {
+    pub low_stock: u32,
+}
+
+/// What is answered to a request.
+#[derive(Drop)]
+pub enum Reply {
+    NewOrder(NewOrderReply),
+    Payment(PaymentReply),
+    OrderStatus(OrderStatusReply),
+    Delivery(DeliveryReply),
+    StockLevel(StockLevelReply),
+    Refused { kind: RequestKind, refusal: Refusal },
+}

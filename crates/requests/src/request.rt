@@ -1,0 +1,221 @@
+//! What clients ask: the five transactions' inputs, and batches of them.
+ghost use Rattle.std.specs.Prelude.{◌≡◌, ◌==◌, Some, length};
+ghost use Rattle.requests.specs.Kinds.{kind_of};
+ghost use Rattle.requests.specs.Lines.{ordered_lines_of};
+ghost use Rattle.tpcc_rows.specs.Limits.{IsBetween};
+
+use crate::number::{OrderedQuantity, PaymentAmount, Threshold};
+use arrayvec::ArrayVec;
+use std::marker::Model;
+use tpcc_rows::id::{CustomerId, DistrictId, ItemId, WarehouseId};
+use tpcc_rows::number::{Carrier, Moment};
+use tpcc_rows::text::Text;
+
+/// A customer by its number or by its last name (TPC-C clauses 2.5.1.2 and 2.6.1.2).
+#[derive(Drop)]
+pub enum CustomerChoice {
+    Number(CustomerId),
+    LastName(Text<16>),
+}
+
+/// One line of a new order: which item, out of which warehouse's stock, and how many.
+#[derive(Clone, Copy, Debug, PartialEq, Eq)]
+pub struct OrderedLine {
+    pub item: ItemId,
+    pub supply: WarehouseId,
+    pub quantity: OrderedQuantity,
+}
+
+/// What fills a list's places that are not in use: one of item 1, out of warehouse 1.
+impl Default for OrderedLine {
+    fn default() -> OrderedLine {
+        OrderedLine {
+            item: ItemId::new(1).unwrap(),
+            supply: WarehouseId::new(1).unwrap(),
+            quantity: OrderedQuantity::new(1).unwrap(),
+        }
+    }
+}
+
+/// The lines of a new order: 5 to 15 (TPC-C clause 2.4.1.3).
+#[derive(Drop)]
+pub struct OrderedLines {
+    lines: ArrayVec<OrderedLine, 15>,
+}
+
+impl Model for OrderedLines {
+    ghost use Rattle.std.specs.Prelude.{List, length};
+    ghost use Rattle.tpcc_rows.specs.Limits.{IsBetween};
+    ghost use Rattle.requests.specs.declared.request.OrderedLine.{OrderedLine};
+
+    ghost Value = { List OrderedLine };
+
+    ghost view = { λ x. x.lines.items };
+
+    ghost invariant = { λ x. IsBetween 5 15 (length x.lines.items) };
+}
+
+impl OrderedLines {
+    /// None where they are fewer than 5 or more than 15.
+    pub fn new(lines: &[OrderedLine]) -> Option<OrderedLines>
+        ensures { result ≡ ordered_lines_of lines.now }
+    {
+        if lines.len() < 5 {
+            return None;
+        }
+        let mut places = ArrayVec::new();
+        match places.try_extend_from_slice(lines) {
+            Ok(()) => Some(OrderedLines { lines: places }),
+            Err(_) => None,
+        }
+    }
+
+    pub fn as_slice(&self) -> &[OrderedLine]
+        ensures value { result.now ≡ self.now }
+        ensures range { IsBetween 5 15 (length result.now) }
+    {
+        self.lines.as_slice()
+    }
+}
+
+/// An order of 5 to 15 items by a customer (TPC-C clause 2.4.1).
+#[derive(Drop)]
+pub struct NewOrder {
+    pub warehouse: WarehouseId,
+    pub district: DistrictId,
+    pub customer: CustomerId,
+    pub lines: OrderedLines,
+}
+
+/// A payment by a customer, who may be of another district, also of another warehouse (TPC-C clause 2.5.1).
+#[derive(Drop)]
+pub struct Payment {
+    pub warehouse: WarehouseId,
+    pub district: DistrictId,
+    pub customer_warehouse: WarehouseId,
+    pub customer_district: DistrictId,
+    pub customer: CustomerChoice,
+    pub amount: PaymentAmount,
+}
+
+/// A customer's question for the last order (TPC-C clause 2.6.1).
+#[derive(Drop)]
+pub struct OrderStatus {
+    pub warehouse: WarehouseId,
+    pub district: DistrictId,
+    pub customer: CustomerChoice,
+}
+
+/// The delivery of the oldest new order of each district of a warehouse (TPC-C clause 2.7.1).
+#[derive(Clone, Copy, Debug, PartialEq, Eq)]
+pub struct Delivery {
+    pub warehouse: WarehouseId,
+    pub carrier: Carrier,
+}
+
+/// The question how many of the items that a district sold lately are low in stock (TPC-C clause 2.8.1).
+#[derive(Clone, Copy, Debug, PartialEq, Eq)]
+pub struct StockLevel {
+    pub warehouse: WarehouseId,
+    pub district: DistrictId,
+    pub threshold: Threshold,
+}
+
+/// What a client asks: one of the five transactions.
+#[derive(Drop)]
+pub enum Request {
+    NewOrder(NewOrder),
+    Payment(Payment),
+    OrderStatus(OrderStatus),
+    Delivery(Delivery),
+    StockLevel(StockLevel),
+}
+
+/// Which of the five transactions.
+#[derive(Clone, Copy, Debug, PartialEq, Eq)]
+pub enum RequestKind {
+    NewOrder,
+    Payment,
+    OrderStatus,
+    Delivery,
+    StockLevel,
+}
+
+impl Request {
+    pub fn kind(&self) -> RequestKind
+        ensures { result ≡ kind_of self.now }
+    {
+        match self {
+            Request::NewOrder(_) => RequestKind::NewOrder,
+            Request::Payment(_) => RequestKind::Payment,
+            Request::OrderStatus(_) => RequestKind::OrderStatus,
+            Request::Delivery(_) => RequestKind::Delivery,
+            Request::StockLevel(_) => RequestKind::StockLevel,
+        }
+    }
+}
+
+/// What the replicas agreed on for a batch: that its execution stands, or that it is executed once more, one
+/// request after the other.
+#[derive(Clone, Copy, Debug, PartialEq, Eq)]
+pub enum Verdict {
+    Commit,
+    Rerun,
+}
+
+/// Requests in their order.
+#[derive(Drop)]
+pub struct Requests {
+    requests: Vec<Request>,
+}
+
+impl Model for Requests {
+    ghost use Rattle.std.specs.Prelude.{List};
+    ghost use Rattle.requests.specs.declared.request.Request.{Request};
+
+    ghost Value = { List Request };
+
+    ghost view = { λ x. x.requests.items };
+}
+
+impl Requests {
+    pub fn new(requests: Vec<Request>) -> Requests
+        ensures { result ≡ requests.items }
+    {
+        Requests { requests }
+    }
+
+    pub fn as_slice(&self) -> &[Request]
+        ensures { result.now ≡ self.now }
+    {
+        self.requests.as_slice()
+    }
+
+    pub fn len(&self) -> usize
+        ensures { result ≡ length self.now }
+    {
+        self.requests.len()
+    }
+
+    pub fn is_empty(&self) -> bool
+        ensures { result ≡ (length self.now == 0) }
+    {
+        self.requests.is_empty()
+    }
+
+    /// The requests, moved out.
+    pub fn into_vec(self) -> Vec<Request>
+        ensures { result.items ≡ self }
+    {
+        let Requests { requests } = self;
+        requests
+    }
+}
+
+/// Requests that are executed together, at one moment.
+#[derive(Drop)]
+pub struct Batch {
+    pub moment: Moment,
+    pub verdict: Verdict,
+    pub requests: Requests,
+}
