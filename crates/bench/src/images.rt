@@ -1,8 +1,32 @@
 //! Images and batches to measure with.
 use std::alloc::{AllocError, Global};
 
+/// What the customers of an image have as C_DATA.
+#[derive(Clone, Copy, Debug, PartialEq, Eq)]
+pub enum Population {
+    /// 300 to 500 characters each, as TPC-C clause 4.3.3.1 fills a database.
+    Standard,
+    /// 500 characters for bad credit, which every tenth has, and none for good credit.
+    Sparse,
+}
+
+impl Population {
+    /// How many characters of C_DATA a customer has.
+    fn characters(self, customer: u32) -> usize {
+        match self {
+            Population::Standard => 300 + (customer as usize).wrapping_mul(7) % 201,
+            Population::Sparse => if customer % 10 == 0 { 500 } else { 0 },
+        }
+    }
+}
+
 /// An image of so many warehouses, with so many customers in each district, every tenth of bad credit.
-pub fn image(alloc: Global, warehouses: u32, customers: u32) -> Result<Vec<u8>, AllocError> {
+pub fn image(
+    alloc: Global,
+    warehouses: u32,
+    customers: u32,
+    population: Population,
+) -> Result<Vec<u8>, AllocError> {
     let mut text = b"eve-tpcc,1\n".to_vec(alloc)?;
     let mut count = 0u64;
     for w in 1..warehouses.saturating_add(1) {
@@ -12,7 +36,9 @@ pub fn image(alloc: Global, warehouses: u32, customers: u32) -> Result<Vec<u8>, 
         for d in 1..11u32 {
             let line = format!(in alloc; "D,{w},{d},D{d},500,3000000,1\n")?;
             text.extend_from_slice(line.as_bytes())?;
-            add_customers(alloc, &mut text, w, d, customers)?;
+            for c in 1..customers.saturating_add(1) {
+                add_customer(alloc, &mut text, (w, d, c), population)?;
+            }
             count = count.saturating_add(u64::from(customers)).saturating_add(1);
         }
     }
@@ -21,28 +47,20 @@ pub fn image(alloc: Global, warehouses: u32, customers: u32) -> Result<Vec<u8>, 
     Ok(text)
 }
 
-fn add_customers(
+fn add_customer(
     alloc: Global,
     text: &mut Vec<u8>,
-    w: u32,
-    d: u32,
-    customers: u32,
+    (w, d, c): (u32, u32, u32),
+    population: Population,
 ) -> Result<(), AllocError> {
     let data = [b'x'; 500];
-    for c in 1..customers.saturating_add(1) {
-        let is_bad = c % 10 == 0;
-        let credit = if is_bad { "BC" } else { "GC" };
-        let name = c % 10;
-        let line = format!(in alloc;
-            "C,{w},{d},{c},NAME{name},OE,F9,{credit},1000,-1000,1000,1,0,"
-        )?;
-        text.extend_from_slice(line.as_bytes())?;
-        if is_bad {
-            text.extend_from_slice(&data)?;
-        }
-        text.extend_from_slice(b"\n")?;
-    }
-    Ok(())
+    let credit = if c % 10 == 0 { "BC" } else { "GC" };
+    let name = c % 10;
+    let line = format!(in alloc; "C,{w},{d},{c},NAME{name},OE,F9,{credit},1000,-1000,1000,1,0,")?;
+    text.extend_from_slice(line.as_bytes())?;
+    let length = population.characters(c).min(500);
+    text.extend_from_slice(&data[..length])?;
+    text.extend_from_slice(b"\n")
 }
 
 /// So many batches of so many payments, by customers 1 to 3,000 of the districts of warehouse 1 in turn.

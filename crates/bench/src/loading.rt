@@ -1,5 +1,5 @@
 //! Loading an image against reading the same bytes by `csv` alone.
-use crate::images::image;
+use crate::images::{Population, image};
 use crate::timing::print_ratio;
 use csv::{ByteRecord, ReaderBuilder};
 use loader::load;
@@ -42,15 +42,32 @@ fn read_and_load(rt: &(impl Clock + AllocGlobal), text: &[u8]) -> io::Result<Dur
     }
 }
 
-/// An image with 100,000 customers, the best of five.
-pub fn measure(rt: &(impl Clock + Eprint + AllocGlobal)) -> io::Result<()> {
-    let text = image(rt.alloc(), 4, 2500)?;
+fn measure_population(
+    rt: &(impl Clock + Eprint + AllocGlobal),
+    what: &str,
+    population: Population,
+) -> io::Result<()> {
+    let text = image(rt.alloc(), 4, 2500, population)?;
     let mut alone = read_alone(rt, text.as_slice())?;
     let mut loaded = read_and_load(rt, text.as_slice())?;
     for _ in 0..4 {
         alone = alone.min(read_alone(rt, text.as_slice())?);
         loaded = loaded.min(read_and_load(rt, text.as_slice())?);
     }
-    print_ratio(rt, "load of 100,000 customers", loaded, "csv alone", alone);
+    print_ratio(rt, what, loaded, "csv alone", alone);
     Ok(())
+}
+
+/// Images with 100,000 customers, each the best of five.
+pub fn measure(rt: &(impl Clock + Eprint + AllocGlobal)) -> io::Result<()> {
+    measure_population(
+        rt,
+        "load of 100,000 customers as the standard fills them",
+        Population::Standard,
+    )?;
+    measure_population(
+        rt,
+        "load of 100,000 customers with little data",
+        Population::Sparse,
+    )
 }

@@ -1,5 +1,5 @@
 //! Payments from bytes to bytes against reading their batches and writing their replies alone.
-use crate::images::{image, payments};
+use crate::images::{Population, image, payments};
 use crate::timing::print_ratio;
 use requests::{
     BatchReader, BytesSink, BytesSource, PaymentReply, Reply, ShownCredit, write_reply,
@@ -75,7 +75,7 @@ fn whole(rt: &(impl Clock + AllocGlobal), image: &[u8], text: &[u8]) -> io::Resu
 
 /// Payments through the engine, less what the same run takes with no batch, the best of five.
 pub fn measure(rt: &(impl Clock + Eprint + AllocGlobal)) -> io::Result<()> {
-    let image = image(rt.alloc(), 1, 3000)?;
+    let image = image(rt.alloc(), 1, 3000, Population::Standard)?;
     let text = payments(rt.alloc(), BATCHES, SIZE)?;
     let mut alone = ends_alone(rt, text.as_slice())?;
     let mut empty = whole(rt, image.as_slice(), b"")?;

@@ -4,11 +4,7 @@ use Rattle.std.specs.declared.cmp.Ordering.{Ordering}
 use Rattle.std.specs.FinMap.{FinMap}
 use Rattle.serializability.specs.Folds.{Step, fold_rows, fold_replies}
 
--- at one machine: what more requests do is what they do on the rows that the first ones leave
+-- what more requests do is what they do on the rows that the first ones leave
 pub record FoldsInTwoAt {K : Type 0} {R : K → K → Ordering} {V Q A : Type 0} (step : Step R V Q A) (rows : FinMap R V) (number : ℕ) (first more : List Q) : Type 0 where
   pub rows_after : fold_rows step rows number (first ++ more) ≡ fold_rows step (fold_rows step rows number first) (number + length first) more
   pub replies : fold_replies step rows number (first ++ more) ≡ fold_replies step rows number first ++ fold_replies step (fold_rows step rows number first) (number + length first) more
-
--- the same of machines whose keys, rows, requests and replies are coded as numbers
-abbrev pub FoldsInTwo : Type 0
-FoldsInTwo = (R : ℕ → ℕ → Ordering) (step : Step R ℕ ℕ ℕ) (rows : FinMap R ℕ) (number : ℕ) (first more : List ℕ) → FoldsInTwoAt step rows number first more
