@@ -1,14 +1,12 @@
 -- The faults that a text can have.
-use Rattle.std.proofs.Common.{◌≡◌, ◌⊎◌, ◌+◌, ◌∙◌, ℕ, List, [], ◌∷◌, Bool, true, false, cond, Result, Ok, Err, refl, sym, subst, inl, inr}
-use Rattle.std.proofs.lemmas.Bool.{cases_Bool}
+use Rattle.std.proofs.Common.{◌+◌, ℕ, List, [], ◌∷◌, Bool, true, false, cond, Result, Ok, Err, sym, subst, inl, inr}
 use Rattle.requests.specs.Fields.{Fields}
 use Rattle.requests.specs.Records.{records_in}
 use Rattle.requests.specs.declared.fault.Slip.{Slip}
 use Rattle.requests.specs.declared.fault.Slip.TheVariants as slip
 use Rattle.tpcc_model.specs.Database.{Database}
-use Rattle.loader.specs.Checks.{checked, next_orders_agree, parents_there, ytds_agree}
 use Rattle.loader.specs.Faults.{IsOfText, StopsBy, fault_of}
-use Rattle.loader.specs.Image.{counts, ended, image, is_end, is_first, placed, read_all, read_from, tested}
+use Rattle.loader.specs.Image.{counts, ended, is_end, is_first, placed, read_all, read_from}
 use Rattle.loader.specs.ImageRecords.{record_at}
 use Rattle.loader.specs.Tables.{is_taken, no_tables, with_record}
 use Rattle.loader.specs.declared.fault.LoadError.{LoadError}

@@ -1,8 +1,7 @@
 -- What is read from a field is within its limits.
-use Rattle.std.proofs.Common.{◌≡◌, ◌≤◌, ◌≤ℤ◌, ◌-ℤ◌, ℕ, ℤ, pos, negsuc, List, [], ◌∷◌, ◌&&◌, Bool, true, false, cond, Option, Some, None, Result, Ok, Err, refl, subst, arith, inl, inr}
+use Rattle.std.proofs.Common.{◌≡◌, ◌-ℤ◌, ℕ, pos, List, [], ◌∷◌, ◌&&◌, Bool, true, false, cond, Option, Some, None, Result, Ok, Err, refl, arith, inl, inr}
 use Rattle.std.specs.Prelude.{IfOk, length, nat_le, ◌==◌, codes}
 use Rattle.std.specs.List.{list_all}
-use Rattle.std.specs.Option.{ok_or}
 use Rattle.std.specs.Str.{bytes_eq}
 use Rattle.std.specs.Str.Parse.{digits_value}
 use Rattle.std.proofs.lemmas.Int.{ints}

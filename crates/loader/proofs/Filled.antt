@@ -1,10 +1,10 @@
 -- Tables as they are filled: each value is within its limits, and a row that goes with a card is there with it.
-use Rattle.std.proofs.Common.{◌≡◌, ◌⊎◌, ◌∙◌, ℕ, Option, Some, None, IsSome, refl, sym, ap, subst, inl, inr}
+use Rattle.std.proofs.Common.{◌≡◌, ◌∙◌, ℕ, Option, Some, None, IsSome, refl, sym, subst, inl, inr}
 use Rattle.std.specs.Cmp.{IsTotalOrder}
 use Rattle.std.specs.FinMap.{FinMap, IsAntisymmetric, get, get-empty, insert}
 use Rattle.std.specs.declared.cmp.Ordering.{Ordering}
 use Rattle.catalog.specs.CardKinds.{card_key as own_key}
-use Rattle.catalog.specs.CardMap.{AreKeyed, Cards, card_key_cmp}
+use Rattle.catalog.specs.CardMap.{AreKeyed, card_key_cmp}
 use Rattle.catalog.specs.declared.card.Card.{Card}
 use Rattle.catalog.specs.declared.card.Card.TheVariants as card
 use Rattle.catalog.specs.declared.card.CardKey.{CardKey}
@@ -15,7 +15,7 @@ use Rattle.tpcc_model.specs.Database.{Database}
 use Rattle.tpcc_model.specs.Soundness.{IsCard, IsCustomerRow}
 use Rattle.tpcc_rows.specs.Limits.{IsBetween, IsCents}
 use Rattle.tpcc_rows.specs.Texts.{IsText}
-use Rattle.tpcc_rows.specs.RowMap.{Rows, row_key_cmp}
+use Rattle.tpcc_rows.specs.RowMap.{row_key_cmp}
 use Rattle.tpcc_rows.specs.declared.key.RowKey.{RowKey}
 use Rattle.tpcc_rows.specs.declared.key.RowKey.TheVariants as key
 use Rattle.tpcc_rows.specs.declared.row.HistoryRow.{HistoryRow}

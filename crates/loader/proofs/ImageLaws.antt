@@ -1,13 +1,12 @@
 -- The database of an image is sound.
-use Rattle.std.proofs.Common.{◌≡◌, ◌+◌, ℕ, List, [], ◌∷◌, Bool, true, false, cond, Result, Ok, Err, refl, subst, inl, inr}
+use Rattle.std.proofs.Common.{◌≡◌, ◌+◌, ℕ, List, [], ◌∷◌, Bool, true, false, not, cond, Result, Ok, Err, refl, subst}
 use Rattle.std.specs.Prelude.{IfOk}
-use Rattle.std.proofs.lemmas.Bool.{cases_Bool}
 use Rattle.requests.specs.Fields.{Fields}
 use Rattle.requests.specs.Records.{records_in}
 use Rattle.requests.specs.declared.fault.Slip.{Slip}
 use Rattle.tpcc_model.specs.Database.{Database}
 use Rattle.tpcc_model.specs.Soundness.{IsSound}
-use Rattle.loader.specs.Checks.{checked, next_orders_agree, parents_there, ytds_agree}
+use Rattle.loader.specs.Checks.{next_orders_agree, parents_there, ytds_agree}
 use Rattle.loader.specs.Image.{counts, ended, image, is_end, is_first, placed, read_all, read_from, tested}
 use Rattle.loader.specs.ImageRecords.{record_at}
 use Rattle.loader.specs.Tables.{is_taken, no_tables, with_record}
@@ -43,10 +42,17 @@ unfolding read_all
 read_all-filled [] = tt
 read_all-filled (r ∷ rs) = either IsFilled (is_first r) (read_from rs 2 no_tables) (Err (err.BadRecord 1)) (λ _. read_from-filled rs 2 no_tables filled-none) (λ _. tt)
 
+passed : (b : Bool) → not b ≡ false → b ≡ true
+passed true h = refl
+passed false h = cc
+
 tested-sound : (said : Result Database LoadError) → IfOk said IsFilled → IfOk (tested said) IsSound
 tested-sound (Err e) h = tt
-tested-sound (Ok db) h = either IsSound (parents_there db) _ _
-    (λ parents. either IsSound (ytds_agree db.rows) _ _ (λ ytds. either IsSound (next_orders_agree db.rows) (Ok db) (Err (err.Inconsistent 2)) (λ nexts. is-sound db h parents ytds nexts) (λ _. tt)) (λ _. tt)) (λ _. tt)
+tested-sound (Ok db) h =
+    either IsSound (not (parents_there db)) (Err err.MissingParent) _ (λ _. tt) (λ parents.
+    either IsSound (not (ytds_agree db.rows)) (Err (err.Inconsistent 1)) _ (λ _. tt) (λ ytds.
+    either IsSound (not (next_orders_agree db.rows)) (Err (err.Inconsistent 2)) (Ok db) (λ _. tt) (λ nexts.
+    is-sound db h (passed (parents_there db) parents) (passed (ytds_agree db.rows) ytds) (passed (next_orders_agree db.rows) nexts))))
 
 pub image-sound : (bytes : List ℕ) (db : Database) → image bytes ≡ Ok db → IsSound db
 image-sound bytes db is = subst (λ (said : Result Database LoadError). IfOk said IsSound) is (tested-sound (read_all (records_in bytes)) (read_all-filled (records_in bytes)))

@@ -1,5 +1,5 @@
 -- What a record says is within its limits.
-use Rattle.std.proofs.Common.{ℕ, ℤ, List, Bool, cond, Result, Ok, Err, inl, inr, true, false}
+use Rattle.std.proofs.Common.{ℕ, ℤ, List, Bool, cond, Result, Err, true, false}
 use Rattle.std.specs.Prelude.{IfOk, ◌==◌, length, codes}
 use Rattle.csv.specs.Records.{field_at}
 use Rattle.requests.specs.BatchRecords.{of_count}

@@ -1,6 +1,5 @@
 -- Filled tables that pass the tests are sound.
-use Rattle.std.proofs.Common.{◌≡◌, ◌≢◌, ◌⊎◌, ◌∙◌, ◌+◌, ◌-◌, ◌≤◌, ◌<◌, ℕ, zero, suc, ℤ, pos, ◌+ℤ◌, List, [], ◌∷◌, ◌&&◌, Bool, true, false, Option, Some, None, IsSome, IfSome, is_some, get_or, Result, Ok, Err, refl, sym, ap, ap₂, subst, inl, inr, arith}
-use Rattle.std.specs.Prelude.{IfOk, ◌==◌}
+use Rattle.std.proofs.Common.{◌≡◌, ◌∙◌, ◌+◌, ◌-◌, ◌<◌, ℕ, zero, suc, ℤ, pos, List, [], ◌∷◌, ◌&&◌, Bool, true, false, Option, Some, None, IsSome, IfSome, get_or, refl, sym, ap, inl, inr, arith}
 use Rattle.std.specs.List.{list_all}
 use Rattle.std.specs.Option.{option_and_then}
 use Rattle.std.specs.Ordering.{int_eq}
@@ -11,32 +10,28 @@ use Rattle.std.proofs.lemmas.Int.{ints}
 use Rattle.std.proofs.lemmas.List.Folds.{list_all_at}
 use Rattle.catalog.specs.CardKinds.{as_customer, as_district, as_item, as_stock, as_warehouse, card_key as own_key}
 use Rattle.catalog.specs.CardMap.{AreKeyed, Cards}
-use Rattle.catalog.specs.Lookups.{customer_card, district_card, item_card, stock_card, warehouse_card}
 use Rattle.catalog.specs.declared.card.Card.{Card}
 use Rattle.catalog.specs.declared.card.Card.TheVariants as card
 use Rattle.catalog.specs.declared.card.CardKey.{CardKey}
 use Rattle.catalog.specs.declared.card.CardKey.TheVariants as card_key
 use Rattle.catalog.proofs.CardKeys.{card_key_cmp_total, exact_cards}
-use Rattle.tpcc_model.specs.Conditions.{Condition1, HasNewOrder, HasOrder, IsConsistent, IsGreatest, IsGreatestOr0, IsLeast, district_share, line_share, new_order_share, promised_share}
+use Rattle.tpcc_model.specs.Conditions.{Condition1, HasNewOrder, HasOrder, IsConsistent, district_share, line_share, promised_share}
 use Rattle.tpcc_model.specs.Database.{Database}
 use Rattle.tpcc_model.specs.Soundness.{AreCards, HasCard, IsEntry, IsSound}
 use Rattle.tpcc_rows.specs.Limits.{IsBetween, ten}
 use Rattle.tpcc_rows.specs.RowKinds.{as_warehouse as row_as_warehouse}
 use Rattle.tpcc_rows.specs.RowMap.{Rows}
-use Rattle.tpcc_rows.specs.Rows.{warehouse_row}
 use Rattle.tpcc_rows.specs.Totals.{sum_entries, total}
 use Rattle.tpcc_rows.specs.declared.key.RowKey.{RowKey}
 use Rattle.tpcc_rows.specs.declared.key.RowKey.TheVariants as key
 use Rattle.tpcc_rows.specs.declared.row.DistrictRow.{DistrictRow}
-use Rattle.tpcc_rows.specs.declared.row.HistoryRow.{HistoryRow}
 use Rattle.tpcc_rows.specs.declared.row.Row.{Row}
 use Rattle.tpcc_rows.specs.declared.row.Row.TheVariants as row
 use Rattle.tpcc_rows.proofs.Keys.{exact_keys, row_key_cmp_total}
 use Rattle.tpcc_rows.proofs.Singles.{all-pass, and-left, and-right, passes}
-use Rattle.loader.specs.Checks.{card_has_parents, checked, next_order_agrees, next_orders_agree, parents_there, row_has_parents, ytd_agrees, ytds_agree}
+use Rattle.loader.specs.Checks.{card_has_parents, next_order_agrees, next_orders_agree, parents_there, row_has_parents, ytd_agrees, ytds_agree}
 use Rattle.loader.specs.Tables.{has_card}
-use Rattle.loader.specs.declared.fault.LoadError.{LoadError}
-use Rattle.loader.proofs.Filled.{IsFilled, IsHistoryRow, IsLimited}
+use Rattle.loader.proofs.Filled.{IsFilled, IsLimited}
 
 -- ---- look-ups of cards
 then-some : {A B : Type 0} (f : A → Option B) (o : Option A) → IsSome (option_and_then f o) → IsSome o

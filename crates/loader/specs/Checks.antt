@@ -1,5 +1,5 @@
 -- Tests of parents and of the consistency conditions (TPC-C clauses 3.3.2.1 and 3.3.2.2).
-use Rattle.std.specs.Prelude.{◌≡◌, ◌<◌, ◌*◌, ◌+ℤ◌, ◌-ℤ◌, ◌≤ℤ◌, slice_index_or, ◌==◌, ◌&&◌, Bool, true, ℕ, ℤ, pos, List, Result, Ok, Err, if◌then◌else◌}
+use Rattle.std.specs.Prelude.{◌≡◌, ◌<◌, ◌*◌, ◌+ℤ◌, slice_index_or, ◌==◌, ◌&&◌, Bool, true, not, ℕ, ℤ, pos, List, Result, Ok, Err, if◌then◌else◌}
 use Rattle.std.specs.Ordering.{int_eq}
 use Rattle.std.specs.List.{list_all}
 use Rattle.std.specs.FinMap as map
@@ -7,6 +7,7 @@ use Rattle.catalog.specs.CardMap.{Cards}
 use Rattle.catalog.specs.declared.card.Card.{Card}
 use Rattle.catalog.specs.declared.card.CardKey.{CardKey}
 use Rattle.catalog.specs.declared.card.CardKey.TheVariants as card_key
+use Rattle.requests.specs.Fields.{IsWithin}
 use Rattle.tpcc_model.specs.Conditions.{district_share}
 use Rattle.tpcc_model.specs.Database.{Database}
 use Rattle.tpcc_rows.specs.Limits.{ten}
@@ -20,21 +21,27 @@ use Rattle.loader.specs.Tables.{has_card}
 use Rattle.loader.specs.declared.fault.LoadError.{LoadError}
 use Rattle.loader.specs.declared.fault.LoadError.TheVariants as err
 
--- a warehouse has its ten districts, a district its warehouse, a customer its district, a stock its warehouse and item
+-- a warehouse has its ten districts, a district its warehouse, a customer its district, and a stock its warehouse and
+-- its item
 abbrev pub card_has_parents : Cards → CardKey × Card → Bool
 card_has_parents cards (card_key.Warehouse w, _) = list_all (λ d. has_card cards (card_key.District w d)) ten
 card_has_parents cards (card_key.District w d, _) = has_card cards (card_key.Warehouse w)
 card_has_parents cards (card_key.Customer w d c, _) = has_card cards (card_key.District w d)
-card_has_parents cards (card_key.Stock w i, _) = has_card cards (card_key.Warehouse w) && has_card cards (card_key.Item i)
+card_has_parents cards (card_key.Stock w i, _) =
+    has_card cards (card_key.Warehouse w) && has_card cards (card_key.Item i)
 card_has_parents cards (card_key.Item i, _) = true
 
 -- a row of HISTORY has its customer, and its district
 abbrev pub row_has_parents : Cards → RowKey × Row → Bool
-row_has_parents cards (_, row.History r) = has_card cards (card_key.Customer r.customer_warehouse r.customer_district r.customer) && has_card cards (card_key.District r.warehouse r.district)
+row_has_parents cards (_, row.History r) =
+    has_card cards (card_key.Customer r.customer_warehouse r.customer_district r.customer)
+    && has_card cards (card_key.District r.warehouse r.district)
 row_has_parents cards (_, _) = true
 
 unfoldable pub parents_there : Database → Bool
-parents_there db = list_all (card_has_parents db.cards) (map.entries db.cards) && list_all (row_has_parents db.cards) (map.entries db.rows)
+parents_there db =
+    list_all (card_has_parents db.cards) (map.entries db.cards)
+    && list_all (row_has_parents db.cards) (map.entries db.rows)
 
 -- condition 1: W_YTD of a warehouse is the sum of D_YTD over its districts
 abbrev pub ytd_agrees : Rows → RowKey × Row → Bool
@@ -52,21 +59,26 @@ next_order_agrees (_, _) = true
 unfoldable pub next_orders_agree : Rows → Bool
 next_orders_agree rows = list_all next_order_agrees (map.entries rows)
 
--- the database where its parents are there and its conditions hold, or else the first of these faults
+-- the database, or the first fault of its parents and its conditions
 abbrev pub checked : Database → Result Database LoadError
 checked db =
-    if parents_there db then
-    (if ytds_agree db.rows then (if next_orders_agree db.rows then Ok db else Err (err.Inconsistent 2)) else Err (err.Inconsistent 1))
-    else Err err.MissingParent
+    if not (parents_there db) then Err err.MissingParent
+    else if not (ytds_agree db.rows) then Err (err.Inconsistent 1)
+    else if not (next_orders_agree db.rows) then Err (err.Inconsistent 2)
+    else Ok db
 
 -- ---- sums of the warehouses, while they are added up
--- the sum of each warehouse, and what the rows that are left add to it
+abbrev pub sum_at : List ℤ → ℕ → ℤ
+sum_at sums w = slice_index_or sums w (pos 0)
+
+-- the sum of each warehouse, and what the rows that are left add to it, are the whole sum
 abbrev pub AreSumsBefore : List (RowKey × Row) → List ℤ → Rows → Type 0
-AreSumsBefore left sums rows = (w : ℕ) → w < 101 → (slice_index_or sums w (pos 0) +ℤ sum_entries (district_share w) left) ≡ total (district_share w) rows
+AreSumsBefore left sums rows =
+    (w : ℕ) → w < 101 → (sum_at sums w +ℤ sum_entries (district_share w) left) ≡ total (district_share w) rows
 
 -- each is within so many times the greatest amount
 abbrev pub AreWithin : ℕ → List ℤ → Type 0
-AreWithin n sums = (w : ℕ) → w < 101 → ((pos 0 -ℤ pos (n * 1000000000000000)) ≤ℤ slice_index_or sums w (pos 0)) × (slice_index_or sums w (pos 0) ≤ℤ pos (n * 1000000000000000))
+AreWithin n sums = (w : ℕ) → w < 101 → IsWithin (n * 1000000000000000) (sum_at sums w)
 
 abbrev pub AreSums : List ℤ → Rows → Type 0
-AreSums sums rows = (w : ℕ) → w < 101 → slice_index_or sums w (pos 0) ≡ total (district_share w) rows
+AreSums sums rows = (w : ℕ) → w < 101 → sum_at sums w ≡ total (district_share w) rows

@@ -4,9 +4,7 @@ use Rattle.csv.specs.Records.{field_at}
 use Rattle.requests.specs.Fields.{Fields, is_text}
 use Rattle.requests.specs.Records.{records_in}
 use Rattle.requests.specs.declared.fault.Slip.{Slip}
-use Rattle.catalog.specs.CardMap.{Cards}
 use Rattle.tpcc_model.specs.Database.{Database}
-use Rattle.tpcc_rows.specs.RowMap.{Rows}
 use Rattle.loader.specs.Checks.{checked}
 use Rattle.loader.specs.Faults.{fault_of}
 use Rattle.loader.specs.ImageRecords.{record_at}
@@ -15,8 +13,12 @@ use Rattle.loader.specs.declared.fault.LoadError.{LoadError}
 use Rattle.loader.specs.declared.fault.LoadError.TheVariants as err
 use Rattle.loader.specs.declared.image_record.ImageRecord.{ImageRecord}
 
+-- what a database leads to
+abbrev pub Rest : Type 0
+Rest = Database → Result Database LoadError
+
 -- what the record of this number says is taken in, unless its key came before, and what follows goes on from there
-abbrev pub placed : ℕ → Database → Result ImageRecord Slip → (Database → Result Database LoadError) → Result Database LoadError
+abbrev pub placed : ℕ → Database → Result ImageRecord Slip → Rest → Result Database LoadError
 placed n db (Err e) rest = Err (fault_of n e)
 placed n db (Ok said) rest = if is_taken db said then Err (err.Duplicate n) else rest (with_record db said)
 
@@ -41,7 +43,8 @@ read_from (r ∷ rs) n db =
 
 -- `eve-tpcc,1`
 abbrev pub is_first : Fields → Bool
-is_first fields = (length fields == 2) && (is_text (codes "eve-tpcc") (field_at fields 0) && is_text (codes "1") (field_at fields 1))
+is_first fields =
+    (length fields == 2) && (is_text (codes "eve-tpcc") (field_at fields 0) && is_text (codes "1") (field_at fields 1))
 
 -- the tables of all records
 unfoldable pub read_all : List Fields → Result Database LoadError
@@ -60,7 +63,3 @@ most_bytes = 4294967295
 -- the sound database of an image, or its fault
 abbrev pub image : List ℕ → Result Database LoadError
 image bytes = tested (read_all (records_in bytes))
-
--- the database that was loaded
-abbrev pub loaded : Cards × Rows → Database
-loaded parts = record { cards = parts.0; rows = parts.1 }

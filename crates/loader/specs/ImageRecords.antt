@@ -27,7 +27,8 @@ district_fields fields = do
   tax ← number_at fields 4 0 9999
   ytd ← signed_at fields 5 1000000000000000
   next ← number_at fields 6 1 9999999
-  Ok (said.District (record { warehouse = w; district = d; name = name; tax = tax }) (record { ytd = ytd; next_order = next }))
+  Ok (said.District
+      (record { warehouse = w; district = d; name = name; tax = tax }) (record { ytd = ytd; next_order = next }))
 
 -- `C,w,d,c,last,middle,first,credit,discount,balance,ytd_payment,payment_cnt,delivery_cnt,data`
 unfoldable pub customer_fields : Fields → Result ImageRecord Slip

@@ -17,6 +17,10 @@ use Rattle.loader.specs.declared.tables.Tables.{Tables}
 abbrev pub database_of : Tables → Database
 database_of tables = record { cards = tables.cards; rows = tables.rows }
 
+-- the database of these parts
+abbrev pub loaded : Cards × Rows → Database
+loaded parts = record { cards = parts.0; rows = parts.1 }
+
 abbrev pub no_tables : Database
 no_tables = record { cards = map.empty; rows = map.empty }
 

@@ -1,11 +1,12 @@
 //! Parents and consistency conditions.
-ghost use Rattle.std.specs.Prelude.{◌≡◌, ◌<◌, ◌^◌, ◌+ℤ◌, ◌≤ℤ◌, ℕ, pos, negsuc, slice_index_or, IfErr, OnOk, Ok, Err};
+ghost use Rattle.std.specs.Prelude.{◌≡◌, ◌<◌, ◌^◌, ◌+ℤ◌, ℕ, IfErr, OnOk, Ok, Err};
 ghost use Rattle.std.specs.List.{list_all};
 ghost use Rattle.catalog.specs.declared.card.CardKey.TheVariants as card_key;
 ghost use Rattle.tpcc_model.specs.Conditions.{district_share};
 ghost use Rattle.tpcc_rows.specs.Limits.{IsCents, ten};
-ghost use Rattle.loader.specs.Checks.{AreSums, AreWithin, card_has_parents, checked, next_order_agrees, next_orders_agree, parents_there, row_has_parents, ytd_agrees, ytds_agree};
-ghost use Rattle.loader.specs.Tables.{has_card};
+ghost use Rattle.requests.specs.Fields.{IsWithin};
+ghost use Rattle.loader.specs.Checks.{AreSums, AreWithin, card_has_parents, checked, next_order_agrees, next_orders_agree, parents_there, row_has_parents, sum_at, ytd_agrees, ytds_agree};
+ghost use Rattle.loader.specs.Tables.{has_card, loaded};
 
 use crate::fault::LoadError;
 use catalog::Catalog;
@@ -93,7 +94,7 @@ fn row_has_parents(catalog: &Catalog, key: &RowKey, row: &Row) -> bool
 /// Whether all parents are there.
 #[tactic(auto, unfolding(crate::specs::Checks::parents_there))]
 fn parents_there(catalog: &Catalog, rows: &RowStore) -> bool
-    ensures { result ≡ parents_there (record { cards = catalog.now; rows = rows.now }) }
+    ensures { result ≡ parents_there (loaded (catalog.now, rows.now)) }
 {
     for (card_key, card) in catalog.cards() {
         if !card_has_parents(catalog, card_key, card) {
@@ -109,7 +110,7 @@ fn parents_there(catalog: &Catalog, rows: &RowStore) -> bool
 }
 
 fn plus(sum: i128, amount: i64) -> i128
-    requires { (negsuc 9223372036854775807999999999999999 ≤ℤ sum) × (sum ≤ℤ pos 9223372036854775808000000000000000) }
+    requires { IsWithin 9223372036854775808000000000000000 sum }
     ensures { result ≡ sum +ℤ amount }
 {
     sum + i128::from(amount)
@@ -118,7 +119,7 @@ fn plus(sum: i128, amount: i64) -> i128
 /// Adds D_YTD of a district's row to the sum of its warehouse.
 fn add_share(sums: &mut Sums, key: &RowKey, row: &Row)
     requires { AreWithin (2 ^ 63) sums.old }
-    ensures sums { (w : ℕ) → w < 101 → slice_index_or sums.new w (pos 0) ≡ slice_index_or sums.old w (pos 0) +ℤ district_share w key.now row.now }
+    ensures sums { (w : ℕ) → w < 101 → sum_at sums.new w ≡ sum_at sums.old w +ℤ district_share w key.now row.now }
     ensures near { (w : ℕ) → w < 101 → IsCents (district_share w key.now row.now) }
 {
     if let (RowKey::District { warehouse, .. }, Row::District(row)) = (key, row) {
@@ -191,8 +192,8 @@ fn next_orders_agree(rows: &RowStore) -> bool
 
 /// Whether the tables are sound, whose values are within their limits.
 pub(crate) fn check(catalog: &Catalog, rows: &RowStore) -> Result<(), LoadError>
-    ensures ok { OnOk result (checked (record { cards = catalog.now; rows = rows.now }) ≡ Ok (record { cards = catalog.now; rows = rows.now })) }
-    ensures err { IfErr result (λ e. checked (record { cards = catalog.now; rows = rows.now }) ≡ Err e) }
+    ensures ok { OnOk result (checked (loaded (catalog.now, rows.now)) ≡ Ok (loaded (catalog.now, rows.now))) }
+    ensures err { IfErr result (λ e. checked (loaded (catalog.now, rows.now)) ≡ Err e) }
 {
     if !parents_there(catalog, rows) {
         return Err(LoadError::MissingParent);

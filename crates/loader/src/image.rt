@@ -2,7 +2,8 @@
 ghost use Rattle.std.specs.Prelude.{◌≡◌, ◌≢◌, ◌⊎◌, ◌+◌, ◌<◌, ◌≤◌, ◌^◌, length, Ok, Err, IfOk, IfErr, IfSome, IsErrOf, OnOk};
 ghost use Rattle.tpcc_model.specs.Soundness.{IsSound};
 ghost use Rattle.loader.specs.Faults.{IsOfReading, IsOfText, StopsBy};
-ghost use Rattle.loader.specs.Image.{image, loaded, most_bytes};
+ghost use Rattle.loader.specs.Image.{image, most_bytes};
+ghost use Rattle.loader.specs.Tables.{loaded};
 
 use crate::checks::check;
 use crate::fault::LoadError;
@@ -31,16 +32,20 @@ fn load_text(alloc: Global, text: &[u8]) -> Result<(Catalog, RowStore), LoadErro
     Ok((catalog, tables.rows))
 }
 
-/// The database of the bytes that a source has left, of at most 4,294,967,295 bytes.
+/// The database of the bytes that a source has left, of at most 4,294,967,295 bytes. The first record at fault is
+/// answered before a missing end record, that before a missing parent, and that before the least condition that
+/// doesn't hold.
 pub fn load<S: Source>(alloc: Global, source: &mut S) -> Result<(Catalog, RowStore), LoadError>
     requires { S.failed source.old < 2 ^ 63 }
     ensures ok { IfOk result (λ db. IfSome (S.left source.old) (λ bytes. image bytes ≡ Ok (loaded db))) }
     ensures within { OnOk result (IfSome (S.left source.old) (λ bytes. length bytes ≤ most_bytes)) }
     ensures sound { IfOk result (λ db. IsSound (loaded db)) }
-    ensures err { IfErr result (λ e. IsOfReading e ⊎ IfSome (S.left source.old) (λ bytes. image bytes ≡ Err e)) }
+    ensures err { IfErr result (λ e.
+        IsOfReading e ⊎ IfSome (S.left source.old) (λ bytes. image bytes ≡ Err e)) }
 
     // Each error of the input only for its reason, and no failure but the one that is answered.
-    ensures too_long { IsErrOf result LoadError.InputTooLong → IfSome (S.left source.old) (λ bytes. most_bytes < length bytes) }
+    ensures too_long { IsErrOf result LoadError.InputTooLong
+        → IfSome (S.left source.old) (λ bytes. most_bytes < length bytes) }
     ensures read { IsErrOf result LoadError.Read → S.failed source.new ≡ S.failed source.old + 1 }
     ensures no_read { (result ≢ Err LoadError.Read) → S.failed source.new ≡ S.failed source.old }
 {

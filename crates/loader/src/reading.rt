@@ -3,7 +3,7 @@ ghost use Rattle.std.specs.Prelude.{◌≡◌, ◌+◌, ◌<◌, ◌≤◌, ◌^
 ghost use Rattle.csv.specs.Records.{fields_of};
 ghost use Rattle.requests.specs.Records.{IsGoing, records_in, records_left};
 ghost use Rattle.loader.specs.Faults.{StopsBy};
-ghost use Rattle.loader.specs.Image.{counts, ended, is_first, placed, read_all, read_from};
+ghost use Rattle.loader.specs.Image.{Rest, counts, ended, is_first, placed, read_all, read_from};
 ghost use Rattle.loader.specs.ImageRecords.{record_at};
 ghost use Rattle.loader.specs.Tables.{database_of};
 
@@ -44,8 +44,10 @@ fn counts(number: u64, fields: &ByteRecord) -> bool
 
 /// Takes in the record of this number.
 fn place(tables: &mut Tables, number: u64, fields: &ByteRecord) -> Result<(), LoadError>
-    ensures ok { OnOk result ((rest : _) → placed number (database_of tables.old) (record_at (fields_of fields.now)) rest ≡ rest (database_of tables.new)) }
-    ensures err { IfErr result (λ e. (rest : _) → StopsBy e (placed number (database_of tables.old) (record_at (fields_of fields.now)) rest)) }
+    ensures ok { OnOk result ((rest : Rest)
+        → placed number (database_of tables.old) (record_at (fields_of fields.now)) rest ≡ rest (database_of tables.new)) }
+    ensures err { IfErr result (λ e. (rest : Rest)
+        → StopsBy e (placed number (database_of tables.old) (record_at (fields_of fields.now)) rest)) }
 {
     let said = match image_record(fields) {
         Ok(said) => said,
@@ -79,7 +81,8 @@ fn read_rest(
 ) -> Result<(), LoadError>
     requires going { IsGoing reader.old }
     requires room { 2 + length (records_left reader.old) < 2 ^ 64 }
-    ensures ok { OnOk result (read_from (records_left reader.old) 2 (database_of tables.old) ≡ Ok (database_of tables.new)) }
+    ensures ok { OnOk result
+        (read_from (records_left reader.old) 2 (database_of tables.old) ≡ Ok (database_of tables.new)) }
     ensures err { IfErr result (λ e. StopsBy e (read_from (records_left reader.old) 2 (database_of tables.old))) }
 {
     let mut number = 2;

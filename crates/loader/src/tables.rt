@@ -38,7 +38,8 @@ impl Tables {
         ensures cards { OnOk result (self.new.cards ≡ map.insert self.old.cards (card_key card) card) }
         ensures rows { OnOk result (self.new.rows ≡ map.insert self.old.rows key row) }
         ensures fresh { OnOk result (map.get self.old.cards (card_key card) ≡ None) }
-        ensures twice { IfErr result (λ e. e ≡ catalog_error.Twice → IsSome (map.get self.old.cards (card_key card))) }
+        ensures twice { IfErr result (λ e. e ≡ catalog_error.Twice
+            → IsSome (map.get self.old.cards (card_key card))) }
     {
         self.cards.add(card)?;
         self.rows.put(key, row)?;
@@ -64,7 +65,8 @@ impl Tables {
     pub(crate) fn add(&mut self, said: ImageRecord) -> Result<(), CatalogError>
         ensures ok { OnOk result (database_of self.new ≡ with_record (database_of self.old) said) }
         ensures fresh { OnOk result (is_taken (database_of self.old) said ≡ false) }
-        ensures twice { IfErr result (λ e. e ≡ catalog_error.Twice → is_taken (database_of self.old) said ≡ true) }
+        ensures twice { IfErr result (λ e. e ≡ catalog_error.Twice
+            → is_taken (database_of self.old) said ≡ true) }
     {
         match said {
             ImageRecord::Warehouse { card, row } => {

@@ -1,10 +1,16 @@
 -- What a reader of batches has still to give.
-use Rattle.std.specs.Prelude.{◌+◌, ◌<◌, ◌^◌, [], length}
-use Rattle.requests.specs.Batches.{Reading, between, clean, fault, reading_from}
+use Rattle.std.specs.Prelude.{◌+◌, ◌<◌, ◌^◌, ℕ, List, [], length}
+use Rattle.std.specs.Borrow.{Bor}
+use Rattle.csv.specs.declared.reader.Reader.{Reader}
+use Rattle.requests.specs.Batches.{Place, Reading, between, clean, fault, reading_from}
 use Rattle.requests.specs.Records.{IsGoing, records_left}
 use Rattle.requests.specs.declared.batch_reader.Standing.{Standing}
 use Rattle.requests.specs.declared.batch_reader.Standing.TheVariants as standing
 use Rattle.requests.specs.declared.batch_reader.BatchReader.TheInside.{Inside}
+
+-- what the records that are left say, from the one of this number on
+abbrev pub left_at : Reader (Bor (List ℕ)) → ℕ → Place → Reading
+left_at reader number = reading_from (records_left reader) number
 
 abbrev pub left_by : Standing → Reading → Reading
 left_by standing.Going left = left
@@ -12,7 +18,7 @@ left_by standing.Done left = ([], clean)
 left_by (standing.Stopped e) left = ([], fault e)
 
 abbrev pub reading_of : Inside → Reading
-reading_of b = left_by b.standing (reading_from (records_left b.reader) b.number between)
+reading_of b = left_by b.standing (left_at b.reader b.number between)
 
 abbrev pub CanRead : Standing → Type 0 → Type 0
 CanRead standing.Going P = P

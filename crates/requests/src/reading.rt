@@ -1,6 +1,7 @@
 //! A batch, read from the records that a text has left.
 ghost use Rattle.std.specs.Prelude.{◌≡◌, ◌+◌, ◌<◌, ◌^◌, ◌++◌, ◌∷◌, [], List, length, IfOk, IfErr, IfSome, IfNone, OnSome, OnOk};
-ghost use Rattle.requests.specs.Batches.{StopsBy, between, clean, fault_of, reading_from, settled, with_front, within};
+ghost use Rattle.requests.specs.Batches.{StopsBy, between, clean, fault_of, settled, with_front, within};
+ghost use Rattle.requests.specs.Reader.{left_at};
 ghost use Rattle.requests.specs.Records.{IsGoing, records_left};
 ghost use Rattle.requests.specs.declared.batch_record.BatchHead.{BatchHead};
 ghost use Rattle.requests.specs.declared.request.Request.{Request};
@@ -36,9 +37,10 @@ fn read_head(
     requires room { number.old + length (records_left reader.old) < 2 ^ 64 }
     ensures going { IfOk result (λ o. OnSome o (IsGoing reader.new)) }
     ensures room { IfOk result (λ o. OnSome o (number.new + length (records_left reader.new) < 2 ^ 64)) }
-    ensures head { IfOk result (λ o. IfSome o (λ h. reading_from (records_left reader.old) number.old between ≡ settled h [] (reading_from (records_left reader.new) number.new))) }
-    ensures end { IfOk result (λ o. IfNone o (reading_from (records_left reader.old) number.old between ≡ ([], clean))) }
-    ensures err { IfErr result (λ e. StopsBy e (reading_from (records_left reader.old) number.old between)) }
+    ensures head { IfOk result (λ o. IfSome o (λ h.
+        left_at reader.old number.old between ≡ settled h [] (left_at reader.new number.new))) }
+    ensures end { IfOk result (λ o. IfNone o (left_at reader.old number.old between ≡ ([], clean))) }
+    ensures err { IfErr result (λ e. StopsBy e (left_at reader.old number.old between)) }
 {
     if !next_record(reader, fields)? {
         return Ok(None);
@@ -63,8 +65,10 @@ fn read_request(
     requires room { number.old + length (records_left reader.old) < 2 ^ 64 }
     ensures going { OnOk result (IsGoing reader.new) }
     ensures room { OnOk result (number.new + length (records_left reader.new) < 2 ^ 64) }
-    ensures request { IfOk result (λ q. (h : BatchHead) (qs : List Request) → reading_from (records_left reader.old) number.old (within h qs) ≡ settled h (qs ++ q ∷ []) (reading_from (records_left reader.new) number.new)) }
-    ensures err { IfErr result (λ e. (h : BatchHead) (qs : List Request) → StopsBy e (reading_from (records_left reader.old) number.old (within h qs))) }
+    ensures request { IfOk result (λ q. (h : BatchHead) (qs : List Request)
+        → left_at reader.old number.old (within h qs) ≡ settled h (qs ++ q ∷ []) (left_at reader.new number.new)) }
+    ensures err { IfErr result (λ e. (h : BatchHead) (qs : List Request)
+        → StopsBy e (left_at reader.old number.old (within h qs))) }
 {
     if !next_record(reader, fields)? {
         return Err(ReadError::WrongCount(*number));
@@ -89,9 +93,10 @@ pub(crate) fn read_batch(
     requires room { number.old + length (records_left reader.old) < 2 ^ 64 }
     ensures going { IfOk result (λ o. OnSome o (IsGoing reader.new)) }
     ensures room { IfOk result (λ o. OnSome o (number.new + length (records_left reader.new) < 2 ^ 64)) }
-    ensures batch { IfOk result (λ o. IfSome o (λ b. reading_from (records_left reader.old) number.old between ≡ with_front b (reading_from (records_left reader.new) number.new between))) }
-    ensures end { IfOk result (λ o. IfNone o (reading_from (records_left reader.old) number.old between ≡ ([], clean))) }
-    ensures err { IfErr result (λ e. StopsBy e (reading_from (records_left reader.old) number.old between)) }
+    ensures batch { IfOk result (λ o. IfSome o (λ b.
+        left_at reader.old number.old between ≡ with_front b (left_at reader.new number.new between))) }
+    ensures end { IfOk result (λ o. IfNone o (left_at reader.old number.old between ≡ ([], clean))) }
+    ensures err { IfErr result (λ e. StopsBy e (left_at reader.old number.old between)) }
 {
     let Some(head) = read_head(reader, fields, number)? else {
         return Ok(None);

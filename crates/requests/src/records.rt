@@ -22,7 +22,8 @@ pub fn records_of(alloc: Global, text: &[u8]) -> Reader<&[u8]>
 /// refuses none, so what is left is want of memory.
 pub fn next_record(reader: &mut Reader<&[u8]>, fields: &mut ByteRecord) -> Result<bool, Memory>
     requires { IsGoing reader.old }
-    ensures found { IfOk result (λ found. found ≡ true → records_left reader.old ≡ fields_of fields.new ∷ records_left reader.new) }
+    ensures found { IfOk result (λ found. found ≡ true
+        → records_left reader.old ≡ fields_of fields.new ∷ records_left reader.new) }
     ensures going { IfOk result (λ found. found ≡ true → IsGoing reader.new) }
     ensures none { IfOk result (λ found. found ≡ false → records_left reader.old ≡ []) }
 {

@@ -17,7 +17,8 @@ pub fn slurp<S: Source>(alloc: Global, source: &mut S, limit: usize) -> Result<V
     ensures within { IfOk result (λ v. vec_len v ≤ limit) }
 
     // Each error only for its reason, and no failure but the one that is answered.
-    ensures too_long { IsErrOf result ReadError.InputTooLong → IfSome (S.left source.old) (λ bytes. limit < length bytes) }
+    ensures too_long { IsErrOf result ReadError.InputTooLong
+        → IfSome (S.left source.old) (λ bytes. limit < length bytes) }
     ensures read { IsErrOf result ReadError.Read → S.failed source.new ≡ S.failed source.old + 1 }
     ensures no_read { (result ≢ Err ReadError.Read) → S.failed source.new ≡ S.failed source.old }
     ensures kinds { IfErr result IsOfWholeInput }
