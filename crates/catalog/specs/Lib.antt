@@ -1,3 +1,4 @@
 pub mod CardKinds
 pub mod CardMap
 pub mod Lookups
+pub mod StockCards

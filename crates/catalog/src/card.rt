@@ -1,6 +1,7 @@
 //! The cards and their keys (TPC-C clause 1.3; the split into fixed and moving columns by clause 1.4).
-ghost use Rattle.std.specs.Prelude.{◌≡◌, ◌==◌, ◌-◌, None, Some, if◌then◌else◌, option_copied, slice_get, vec_len};
+ghost use Rattle.std.specs.Prelude.{◌≡◌, ◌==◌, ◌-◌, None, Some, if◌then◌else◌, option_copied, vec_len};
 ghost use Rattle.catalog.specs.CardKinds.{as_customer, as_district, as_item, as_stock, as_warehouse, card_key};
+ghost use Rattle.catalog.specs.StockCards.{district_info};
 
 use std::marker::Model;
 use tpcc_rows::id::{CustomerId, DistrictId, ItemId, WarehouseId};
@@ -97,13 +98,6 @@ impl DistrictInfos {
             None
         }
     }
-
-    /// The text of a district.
-    pub fn of(&self, district: DistrictId) -> &Text<24>
-        ensures { slice_get self.now (district - 1) ≡ Some result.now }
-    {
-        &self.infos[usize::from(district.number()) - 1]
-    }
 }
 
 /// S_DATA and S_DIST_01 to S_DIST_10.
@@ -113,6 +107,15 @@ pub struct StockCard {
     pub item: ItemId,
     pub data: Text<50>,
     pub district_infos: DistrictInfos,
+}
+
+impl StockCard {
+    /// The one of S_DIST_01 to S_DIST_10 that has the district's number.
+    pub fn district_info(&self, district: DistrictId) -> &Text<24>
+        ensures { result.now ≡ district_info self.now district }
+    {
+        &self.district_infos.infos[usize::from(district.number()) - 1]
+    }
 }
 
 /// I_NAME, I_PRICE and I_DATA.

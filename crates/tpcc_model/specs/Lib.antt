@@ -1,6 +1,7 @@
 pub mod Database
 pub mod Staging
 pub mod Payments
+pub mod NewOrders
 pub mod Steps
 pub mod Conditions
 pub mod Soundness

@@ -15,6 +15,7 @@ use Rattle.requests.specs.declared.reply.Refusal.TheVariants as refusal
 use Rattle.requests.specs.declared.reply.Reply.{Reply}
 use Rattle.requests.specs.declared.reply.Reply.TheVariants as reply
 use Rattle.tpcc_model.specs.Database.{Database}
+use Rattle.tpcc_model.specs.NewOrders.{PlacedOrder, new_order}
 use Rattle.tpcc_model.specs.Payments.{Paid, payment, payment_reply, payment_changes}
 
 -- the reply, and the keys that are written or deleted, each with its new row or none
@@ -30,10 +31,14 @@ abbrev pub payment_outcome : Payment → ℕ → Result Paid Refusal → Outcome
 payment_outcome p number (Ok paid) = record { reply = reply.Payment (payment_reply paid); changes = payment_changes p number paid }
 payment_outcome p number (Err why) = refused kind.Payment why
 
--- the step of a request with its number, at a moment. Only payments are served yet; the others are refused.
+abbrev pub new_order_outcome : Result PlacedOrder Refusal → Outcome
+new_order_outcome (Ok placed) = record { reply = reply.NewOrder placed.reply; changes = placed.changes }
+new_order_outcome (Err why) = refused kind.NewOrder why
+
+-- the step of a request with its number, at a moment. New orders and payments are served yet; the others are refused.
 unfoldable pub step : Database → Request → ℕ → ℕ → Outcome
+step db (request.NewOrder p) number moment = new_order_outcome (new_order db p moment)
 step db (request.Payment p) number moment = payment_outcome p number (payment db p moment)
-step db (request.NewOrder p) number moment = refused kind.NewOrder refusal.UnknownKey
 step db (request.OrderStatus p) number moment = refused kind.OrderStatus refusal.UnknownKey
 step db (request.Delivery p) number moment = refused kind.Delivery refusal.UnknownKey
 step db (request.StockLevel p) number moment = refused kind.StockLevel refusal.UnknownKey

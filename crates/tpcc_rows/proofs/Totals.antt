@@ -1,5 +1,5 @@
 -- How a sum over a map changes with one entry.
-use Rattle.std.proofs.Common.{◌≡◌, ℤ, pos, ◌+ℤ◌, Bool, true, false, cond, not, T, List, [], ◌∷◌, ◌&&◌, Option, Some, None, refl, sym, ap, subst, ◌∙◌, arith}
+use Rattle.std.proofs.Common.{◌≡◌, inl, inr, ℤ, pos, ◌+ℤ◌, Bool, true, false, cond, not, T, List, [], ◌∷◌, ◌&&◌, Option, Some, None, refl, sym, ap, subst, ◌∙◌, arith}
 use Rattle.std.proofs.lemmas.Int.{ints}
 use Rattle.std.specs.declared.cmp.Ordering.{Ordering}
 use Rattle.std.specs.declared.cmp.Ordering.TheVariants.{Less, Equal, Greater}
@@ -11,7 +11,8 @@ use Rattle.tpcc_rows.specs.declared.key.RowKey.{RowKey}
 use Rattle.tpcc_rows.specs.RowMap.{row_key_cmp, ByKey}
 use Rattle.tpcc_rows.specs.Totals.{sum_entries, total, share_at}
 use Rattle.tpcc_rows.proofs.Keys.{row_key_cmp_total, exact_keys}
-use Rattle.tpcc_rows.proofs.Singles.{first, second, less, tied, not_found}
+use Rattle.std.proofs.lemmas.Bool.{cases_Bool}
+use Rattle.tpcc_rows.proofs.Singles.{first, second, less, tied, not_found, ties_itself}
 
 abbrev R : RowKey → RowKey → Ordering
 R = row_key_cmp
@@ -94,3 +95,23 @@ module _ {X : Type 0} (m : ByKey X) (k : RowKey) (f : RowKey → X → ℤ) wher
 pub no_share : {X : Type 0} (f : X → ℤ) (o : Option X) → ((x : X) → f x ≡ pos 0) → share_at f o ≡ pos 0
 no_share f None h = refl
 no_share f (Some x) h = h x
+
+-- a sum in which each entry's share is nothing
+module _ {X : Type 0} (f : RowKey → X → ℤ) where
+  sum-zero : (es : List (RowKey × X)) → T (is_sorted R es) → ((k : RowKey) (x : X) → find R k es ≡ Some x → f k x ≡ pos 0) → sum_entries f es ≡ pos 0
+  sum-zero [] s h = refl
+  sum-zero (e ∷ es) s h =
+      let here : f e.0 e.1 ≡ pos 0 = h e.0 e.1 (ap (λ b. cond b (Some e.1) (find R e.0 es)) (ties_itself row_key_cmp_total exact_keys e.0)) in
+      let below = first (below_all R e.0 es) (is_sorted R es) s in
+      let rest = sum-zero es (second (below_all R e.0 es) (is_sorted R es) s) (λ k x there. elim (cases_Bool (eq_by_cmp R k e.0)) [
+        | inl same ↦
+            let none : find R k es ≡ None = ap (λ q. find R q es) (exact_keys k e.0 (tied (R k e.0) same)) ∙ not_found row_key_cmp_total exact_keys e.0 es below in
+            let no : None ≡ Some x = sym none ∙ there in
+            cc
+        | inr apart ↦ h k x (ap (λ b. cond b (Some e.1) (find R k es)) apart ∙ there)
+      ]) in
+      omega (arith, ints, here, rest)
+
+  pub total-zero : (m : ByKey X) → ((k : RowKey) (x : X) → get m k ≡ Some x → f k x ≡ pos 0) → total f m ≡ pos 0
+  unfolding total
+  total-zero m h = sum-zero (entries m) (entries_sorted m) (λ k x there. h k x (get-entries m k ∙ there))

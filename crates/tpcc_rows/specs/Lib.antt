@@ -6,3 +6,4 @@ pub mod Rows
 pub mod Changing
 pub mod Totals
 pub mod Codes
+pub mod Prices

@@ -13,3 +13,4 @@ pub mod row;
 #[cfg(test)]
 mod tests;
 pub mod text;
+pub mod total;

@@ -1,17 +1,20 @@
 -- What a sound catalog says of a card that is found.
-use Rattle.std.proofs.Common.{◌≡◌, ℕ, Option, Some, None, subst}
+use Rattle.std.proofs.Common.{◌≡◌, ◌-◌, ℕ, zero, suc, List, [], ◌∷◌, get_or, Option, Some, None, subst, arith}
 use Rattle.std.specs.Option.{option_and_then}
 use Rattle.std.specs.FinMap.{get}
-use Rattle.catalog.specs.CardKinds.{as_warehouse, as_district, as_customer}
+use Rattle.std.specs.List.{AllByRecursion}
+use Rattle.catalog.specs.CardKinds.{as_warehouse, as_district, as_customer, as_stock}
 use Rattle.catalog.specs.CardMap.{Cards}
-use Rattle.catalog.specs.Lookups.{warehouse_card, district_card, customer_card}
+use Rattle.catalog.specs.Lookups.{warehouse_card, district_card, customer_card, stock_card}
+use Rattle.catalog.specs.StockCards.{district_info}
 use Rattle.catalog.specs.declared.card.Card.{Card}
 use Rattle.catalog.specs.declared.card.Card.TheVariants as card
 use Rattle.catalog.specs.declared.card.CardKey.TheVariants as ckey
 use Rattle.catalog.specs.declared.card.WarehouseCard.{WarehouseCard}
 use Rattle.catalog.specs.declared.card.DistrictCard.{DistrictCard}
 use Rattle.catalog.specs.declared.card.CustomerCard.{CustomerCard}
-use Rattle.tpcc_model.specs.Soundness.{AreCards, IsCustomerCard}
+use Rattle.catalog.specs.declared.card.StockCard.{StockCard}
+use Rattle.tpcc_model.specs.Soundness.{AreCards, IsCustomerCard, IsStockCard}
 use Rattle.tpcc_rows.specs.Limits.{IsBetween}
 use Rattle.tpcc_rows.specs.Texts.{IsText}
 
@@ -55,3 +58,22 @@ customer-limits cards w d n c are h =
     let part : c.district ≡ d = cc in
     let number : c.customer ≡ n = cc in
     (subst (IsBetween 1 100) own limits.warehouse, subst (IsBetween 1 10) part limits.district, subst (IsBetween 1 3000) number limits.customer)
+
+stock-there : (o : Option Card) (c : StockCard) → option_and_then as_stock o ≡ Some c → o ≡ Some (card.Stock c)
+stock-there None c h = cc
+stock-there (Some (card.Stock x)) c h = cc
+stock-there (Some _) c h = cc
+
+no_text : (n : ℕ) → IsText n []
+no_text n = record { fits = omega arith; printable = λ k d lt. absurd (omega arith) }
+
+text_at : (n : ℕ) (texts : List (List ℕ)) (i : ℕ) → AllByRecursion (IsText n) texts → IsText n (get_or texts i [])
+text_at n [] i are = no_text n
+text_at n (text ∷ texts) zero are = are.0
+text_at n (text ∷ texts) (suc i) are = text_at n texts i are.1
+
+pub info-limits : (cards : Cards) (w i d : ℕ) (c : StockCard) → AreCards cards → stock_card cards w i ≡ Some c → IsText 24 (district_info c d)
+info-limits cards w i d c are h =
+    let is = stock-there (get cards (ckey.Stock w i)) c h in
+    let limits : IsStockCard c = are.limits (ckey.Stock w i) (card.Stock c) is in
+    text_at 24 c.district_infos (d - 1) limits.district_infos

@@ -8,25 +8,31 @@ use Rattle.tpcc_rows.specs.Changing.{after}
 use Rattle.tpcc_rows.specs.RowMap.{Rows}
 use Rattle.tpcc_rows.proofs.Changes.{after-empty}
 use Rattle.tpcc_model.specs.Database.{Database}
+use Rattle.tpcc_model.specs.NewOrders.{PlacedOrder, new_order}
 use Rattle.tpcc_model.specs.Payments.{Paid, payment, payment_changes}
 use Rattle.tpcc_model.specs.Soundness.{IsSound}
-use Rattle.tpcc_model.specs.Steps.{payment_outcome, step}
+use Rattle.tpcc_model.specs.Steps.{new_order_outcome, payment_outcome, step}
 use Rattle.transactions.specs.Laws.{IsKept, StepKeeps}
+use Rattle.transactions.proofs.NewOrderKeeps.{new_order_keeps}
 use Rattle.transactions.proofs.PaymentKeeps.{payment_keeps}
 
 -- where nothing changes
 unchanged : (db : Database) (number : ℕ) → IsSound db → IsKept db (after db.rows empty) number
 unchanged db number sound = subst (λ (rows : Rows). IsKept db rows number) (sym (after-empty db.rows)) (record { sound = sound; history = λ n. inr refl })
 
-outcome_keeps : (db : Database) (p : Payment) (number : ℕ) (r : Result Paid Refusal) → IsSound db → ((paid : Paid) → r ≡ Ok paid → IsKept db (after db.rows (payment_changes p number paid)) number)
+payment_outcome_keeps : (db : Database) (p : Payment) (number : ℕ) (r : Result Paid Refusal) → IsSound db → ((paid : Paid) → r ≡ Ok paid → IsKept db (after db.rows (payment_changes p number paid)) number)
     → IsKept db (after db.rows (payment_outcome p number r).changes) number
-outcome_keeps db p number (Ok paid) sound keeps = keeps paid refl
-outcome_keeps db p number (Err why) sound keeps = unchanged db number sound
+payment_outcome_keeps db p number (Ok paid) sound keeps = keeps paid refl
+payment_outcome_keeps db p number (Err why) sound keeps = unchanged db number sound
+
+new_order_outcome_keeps : (db : Database) (number : ℕ) (r : Result PlacedOrder Refusal) → IsSound db → ((made : PlacedOrder) → r ≡ Ok made → IsKept db (after db.rows made.changes) number) → IsKept db (after db.rows (new_order_outcome r).changes) number
+new_order_outcome_keeps db number (Ok made) sound keeps = keeps made refl
+new_order_outcome_keeps db number (Err why) sound keeps = unchanged db number sound
 
 pub step_keeps : StepKeeps
 unfolding step
-step_keeps db (request.Payment p) number moment sound fits numbered timed = outcome_keeps db p number (payment db p moment) sound (λ paid h. payment_keeps db p number moment paid sound fits numbered timed h)
-step_keeps db (request.NewOrder p) number moment sound fits numbered timed = unchanged db number sound
+step_keeps db (request.NewOrder p) number moment sound fits numbered timed = new_order_outcome_keeps db number (new_order db p moment) sound (λ made h. new_order_keeps db p number moment made sound fits timed h)
+step_keeps db (request.Payment p) number moment sound fits numbered timed = payment_outcome_keeps db p number (payment db p moment) sound (λ paid h. payment_keeps db p number moment paid sound fits numbered timed h)
 step_keeps db (request.OrderStatus p) number moment sound fits numbered timed = unchanged db number sound
 step_keeps db (request.Delivery p) number moment sound fits numbered timed = unchanged db number sound
 step_keeps db (request.StockLevel p) number moment sound fits numbered timed = unchanged db number sound

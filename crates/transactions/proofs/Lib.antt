@@ -1,7 +1,15 @@
 pub mod Doing
+pub mod ForEach
+pub mod FaultFacts
+pub mod FoundLines
 pub mod CardFacts
 pub mod Entries
 pub mod Conditions
+pub mod Books
+pub mod NewOrderRuns
+pub mod NewOrderLines
+pub mod NewOrderFacts
+pub mod NewOrderKeeps
 pub mod PaymentFacts
 pub mod PaymentKeeps
 pub mod Keeping

@@ -12,6 +12,11 @@ pub record IsOutcome (outcome : Outcome) (pair : Reply × Changes) : Type 0 wher
   pub reply : pair.0 ≡ outcome.reply
   pub changes : pair.1 ≡ outcome.changes
 
+-- an answer of the code, as the definitions have it
+abbrev pub viewed : {A B : Type 0} → (A → B) → Result A Refusal → Result B Refusal
+viewed view (Ok x) = Ok (view x)
+viewed view (Err why) = Err why
+
 abbrev pub paid_of : NewRows → Paid
 paid_of n = record { warehouse = n.warehouse; district = n.district; customer = n.customer; history = n.history; customer_id = n.customer_id; credit = n.credit }
 

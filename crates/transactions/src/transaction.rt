@@ -5,7 +5,7 @@ ghost use Rattle.requests.specs.declared.reply.Reply.TheVariants as reply;
 ghost use Rattle.tpcc_model.specs.Steps.{step};
 ghost use Rattle.transactions.specs.Outcomes.{IsOutcome};
 
-use crate::payment;
+use crate::{new_order, payment};
 use catalog::Catalog;
 use requests::reply::{Refusal, Reply};
 use requests::request::Request;
@@ -29,12 +29,12 @@ pub fn execute(
     ensures { IfOk result (IsOutcome (step (record { cards = catalog.now; rows = store.now }) request.now number moment)) }
 {
     match request {
+        Request::NewOrder(p) => new_order::execute(alloc, catalog, p, moment, store),
         Request::Payment(p) => payment::execute(alloc, catalog, p, number, moment, store),
-        // The other four aren't served yet: no reader gives them.
-        Request::NewOrder(_)
-        | Request::OrderStatus(_)
-        | Request::Delivery(_)
-        | Request::StockLevel(_) => Ok((refused(request, Refusal::UnknownKey), Delta::new(alloc))),
+        // The other three aren't served yet: no reader gives them.
+        Request::OrderStatus(_) | Request::Delivery(_) | Request::StockLevel(_) => {
+            Ok((refused(request, Refusal::UnknownKey), Delta::new(alloc)))
+        }
     }
 }
 

@@ -1,0 +1,252 @@
+//! New-Order (TPC-C clause 2.4): the cards of its keys are found, then the row of its district, then its lines are done
+//! in order, each on the rows as the earlier ones leave them.
+ghost use Rattle.std.specs.Prelude.{◌≡◌, ◌<◌, ◌≤◌, ◌+◌, pos, [], length, map, IfOk, OnOk};
+ghost use Rattle.std.specs.List.{sum_by};
+ghost use Rattle.tpcc_model.specs.NewOrders.{all_local, line_done, lines_done, new_order, opened, order_of, raised_district};
+ghost use Rattle.tpcc_model.specs.Steps.{new_order_outcome};
+ghost use Rattle.tpcc_rows.specs.Limits.{IsBetween};
+ghost use Rattle.tpcc_rows.specs.Prices.{total_cents};
+ghost use Rattle.transactions.specs.Faults.{AnswersBy};
+ghost use Rattle.transactions.specs.NewOrderParts.{line_cards_of, placed_order_of, so_far_of};
+ghost use Rattle.transactions.specs.Outcomes.{IsOutcome};
+
+use crate::fault::Fault;
+use crate::order_line::{
+    LineCards, brand_of, found_lines, line_amount, order_line_of, ordered_stock,
+};
+use crate::seen::stock_seen;
+use catalog::{Catalog, CustomerCard, DistrictCard, WarehouseCard};
+use requests::reply::{LineReplies, LineReply, NewOrderReply, Refusal, Reply};
+use requests::request::{NewOrder, OrderedLine, RequestKind};
+use std::alloc::Global;
+use tpcc_rows::delta::Delta;
+use tpcc_rows::id::{LineNumber, OrderId, WarehouseId};
+use tpcc_rows::key::RowKey;
+use tpcc_rows::memory::Memory;
+use tpcc_rows::number::{Cents, Moment};
+use tpcc_rows::plain::RowStore;
+use tpcc_rows::row::{DistrictRow, OrderRow, Row, StockRow};
+use tpcc_rows::total::total_cents;
+
+#[tactic(auto, unfolding(tpcc_model::specs::NewOrders::raised_district))]
+fn raised_district(old: &DistrictRow) -> Result<DistrictRow, Refusal>
+    ensures { result ≡ raised_district old.now }
+{
+    let next_order = old.next_order.next().ok_or(Refusal::LimitReached)?;
+    Ok(DistrictRow { next_order, ..*old })
+}
+
+fn line_number(number: usize) -> LineNumber
+    requires { IsBetween 1 15 number }
+    ensures { result ≡ number }
+{
+    LineNumber::new(number as u8).unwrap()
+}
+
+fn all_local(warehouse: WarehouseId, lines: &[OrderedLine]) -> bool
+    ensures { result ≡ all_local warehouse lines.now }
+{
+    lines.iter().all(|line| line.supply == warehouse)
+}
+
+#[tactic(auto, unfolding(tpcc_model::specs::NewOrders::order_of))]
+fn order_of(p: &NewOrder, moment: Moment) -> OrderRow
+    ensures { result ≡ order_of p.now moment }
+{
+    let lines = p.lines.as_slice();
+    OrderRow {
+        customer: p.customer,
+        entry: moment,
+        carrier: None,
+        line_count: line_number(lines.len()),
+        all_local: all_local(p.warehouse, lines),
+    }
+}
+
+/// What is made so far: the changes, and what is answered for the lines.
+#[derive(Drop)]
+struct OrderSoFar {
+    changes: Delta,
+    lines: LineReplies,
+}
+
+/// Line `number` of the order, where its stock has this row.
+#[tactic(auto, unfolding(tpcc_model::specs::NewOrders::line_done))]
+fn line_done(
+    p: &NewOrder,
+    order: OrderId,
+    number: LineNumber,
+    line: &LineCards<'_>,
+    old: &StockRow,
+    so_far: &mut OrderSoFar,
+) -> Result<(), Fault>
+    requires { length so_far.old.lines < 15 }
+    ensures answer { AnswersBy (λ done. so_far_of so_far.new) (line_done p.now order number (line_cards_of line.now) old.now (so_far_of so_far.old)) result }
+    ensures one_more { OnOk result (length so_far.new.lines ≡ length so_far.old.lines + 1) }
+{
+    let stock = ordered_stock(p.warehouse, line.ordered, old)?;
+    let amount = line_amount(line)?;
+    let reply = LineReply {
+        stock: stock.quantity,
+        brand: brand_of(line),
+        amount,
+    };
+    let stock_key = RowKey::Stock {
+        warehouse: line.ordered.supply,
+        item: line.ordered.item,
+    };
+    so_far.changes.put(stock_key, Row::Stock(stock))?;
+    let line_key = RowKey::OrderLine {
+        warehouse: p.warehouse,
+        district: p.district,
+        order,
+        number,
+    };
+    let line_row = order_line_of(p, line, amount);
+    so_far.changes.put(line_key, Row::OrderLine(line_row))?;
+    so_far.lines.push(reply);
+    Ok(())
+}
+
+/// All lines, each on the rows as the earlier ones leave them.
+fn lines_done(
+    store: &RowStore,
+    p: &NewOrder,
+    order: OrderId,
+    lines: &[LineCards<'_>],
+    so_far: &mut OrderSoFar,
+) -> Result<(), Fault>
+    requires few { length lines.now ≤ 15 }
+    requires none { so_far.old.lines ≡ [] }
+    ensures { AnswersBy (λ done. so_far_of so_far.new) (lines_done store.now p.now order 1 (map line_cards_of lines.now) (so_far_of so_far.old)) result }
+{
+    for (index, line) in lines.iter().enumerate() {
+        let OrderedLine { item, supply, .. } = *line.ordered;
+        let row = stock_seen(store, &so_far.changes, supply, item);
+        let old = *row.ok_or(Refusal::UnknownKey)?;
+        line_done(p, order, line_number(index + 1), line, &old, so_far)?;
+    }
+    Ok(())
+}
+
+/// What is made before the lines: the rows of the district, the order and the new order.
+#[tactic(auto, unfolding(tpcc_model::specs::NewOrders::opened))]
+fn opened(
+    alloc: Global,
+    p: &NewOrder,
+    moment: Moment,
+    order: OrderId,
+    district_row: DistrictRow,
+) -> Result<OrderSoFar, Memory>
+    ensures value { IfOk result (λ so_far. so_far_of so_far ≡ opened p.now moment order district_row) }
+    ensures none { IfOk result (λ so_far. so_far.lines ≡ []) }
+{
+    let (warehouse, district) = (p.warehouse, p.district);
+    let mut changes = Delta::new(alloc);
+    let district_key = RowKey::District {
+        warehouse,
+        district,
+    };
+    changes.put(district_key, Row::District(district_row))?;
+    let order_key = RowKey::Order {
+        warehouse,
+        district,
+        order,
+    };
+    changes.put(order_key, Row::Order(order_of(p, moment)))?;
+    let new_order_key = RowKey::NewOrder {
+        warehouse,
+        district,
+        order,
+    };
+    changes.put(new_order_key, Row::NewOrder)?;
+    Ok(OrderSoFar {
+        changes,
+        lines: LineReplies::new(),
+    })
+}
+
+/// The sum of OL_AMOUNT.
+fn sum_of(lines: &[LineReply]) -> u32
+    requires { length lines.now ≤ 15 }
+    ensures { result ≡ sum_by (λ line. line.amount) lines.now }
+{
+    lines.iter().map(|line| line.amount.cents()).sum()
+}
+
+fn total_of(
+    warehouse: &WarehouseCard,
+    district: &DistrictCard,
+    customer: &CustomerCard,
+    lines: &[LineReply],
+) -> Cents
+    requires { length lines.now ≤ 15 }
+    ensures { result ≡ pos (total_cents (sum_by (λ line. line.amount) lines.now) customer.now.discount warehouse.now.tax district.now.tax) }
+{
+    let total = total_cents(
+        sum_of(lines),
+        customer.discount,
+        warehouse.tax,
+        district.tax,
+    );
+    Cents::new(total).unwrap()
+}
+
+#[tactic(auto, unfolding(tpcc_model::specs::NewOrders::new_order, tpcc_model::specs::NewOrders::found_cards, tpcc_model::specs::NewOrders::new_order_reply))]
+fn new_order(
+    alloc: Global,
+    catalog: &Catalog,
+    p: &NewOrder,
+    moment: Moment,
+    store: &RowStore,
+) -> Result<(NewOrderReply, Delta), Fault>
+    ensures { AnswersBy placed_order_of (new_order (record { cards = catalog.now; rows = store.now }) p.now moment) result }
+{
+    let warehouse = catalog.warehouse(p.warehouse).ok_or(Refusal::UnknownKey)?;
+    let district = catalog
+        .district(p.warehouse, p.district)
+        .ok_or(Refusal::UnknownKey)?;
+    let customer = catalog
+        .customer(p.warehouse, p.district, p.customer)
+        .ok_or(Refusal::UnknownKey)?;
+    let lines = found_lines(alloc, catalog, p.lines.as_slice())?;
+    let old = store
+        .district(p.warehouse, p.district)
+        .ok_or(Refusal::UnknownKey)?;
+    let order = old.next_order;
+    let mut so_far = opened(alloc, p, moment, order, raised_district(old)?)?;
+    lines_done(store, p, order, &lines, &mut so_far)?;
+    let total = total_of(warehouse, district, customer, so_far.lines.as_slice());
+    let OrderSoFar { changes, lines } = so_far;
+    Ok((
+        NewOrderReply {
+            order,
+            total,
+            lines,
+        },
+        changes,
+    ))
+}
+
+/// The reply to a new order, and the rows that it changes.
+pub(crate) fn execute(
+    alloc: Global,
+    catalog: &Catalog,
+    p: &NewOrder,
+    moment: Moment,
+    store: &RowStore,
+) -> Result<(Reply, Delta), Memory>
+    ensures { IfOk result (IsOutcome (new_order_outcome (new_order (record { cards = catalog.now; rows = store.now }) p.now moment))) }
+{
+    match new_order(alloc, catalog, p, moment, store) {
+        Ok((reply, changes)) => Ok((Reply::NewOrder(reply), changes)),
+        Err(Fault::Refused(refusal)) => Ok((
+            Reply::Refused {
+                kind: RequestKind::NewOrder,
+                refusal,
+            },
+            Delta::new(alloc),
+        )),
+        Err(Fault::Memory) => Err(Memory),
+    }
+}

@@ -1,0 +1,191 @@
+//! One line of a new order (TPC-C clause 2.4.2.2): its cards, its stock after it, its brand and its row.
+ghost use Rattle.std.specs.Prelude.{◌≡◌, length, map, if◌then◌else◌, IfOk};
+ghost use Rattle.tpcc_model.specs.NewOrders.{brand_of, found_item, found_lines, found_stock, is_original, left_quantity, line_amount, order_line_of, ordered_stock, remote_orders};
+ghost use Rattle.tpcc_model.specs.Staging.{for_each};
+ghost use Rattle.transactions.specs.Faults.{AnswersBy};
+ghost use Rattle.transactions.specs.NewOrderParts.{line_cards_of, line_item_of};
+ghost use Rattle.transactions.specs.Outcomes.{viewed};
+
+use crate::fault::Fault;
+use catalog::{Catalog, ItemCard, StockCard};
+use requests::number::OrderedQuantity;
+use requests::reply::{Brand, Refusal};
+use requests::request::{NewOrder, OrderedLine};
+use std::alloc::Global;
+use tpcc_rows::id::WarehouseId;
+use tpcc_rows::number::{Amount, LineQuantity, StockQuantity};
+use tpcc_rows::row::{OrderLineRow, StockRow};
+
+/// A line with its item's card.
+#[derive(Drop)]
+struct LineItem<'a> {
+    ordered: &'a OrderedLine,
+    item: &'a ItemCard,
+}
+
+/// A line with its item's card and its stock's.
+#[derive(Drop)]
+pub(crate) struct LineCards<'a> {
+    pub ordered: &'a OrderedLine,
+    pub item: &'a ItemCard,
+    pub stock: &'a StockCard,
+}
+
+#[tactic(auto, unfolding(tpcc_model::specs::NewOrders::found_item))]
+fn found_item<'a>(catalog: &'a Catalog, line: &'a OrderedLine) -> Result<LineItem<'a>, Refusal>
+    ensures { viewed line_item_of result ≡ found_item catalog.now line.now }
+{
+    let item = catalog.item(line.item).ok_or(Refusal::ItemNotValid)?;
+    Ok(LineItem {
+        ordered: line,
+        item,
+    })
+}
+
+#[tactic(auto, unfolding(tpcc_model::specs::NewOrders::found_stock))]
+fn found_stock<'a>(catalog: &'a Catalog, line: &LineItem<'a>) -> Result<LineCards<'a>, Refusal>
+    ensures { viewed line_cards_of result ≡ found_stock catalog.now (line_item_of line.now) }
+{
+    let stock = catalog
+        .stock(line.ordered.supply, line.ordered.item)
+        .ok_or(Refusal::UnknownKey)?;
+    Ok(LineCards {
+        ordered: line.ordered,
+        item: line.item,
+        stock,
+    })
+}
+
+fn found_items<'a>(
+    alloc: Global,
+    catalog: &'a Catalog,
+    lines: &'a [OrderedLine],
+) -> Result<Vec<LineItem<'a>>, Fault>
+    ensures { AnswersBy (λ items. map line_item_of items.items) (for_each (found_item catalog.now) lines.now) result }
+{
+    let mut items = Vec::with_capacity(alloc, lines.len())?;
+    for line in lines {
+        items.push(found_item(catalog, line)?)?;
+    }
+    Ok(items)
+}
+
+fn found_stocks<'a>(
+    alloc: Global,
+    catalog: &'a Catalog,
+    items: &[LineItem<'a>],
+) -> Result<Vec<LineCards<'a>>, Fault>
+    ensures { AnswersBy (λ lines. map line_cards_of lines.items) (for_each (λ line. found_stock catalog.now (line_item_of line)) items.now) result }
+{
+    let mut lines = Vec::with_capacity(alloc, items.len())?;
+    for line in items {
+        lines.push(found_stock(catalog, line)?)?;
+    }
+    Ok(lines)
+}
+
+/// The lines with their cards. Each item is looked for before any stock.
+#[tactic(auto, unfolding(tpcc_model::specs::NewOrders::found_lines))]
+pub(crate) fn found_lines<'a>(
+    alloc: Global,
+    catalog: &'a Catalog,
+    lines: &'a [OrderedLine],
+) -> Result<Vec<LineCards<'a>>, Fault>
+    ensures answer { AnswersBy (λ found. map line_cards_of found.items) (found_lines catalog.now lines.now) result }
+    ensures len { IfOk result (λ found. length found.items ≡ length lines.now) }
+{
+    let items = found_items(alloc, catalog, lines)?;
+    found_stocks(alloc, catalog, &items)
+}
+
+fn left_quantity(have: StockQuantity, quantity: OrderedQuantity) -> i16
+    ensures { result ≡ left_quantity have quantity }
+{
+    let left = have.value() - i16::from(quantity.value());
+    if left >= 10 { left } else { left + 91 }
+}
+
+fn remote_orders(warehouse: WarehouseId, line: &OrderedLine) -> u8
+    ensures { result ≡ remote_orders warehouse line.now }
+{
+    if line.supply == warehouse { 0 } else { 1 }
+}
+
+#[tactic(auto, unfolding(tpcc_model::specs::NewOrders::ordered_stock))]
+pub(crate) fn ordered_stock(
+    warehouse: WarehouseId,
+    line: &OrderedLine,
+    old: &StockRow,
+) -> Result<StockRow, Refusal>
+    ensures { result ≡ ordered_stock warehouse line.now old.now }
+{
+    let left = left_quantity(old.quantity, line.quantity);
+    let quantity = StockQuantity::new(left).ok_or(Refusal::LimitReached)?;
+    let ytd = old
+        .ytd
+        .raised(line.quantity.value())
+        .ok_or(Refusal::LimitReached)?;
+    let order_count = old.order_count.raised(1).ok_or(Refusal::LimitReached)?;
+    let remote_count = old
+        .remote_count
+        .raised(remote_orders(warehouse, line))
+        .ok_or(Refusal::LimitReached)?;
+    Ok(StockRow {
+        quantity,
+        ytd,
+        order_count,
+        remote_count,
+    })
+}
+
+#[tactic(auto, unfolding(tpcc_model::specs::NewOrders::line_amount))]
+pub(crate) fn line_amount(line: &LineCards<'_>) -> Result<Amount, Refusal>
+    ensures { result ≡ line_amount (line_cards_of line.now) }
+{
+    let quantity = u32::from(line.ordered.quantity.value());
+    Amount::new(quantity * line.item.price.cents()).ok_or(Refusal::LimitReached)
+}
+
+#[tactic(auto, unfolding(tpcc_model::specs::NewOrders::is_original))]
+fn is_original(text: &[u8]) -> bool
+    ensures { result ≡ is_original text.now }
+{
+    for start in 0..text.len() {
+        if text[start..].starts_with(b"ORIGINAL") {
+            return true;
+        }
+    }
+    false
+}
+
+#[tactic(auto, unfolding(tpcc_model::specs::NewOrders::brand_of))]
+pub(crate) fn brand_of(line: &LineCards<'_>) -> Brand
+    ensures { result ≡ brand_of (line_cards_of line.now) }
+{
+    if is_original(line.item.data.as_bytes()) && is_original(line.stock.data.as_bytes()) {
+        Brand::Brand
+    } else {
+        Brand::Generic
+    }
+}
+
+// OL_QUANTITY, whose limits are wider than those of an ordered quantity.
+fn line_quantity(quantity: OrderedQuantity) -> LineQuantity
+    ensures { result ≡ quantity }
+{
+    LineQuantity::new(quantity.value()).unwrap()
+}
+
+#[tactic(auto, unfolding(tpcc_model::specs::NewOrders::order_line_of))]
+pub(crate) fn order_line_of(p: &NewOrder, line: &LineCards<'_>, amount: Amount) -> OrderLineRow
+    ensures { result ≡ order_line_of p.now (line_cards_of line.now) amount }
+{
+    OrderLineRow {
+        item: line.ordered.item,
+        supply: line.ordered.supply,
+        delivery: None,
+        quantity: line_quantity(line.ordered.quantity),
+        amount,
+        district_info: line.stock.district_info(p.district).copied(),
+    }
+}
