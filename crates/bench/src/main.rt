@@ -1,5 +1,5 @@
-//! Measurements, as ratios within one run: `rt run bench -- load` for the loading of an image, `rt run bench -- pay` for
-//! payments. With no word on its command line it does nothing. Times go to standard error.
+//! Measurements, as ratios within one run: in this folder, `rt run -- load` for the loading of an image and `rt run --
+//! pay` for payments. With no word on its command line it does nothing. Times go to standard error.
 #![tactic(auto)]
 
 mod images;

@@ -1,7 +1,7 @@
-//! One whole run over bytes in memory, for trying what comes where memory is refused: `rt try refused_memory --fail-alloc
-//! N` refuses the Nth growth. With ample memory it prints the replies and ends with status 0. Where the answer is that
-//! memory was refused, what the sink took is a beginning of the replies, and the status is 1 with no output. Anything
-//! else is printed as wrong.
+//! One whole run over bytes in memory, for trying what comes where memory is refused: in this folder, `rt try
+//! --fail-alloc N` refuses the Nth growth. With ample memory it prints the replies and ends with status 0. Where the
+//! answer is that memory was refused, what the sink took is a beginning of the replies, and the status is 1 with no
+//! output. Anything else is printed as wrong.
 #![tactic(auto)]
 
 use loader::LoadError;
