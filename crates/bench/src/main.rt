@@ -1,9 +1,11 @@
-//! Measurements, as ratios within one run: in this folder, `rt run -- load` for the loading of an image and `rt run --
-//! pay` for payments. With no word on its command line it does nothing. Times go to standard error.
+//! Measurements, as ratios within one run: in this folder, `rt run -- load` for loading and storing images, `rt run --
+//! pay` for payments, `rt run -- mix` for all transactions. With no word on its command line it does nothing. Times go
+//! to standard error.
 #![tactic(auto)]
 
 mod images;
 mod loading;
+mod mixing;
 mod paying;
 mod timing;
 
@@ -19,6 +21,7 @@ fn asked<R: Env + AllocGlobal>(rt: &R) -> io::Result<Option<String>> {
 fn measure<R: Clock + Eprint + AllocGlobal>(rt: &R, what: &str) -> io::Result<()> {
     match what {
         "load" => loading::measure(rt),
+        "mix" => mixing::measure(rt),
         "pay" => paying::measure(rt),
         _ => Err(io::ErrorKind::InvalidInput.into()),
     }

@@ -8,3 +8,11 @@ pub fn print_ratio(rt: &impl Eprint, what: &str, time: Duration, against: &str, 
     let (whole, part) = (hundredths / 100, hundredths % 100);
     let _ = eprintln!(rt; "{what}: {time} us, {whole}.{part:02} times {against} ({other} us)");
 }
+
+/// Prints what something took, and how much of a whole that is.
+pub fn print_share(rt: &impl Eprint, what: &str, time: Duration, whole: Duration) {
+    let (time, whole) = (time.as_micros(), whole.as_micros().max(1));
+    let per_mille = time.saturating_mul(1000) / whole;
+    let (percent, part) = (per_mille / 10, per_mille % 10);
+    let _ = eprintln!(rt; "{what}: {time} us, {percent}.{part} percent");
+}

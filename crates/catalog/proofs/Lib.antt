@@ -1,2 +1,6 @@
 pub mod CardKeys
+pub mod Counts
 pub mod Keyed
+pub mod Middles
+pub mod NameOrders
+pub mod Naming

@@ -1,4 +1,6 @@
 pub mod CardKinds
 pub mod CardMap
+pub mod LastNames
 pub mod Lookups
+pub mod NameOrder
 pub mod StockCards

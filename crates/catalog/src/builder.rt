@@ -1,5 +1,5 @@
 //! How a catalog is made.
-ghost use Rattle.std.specs.Prelude.{◌≡◌, IfOk, IfErr, IsSome, Ok, OnErr, OnOk, None, is_some};
+ghost use Rattle.std.specs.Prelude.{◌≡◌, IfOk, IfErr, IsSome, Ok, OnErr, OnOk, None};
 ghost use Rattle.std.specs.FinMap as map;
 ghost use Rattle.catalog.specs.CardKinds.{card_key};
 ghost use Rattle.catalog.specs.CardMap.{AreKeyed, HasTwins, cards_of};
@@ -60,41 +60,35 @@ impl CatalogBuilder {
         }
     }
 
-    fn has(&self, key: &CardKey) -> bool
-        ensures { result ≡ is_some (map.get self.now key.now) }
-    {
-        self.cards.get(key).is_some()
-    }
-
-    fn insert(&mut self, key: CardKey, card: Card) -> Result<(), Memory>
+    fn insert(&mut self, key: CardKey, card: Card) -> Result<Option<Card>, Memory>
         requires { card_key card ≡ key }
         ensures ok { OnOk result (self.new ≡ map.insert self.old key card) }
+        ensures old { IfOk result (λ old. old ≡ map.get self.old key) }
         ensures err { OnErr result (self.new ≡ self.old) }
     {
-        self.cards.insert(key, card)?;
-        Ok(())
+        Ok(self.cards.insert(key, card)?)
     }
 
-    /// One card more, whose key none of the others has.
+    /// One card more, whose key none of the others has. After `Twice` it stands in place of the other one.
     pub fn add(&mut self, card: Card) -> Result<(), CatalogError>
         ensures ok { OnOk result (self.new ≡ map.insert self.old (card_key card) card) }
         ensures fresh { OnOk result (map.get self.old (card_key card) ≡ None) }
         ensures twice { IfErr result (λ e. e ≡ Twice → IsSome (map.get self.old (card_key card))) }
-        ensures err { OnErr result (self.new ≡ self.old) }
+        ensures replaced { IfErr result (λ e. e ≡ Twice → self.new ≡ map.insert self.old (card_key card) card) }
+        ensures memory { IfErr result (λ e. e ≡ catalog_error.Memory → self.new ≡ self.old) }
     {
-        let key = card.key();
-        if self.has(&key) {
-            return Err(CatalogError::Twice);
+        match self.insert(card.key(), card)? {
+            None => Ok(()),
+            Some(_) => Err(CatalogError::Twice),
         }
-        self.insert(key, card)?;
-        Ok(())
     }
 
-    pub fn finish(self) -> Catalog
-        ensures cards { result ≡ self }
-        ensures keyed { AreKeyed result }
+    /// The catalog, whose customers are put in the order of their names.
+    pub fn finish(self, alloc: Global) -> Result<Catalog, Memory>
+        ensures cards { IfOk result (λ catalog. catalog ≡ self) }
+        ensures keyed { IfOk result AreKeyed }
     {
-        Catalog::from_map(self.cards)
+        Catalog::from_map(alloc, self.cards)
     }
 }
 
@@ -111,6 +105,7 @@ impl Catalog {
                 return Err(error);
             }
         }
-        Ok(builder.finish())
+        let catalog = builder.finish(alloc)?;
+        Ok(catalog)
     }
 }

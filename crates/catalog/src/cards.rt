@@ -1,24 +1,32 @@
 //! The catalog.
-ghost use Rattle.std.specs.Prelude.{◌≡◌, ◌<◌, ◌^◌, length, option_copied};
+ghost use Rattle.std.specs.Prelude.{◌≡◌, ◌<◌, ◌^◌, IfOk, length, option_copied};
 ghost use Rattle.std.specs.FinMap as map;
 ghost use Rattle.catalog.specs.CardMap.{AreKeyed};
+ghost use Rattle.catalog.specs.LastNames.{customer_by_last};
 ghost use Rattle.catalog.specs.Lookups.{customer_card, district_card, item_card, stock_card, warehouse_card};
 
 use crate::card::{Card, CardKey, CustomerCard, DistrictCard, ItemCard, StockCard, WarehouseCard};
+use crate::last_names::LastNames;
+use std::alloc::Global;
 use std::collections::BTreeMap;
 use std::collections::btree_map::Iter;
 use std::marker::Model;
 use tpcc_rows::id::{CustomerId, DistrictId, ItemId, WarehouseId};
+use tpcc_rows::memory::Memory;
+use tpcc_rows::text::Text;
 
 /// A finite map from keys to cards, each card at its own key. It is made by a `CatalogBuilder`, and doesn't change.
 #[derive(Drop)]
 pub struct Catalog {
     cards: BTreeMap<CardKey, Card>,
+    names: LastNames,
 }
 
 impl Model for Catalog {
     ghost use Rattle.std.specs.FinMap as map;
     ghost use Rattle.catalog.specs.CardMap.{AreKeyed, Cards, cards_code};
+    ghost use Rattle.catalog.specs.LastNames.{customer_cards};
+    ghost use Rattle.catalog.specs.NameOrder.{AreInOrder};
 
     ghost Value = { Cards };
 
@@ -26,16 +34,18 @@ impl Model for Catalog {
 
     ghost view = { λ s. map.from_entries s.cards.entries };
 
-    ghost invariant = { λ s. AreKeyed (map.from_entries s.cards.entries) };
+    ghost invariant = { λ s. AreKeyed (map.from_entries s.cards.entries) × AreInOrder (customer_cards (map.from_entries s.cards.entries)) s.names };
 }
 
 impl Catalog {
     /// The catalog of these cards.
-    pub(crate) fn from_map(cards: BTreeMap<CardKey, Card>) -> Catalog
+    pub(crate) fn from_map(alloc: Global, cards: BTreeMap<CardKey, Card>) -> Result<Catalog, Memory>
         requires { AreKeyed (map.from_entries cards.entries) }
-        ensures { result ≡ map.from_entries cards.entries }
+        ensures cards { IfOk result (λ catalog. catalog ≡ map.from_entries cards.entries) }
+        ensures keyed { IfOk result AreKeyed }
     {
-        Catalog { cards }
+        let names = LastNames::new(alloc, &cards)?;
+        Ok(Catalog { cards, names })
     }
 
     /// The card of a key, where there is one.
@@ -75,6 +85,20 @@ impl Catalog {
             customer,
         };
         self.get(&key)?.as_customer()
+    }
+
+    /// The customer of the district whom a last name means (TPC-C clauses 2.5.2.2 and 2.6.2.2): of n with this name,
+    /// in the order of C_FIRST and then C_ID, the one at n/2 rounded up.
+    #[tactic(auto, unfolding(crate::specs::LastNames::customer_by_last))]
+    pub fn by_last(
+        &self,
+        warehouse: WarehouseId,
+        district: DistrictId,
+        last: &Text<16>,
+    ) -> Option<CustomerId>
+        ensures { result ≡ customer_by_last self.now warehouse district last.now }
+    {
+        self.names.middle(warehouse, district, last)
     }
 
     pub fn stock(&self, warehouse: WarehouseId, item: ItemId) -> Option<&StockCard>

@@ -1,4 +1,5 @@
 pub mod FaultLemmas
 pub mod LineLemmas
+pub mod NumberLemmas
 pub mod SubcommandLemmas
 pub mod ValueLemmas

@@ -1,13 +1,12 @@
--- Words with no fault name a subcommand of the program, with each argument that it requires.
-use Rattle.std.proofs.Common.{[], ◌∷◌, ◌≡◌, codes, cond, drop, false, List, None, Option, option_map, refl, Some, subst, sym, true}
+-- Words with no fault name a subcommand of the program, with a value for each of its arguments.
+use Rattle.std.proofs.Common.{[], ◌≡◌, ◌⊎◌, codes, drop, false, inl, inr, List, None, Option, option_map, refl, Some, subst, sym}
 use Rattle.std.specs.Prelude.{IfSome, is_some, IsSomeAnd}
 use Rattle.std.specs.List.{find}
-use Rattle.clap.specs.Faults.{check_fault, defaults_fault, entered_fault, fault_of, other_fault, settle_fault, walk_fault}
-use Rattle.clap.specs.Simple.{App, built, built_leaf, entered, help_shape, inherited, label_of, marked_built, names_of, Shape, subcommand_of, with_leaf_noted}
+use Rattle.clap.specs.Faults.{check_fault, defaults_fault, entered_fault, fault_of, level_fault, other_fault, settle_fault, walk_fault}
+use Rattle.clap.specs.Simple.{App, built, built_leaf, entered, inherited, marked_built, names_of, rows_at, Shape, subcommand_of, with_leaf_noted}
 use Rattle.clap.specs.Walk.{answers_to, finished, Held, idle, Names, nothing_held, option, positional, Row, settled, subcommand_met, Text, Waiting, walk, walk_from}
-use Rattle.clap.proofs.WalkLemmas.{both}
-use Rattle.command_line.specs.CommandLine.{IsComplete, program_app, run_app}
-use Rattle.command_line.proofs.ValueLemmas.{level-required, or_else-first, or_else-second}
+use Rattle.command_line.specs.CommandLine.{IsComplete, IsMet, make_app, program_app, run_app}
+use Rattle.command_line.proofs.ValueLemmas.{find-All, level-has_values, or_else-first, or_else-second}
 use Rattle.command_line.proofs.SubcommandLemmas.{StopsAtOwn-walk}
 
 abbrev program : App
@@ -16,38 +15,44 @@ program = built program_app
 abbrev names : Names
 names = names_of program
 
+IfSome-option_map : {X Y : Type 0} (f : X → Y) (P : Y → Type 0) (o : Option X) → IfSome o (λ x. P (f x)) → IfSome (option_map f o) P
+IfSome-option_map f P None has = tt
+IfSome-option_map f P (Some x) has = has
+
+-- one of the program's own subcommands, which `help` is not
 abbrev IsOwn : Text → Type 0
-IsOwn name = name ≡ codes "run"
-
--- the program's command for `run`
-abbrev run : Shape
-run = built_leaf (inherited (with_leaf_noted (marked_built program_app.top)) run_app.top)
-
-abbrev IsOwnIfSome : Text → Held → Option (Text × List Text) → Type 0
-IsOwnIfSome word held met = IfSome (option_map (λ label. label.0) met) (λ name. other_fault program.top (Some name) word held ≡ [] → IsOwn name)
+IsOwn name = (name ≡ codes "run") ⊎ (name ≡ codes "make")
 
 -- `help` is answered in place of being entered
 own : (waiting : Waiting) (word : Text) (held : Held) → IfSome (subcommand_met names waiting word) (λ name. other_fault program.top (Some name) word held ≡ [] → IsOwn name)
 own idle word held =
-    let help : IsOwnIfSome word held (find (answers_to word) (label_of help_shape ∷ [])) =
-    elim (answers_to word (label_of help_shape)) as (λ is. IsOwnIfSome word held (cond is (Some (label_of help_shape)) None)) [
-      | true ↦ λ none. cc
-      | false ↦ tt
-    ] in
-    elim (answers_to word (label_of run)) as (λ is. IsOwnIfSome word held (cond is (Some (label_of run)) (find (answers_to word) (label_of help_shape ∷ [])))) [
-      | true ↦ λ none. refl
-      | false ↦ help
-    ]
+    let P : Text → Type 0 = λ name. other_fault program.top (Some name) word held ≡ [] → IsOwn name in
+    IfSome-option_map (λ label. label.0) P (find (answers_to word) names)
+    (find-All (answers_to word) (λ label. P label.0) names (λ none. inl refl, (λ none. inr refl, (λ none. cc, tt))))
 own (option id) word held = tt
 own positional word held = tt
+
+-- the program's command for a subcommand
+abbrev built_in : App → Shape
+built_in app = built_leaf (inherited (with_leaf_noted (marked_built program_app.top)) app.top)
+
+run_met : (words : List Text) → level_fault (built_in run_app) [] nothing_held words false [] ≡ [] → IsMet run_app (rows_at (built_in run_app) words)
+run_met words none =
+    let given = level-has_values (built_in run_app) words refl none in
+    (refl, (given.0 refl, (given.1.0 refl, tt)))
+
+make_met : (words : List Text) → level_fault (built_in make_app) [] nothing_held words false [] ≡ [] → IsMet make_app (rows_at (built_in make_app) words)
+make_met words none =
+    let given = level-has_values (built_in make_app) words refl none in
+    (refl, (given.0 refl, (given.1.0 refl, (given.1.1.0 refl, tt))))
 
 entered-complete : (name : Text) (words : List Text) → IsOwn name → entered_fault program (Some (name, words)) ≡ [] → IsSomeAnd (entered program (Some (name, words))) IsComplete
 entered-complete name words is none =
     let P : Text → Type 0 = λ text. entered_fault program (Some (text, words)) ≡ [] → IsSomeAnd (entered program (Some (text, words))) IsComplete in
-    let at_run : P (codes "run") = λ passed.
-    let given = level-required run words refl passed in
-    (refl, (both _ _ given).0, (both _ _ (both _ _ given).1).0) in
-    subst P (sym is) at_run none
+    elim is [
+      | inl run ↦ subst P (sym run) (λ passed. inl (run_met words passed)) none
+      | inr make ↦ subst P (sym make) (λ passed. inr (make_met words passed)) none
+    ]
 
 stop-complete : (stop : Option (Text × List Text)) (rows : List Row) → IfSome stop (λ p. IsOwn p.0) → entered_fault program stop ≡ []
     → check_fault program.top rows (is_some (entered program stop)) ≡ [] → IsSomeAnd (entered program stop) IsComplete

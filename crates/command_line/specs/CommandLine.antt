@@ -1,18 +1,26 @@
 -- The words that the program takes, and the line that they are.
-use Rattle.std.specs.Prelude.{◌≡◌, ℕ, IsSome, List, Some, String, codes, false, string_bytes, true}
+use Rattle.std.specs.Prelude.{◌≡◌, ◌⊎◌, ℕ, ⊤, IsSomeAnd, List, Some, String, codes, false, pos}
+use Rattle.std.specs.Prelude.{string_bytes, true}
+use Rattle.std.specs.Int.{IsInRange}
+use Rattle.std.specs.List.{AllByRecursion}
+use Rattle.std.specs.Str.Parse.{IsNumeral, digits_value, without_leading_plus}
 use Rattle.std.specs.declared.alloc.Global.{Global}
-use Rattle.clap.specs.Words.{App, IsAmong, Kinds, Row, Rule, Text, app_of, first_of, found_of}
-use Rattle.clap.specs.Words.{kind_of, new_app, new_rule, rows_of, rule_of, with_rule, with_subcommand}
+use Rattle.clap.specs.Words.{Accepts, App, IsAmong, Kinds, Row, Rule, Text, app_of, first_of}
+use Rattle.clap.specs.Words.{found_of, kind_of, new_app, new_rule, one_of, read_as, rows_of}
+use Rattle.clap.specs.Words.{rule_of, with_rule, with_subcommand}
+use Rattle.clap.specs.Facts.{parser_of_value}
 use Rattle.clap.specs.Simple.{on_top}
+use Rattle.clap.specs.Walk.{reading_by}
 use Rattle.clap.specs.declared.builder.arg.Arg.{Arg}
 use Rattle.clap.specs.declared.builder.command.Command.{Command}
 use Rattle.clap.specs.declared.builder.command.Command.TheViews.{out-Command}
+use Rattle.clap.specs.declared.builder.value_parser.ValueParser.TheVariants.{Signed}
 use Rattle.clap.specs.declared.error.Error.{Error}
 use Rattle.clap.specs.declared.error.kind.ErrorKind.{ErrorKind}
 use Rattle.clap.specs.declared.error.kind.ErrorKind.TheVariants.{DisplayHelp, OutOfMemory}
 use Rattle.clap.specs.declared.parser.matches.ArgMatches.{ArgMatches}
 use Rattle.command_line.specs.declared.line.Line.{Line}
-use Rattle.command_line.specs.declared.line.Line.TheVariants.{Run}
+use Rattle.command_line.specs.declared.line.Line.TheVariants.{Make, Run}
 use Rattle.command_line.specs.declared.line.LineFault.{LineFault}
 use Rattle.command_line.specs.declared.line.LineFault.TheVariants.{Memory, Refused}
 
@@ -22,15 +30,34 @@ use Rattle.command_line.specs.declared.line.LineFault.TheVariants.{Memory, Refus
 abbrev pub required_rule : Text → Rule
 required_rule id = record (new_rule id) { required = true }
 
+-- the same, of a number between these two
+abbrev pub number_rule : Text → ℕ → ℕ → Rule
+number_rule id least most =
+    record (required_rule id) { parser = Some (Signed (pos least) (pos most)) }
+
 abbrev pub image_rule : Rule
 image_rule = required_rule (codes "IMAGE")
 
 abbrev pub batches_rule : Rule
 batches_rule = required_rule (codes "BATCHES")
 
+abbrev pub warehouses_rule : Rule
+warehouses_rule = number_rule (codes "W") 1 100
+
+abbrev pub customers_rule : Rule
+customers_rule = number_rule (codes "C") 1 3000
+
+abbrev pub items_rule : Rule
+items_rule = number_rule (codes "I") 1 100000
+
 -- run IMAGE BATCHES
 abbrev pub run_app : App
 run_app = with_rule (with_rule (new_app (codes "run")) image_rule) batches_rule
+
+-- make W C I
+abbrev pub make_app : App
+make_app = with_rule (with_rule (with_rule (new_app (codes "make")) warehouses_rule) customers_rule)
+    items_rule
 
 -- the program without its subcommands, one of which has to be given
 abbrev pub bare_app : App
@@ -38,7 +65,7 @@ bare_app = on_top (λ shape. record shape { subcommand_required = true }) (new_a
 
 -- the program
 abbrev pub program_app : App
-program_app = with_subcommand bare_app run_app.top
+program_app = with_subcommand (with_subcommand bare_app run_app.top) make_app.top
 
 -- an argument of this form, of its own command alone
 abbrev pub IsArgument : Rule → Arg → Type 0
@@ -58,17 +85,47 @@ rows_in matches = rows_of (found_of matches)
 abbrev pub HasText : List Row → Text → String Global → Type 0
 HasText rows id text = first_of id rows ≡ Some (string_bytes text)
 
--- the subcommand that was met is one of the program's, with each argument that it requires
+-- the text is this number in decimal digits, behind a plus or nothing
+abbrev pub Spells : Text → ℕ → Type 0
+Spells text number =
+    IsNumeral 10 (without_leading_plus text)
+    × (digits_value 10 (without_leading_plus text) ≡ number)
+
+-- the number that the argument with this id spells
+abbrev pub HasNumber : List Row → Text → ℕ → Type 0
+HasNumber rows id number = IsSomeAnd (first_of id rows) (λ text. Spells text number)
+
+-- the text is one that the argument accepts
+abbrev pub IsValueOf : Rule → Text → Type 0
+IsValueOf rule text = Accepts rule.ignore_case (parser_of_value rule.parser) text
+
+-- such a text was found for the argument, to be read as its parser says
+abbrev pub HasValue : List Row → Rule → Type 0
+HasValue rows rule = IsSomeAnd (first_of rule.id rows) (λ text.
+    IsValueOf rule text × (one_of rule.id rows ≡ Some (read_as (reading_by rule) text)))
+
+-- this subcommand was met, with a value for each of its arguments
+abbrev pub IsMet : App → Text × List Row → Type 0
+IsMet app met = (met.0 ≡ app.top.name) × AllByRecursion (HasValue met.1) app.top.rules
+
+-- the subcommand that was met is one of the program's, with a value for each of its arguments
 abbrev pub IsComplete : Text × List Row → Type 0
-IsComplete met =
-    (met.0 ≡ codes "run") × IsSome (first_of (codes "IMAGE") met.1)
-    × IsSome (first_of (codes "BATCHES") met.1)
+IsComplete met = IsMet run_app met ⊎ IsMet make_app met
 
 -- the line is that of the subcommand that was met, by its name and its rows
 abbrev pub IsLineOf : Line → Text × List Row → Type 0
 IsLineOf (Run image batches) met =
     (met.0 ≡ codes "run") × HasText met.1 (codes "IMAGE") image
     × HasText met.1 (codes "BATCHES") batches
+IsLineOf (Make warehouses customers items) met =
+    (met.0 ≡ codes "make") × HasNumber met.1 (codes "W") warehouses
+    × HasNumber met.1 (codes "C") customers × HasNumber met.1 (codes "I") items
+
+-- the numbers of the line are within their bounds
+abbrev pub IsWithinBounds : Line → Type 0
+IsWithinBounds (Run image batches) = ⊤
+IsWithinBounds (Make warehouses customers items) =
+    IsInRange 1 100 warehouses × IsInRange 1 3000 customers × IsInRange 1 100000 items
 
 -- ---- why the words are no line
 

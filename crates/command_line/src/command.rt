@@ -1,9 +1,10 @@
 //! The command that `clap` reads the words by: a function for each argument and each subcommand.
 ghost use Rattle.std.specs.Prelude.{IfOk};
 ghost use Rattle.command_line.specs.CommandLine.{IsArgument, IsCommand, bare_app, batches_rule};
-ghost use Rattle.command_line.specs.CommandLine.{image_rule, run_app, program_app};
+ghost use Rattle.command_line.specs.CommandLine.{customers_rule, image_rule, items_rule, make_app};
+ghost use Rattle.command_line.specs.CommandLine.{program_app, run_app, warehouses_rule};
 
-use clap::{Arg, Command};
+use clap::{Arg, Command, value_parser};
 use std::alloc::{AllocError, Global};
 
 fn image<'a>(alloc: Global) -> Arg<'a>
@@ -22,6 +23,33 @@ fn batches<'a>(alloc: Global) -> Arg<'a>
         .help("The file of the batches")
 }
 
+fn warehouses<'a>(alloc: Global) -> Arg<'a>
+    ensures { IsArgument warehouses_rule result }
+{
+    Arg::new(alloc, "W")
+        .required(true)
+        .value_parser(value_parser!(u8).range(1..=100))
+        .help("The number of warehouses, 1 to 100")
+}
+
+fn customers<'a>(alloc: Global) -> Arg<'a>
+    ensures { IsArgument customers_rule result }
+{
+    Arg::new(alloc, "C")
+        .required(true)
+        .value_parser(value_parser!(u16).range(1..=3_000))
+        .help("The number of customers of a district, 1 to 3000")
+}
+
+fn items<'a>(alloc: Global) -> Arg<'a>
+    ensures { IsArgument items_rule result }
+{
+    Arg::new(alloc, "I")
+        .required(true)
+        .value_parser(value_parser!(u32).range(1..=100_000))
+        .help("The number of items, 1 to 100000")
+}
+
 fn run<'a>(alloc: Global) -> Result<Command<'a>, AllocError>
     ensures { IfOk result (IsCommand run_app) }
 {
@@ -29,6 +57,16 @@ fn run<'a>(alloc: Global) -> Result<Command<'a>, AllocError>
         .about("Executes the batches of a file on the database of an image")
         .arg(image(alloc))?
         .arg(batches(alloc))
+}
+
+fn make<'a>(alloc: Global) -> Result<Command<'a>, AllocError>
+    ensures { IfOk result (IsCommand make_app) }
+{
+    Command::new(alloc, "make")
+        .about("Writes the image of a new database")
+        .arg(warehouses(alloc))?
+        .arg(customers(alloc))?
+        .arg(items(alloc))
 }
 
 // The program without its subcommands. Its name stands in the usage as it is given here, whatever
@@ -48,5 +86,6 @@ pub fn program<'a>(alloc: Global) -> Result<Command<'a>, AllocError>
     ensures { IfOk result (IsCommand program_app) }
 {
     let run = run(alloc)?;
-    bare(alloc)?.subcommand(run)
+    let make = make(alloc)?;
+    bare(alloc)?.subcommand(run)?.subcommand(make)
 }

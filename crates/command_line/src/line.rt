@@ -2,8 +2,8 @@
 ghost use Rattle.std.specs.Prelude.{◌≡◌, [], IfErr, IfOk, IsSomeAnd, OnOk, map, string_bytes};
 ghost use Rattle.clap.specs.Words.{fault_of, kind_of, subcommand_of};
 ghost use Rattle.command_line.specs.declared.line.LineFault.TheVariants.{Memory};
-ghost use Rattle.command_line.specs.CommandLine.{IsFaultOf, IsLineOf, fault_by, program_app};
-ghost use Rattle.command_line.specs.CommandLine.{status_of};
+ghost use Rattle.command_line.specs.CommandLine.{IsFaultOf, IsLineOf, IsWithinBounds, fault_by};
+ghost use Rattle.command_line.specs.CommandLine.{program_app, status_of};
 
 use crate::matches::{line_in, matches_of};
 use clap::Error;
@@ -19,6 +19,15 @@ pub enum Line {
         image: String,
         /// The path of the batches.
         batches: String,
+    },
+    /// To make the database of these sizes.
+    Make {
+        /// The number of warehouses.
+        warehouses: u8,
+        /// The number of customers of a district.
+        customers: u16,
+        /// The number of items.
+        items: u32,
     },
 }
 
@@ -55,6 +64,7 @@ impl From<Error> for LineFault {
 pub fn line_of(alloc: Global, words: Vec<String>) -> Result<Line, LineFault>
     ensures line { IfOk result (λ line.
         IsSomeAnd (subcommand_of program_app (map string_bytes words.items)) (IsLineOf line)) }
+    ensures bounds { IfOk result IsWithinBounds }
     ensures accepted { OnOk result (fault_of program_app (map string_bytes words.items) ≡ []) }
     ensures refused { IfErr result (IsFaultOf (fault_of program_app
         (map string_bytes words.items))) }

@@ -2,8 +2,9 @@
 ghost use Rattle.std.specs.Prelude.{◌≡◌, [], IfErr, IfOk, IsSome, IsSomeAnd, OnOk, codes, map};
 ghost use Rattle.std.specs.Prelude.{string_bytes};
 ghost use Rattle.clap.specs.Words.{fault_of, first_of, subcommand_of, subcommand_rows_of};
-ghost use Rattle.command_line.specs.CommandLine.{HasText, IsComplete, IsFaultOf, IsLineOf, rows_in};
-ghost use Rattle.command_line.specs.CommandLine.{program_app};
+ghost use Rattle.command_line.specs.CommandLine.{HasText, IsComplete, IsFaultOf, IsLineOf, IsMet};
+ghost use Rattle.command_line.specs.CommandLine.{IsWithinBounds, make_app, program_app, rows_in};
+ghost use Rattle.command_line.specs.CommandLine.{run_app};
 
 use crate::command::program;
 use crate::line::{Line, LineFault};
@@ -31,21 +32,37 @@ fn text_of(alloc: Global, matches: &ArgMatches, id: &str) -> Result<String, Allo
 }
 
 fn run_in(alloc: Global, matches: &ArgMatches) -> Result<Line, AllocError>
-    requires { IsComplete (codes "run", rows_in matches.now) }
-    ensures { IfOk result (λ line. IsLineOf line (codes "run", rows_in matches.now)) }
+    requires { IsMet run_app (codes "run", rows_in matches.now) }
+    ensures line { IfOk result (λ line. IsLineOf line (codes "run", rows_in matches.now)) }
+    ensures bounds { IfOk result IsWithinBounds }
 {
     let image = text_of(alloc, matches, "IMAGE")?;
     let batches = text_of(alloc, matches, "BATCHES")?;
     Ok(Line::Run { image, batches })
 }
 
+fn make_in(matches: &ArgMatches) -> Line
+    requires { IsMet make_app (codes "make", rows_in matches.now) }
+    ensures line { IsLineOf result (codes "make", rows_in matches.now) }
+    ensures bounds { IsWithinBounds result }
+{
+    Line::Make {
+        warehouses: matches.get_one("W").unwrap(),
+        customers: matches.get_one("C").unwrap(),
+        items: matches.get_one("I").unwrap(),
+    }
+}
+
 /// The line of the subcommand that was met.
 pub fn line_in(alloc: Global, matches: &ArgMatches) -> Result<Line, AllocError>
     requires { IsSomeAnd (subcommand_rows_of matches.now) IsComplete }
-    ensures { IfOk result (λ line. IsSomeAnd (subcommand_rows_of matches.now) (IsLineOf line)) }
+    ensures line { IfOk result (λ line.
+        IsSomeAnd (subcommand_rows_of matches.now) (IsLineOf line)) }
+    ensures bounds { IfOk result IsWithinBounds }
 {
     match matches.subcommand() {
         Some(("run", run)) => run_in(alloc, run),
+        Some(("make", make)) => Ok(make_in(make)),
         _ => unreachable!(),
     }
 }

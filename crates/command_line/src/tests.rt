@@ -26,12 +26,42 @@ fn refusal(alloc: Global, line: &str) -> Result<(clap::Error, u8), Fail> {
     }
 }
 
+// The text of the error at which a line is refused.
+fn printed(alloc: Global, line: &str) -> Result<String, Fail> {
+    let (error, _) = refusal(alloc, line)?;
+    Ok(format!(in alloc; "{error}")?)
+}
+
 #[test]
 fn takes_a_run(rt: HostRuntime) -> Result<(), Fail> {
     let words = words(rt.alloc(), "eve-tpcc run image.csv batches.csv")?;
-    let Line::Run { image, batches } = line_of(rt.alloc(), words)?;
+    let Line::Run { image, batches } = line_of(rt.alloc(), words)? else {
+        return Err(Fail::new("another line"));
+    };
     assert_eq!(rt; image.as_str(), "image.csv");
     assert_eq!(rt; batches.as_str(), "batches.csv");
+    Ok(())
+}
+
+#[test]
+fn takes_a_make(rt: HostRuntime) -> Result<(), Fail> {
+    for (line, sizes) in [
+        ("eve-tpcc make 1 45 100", (1, 45, 100)),
+        ("eve-tpcc make 1 1 1", (1, 1, 1)),
+        ("eve-tpcc make 100 3000 100000", (100, 3_000, 100_000)),
+        ("eve-tpcc make +5 007 +0100", (5, 7, 100)),
+    ] {
+        let words = words(rt.alloc(), line)?;
+        let Line::Make {
+            warehouses,
+            customers,
+            items,
+        } = line_of(rt.alloc(), words)?
+        else {
+            return Err(Fail::new("another line"));
+        };
+        assert_eq!(rt; (warehouses, customers, items), sizes, "at {line}");
+    }
     Ok(())
 }
 
@@ -45,6 +75,20 @@ fn refuses_other_words(rt: HostRuntime) -> Result<(), Fail> {
         ("eve-tpcc run a", ErrorKind::MissingRequiredArgument),
         ("eve-tpcc run a b c", ErrorKind::UnknownArgument),
         ("eve-tpcc run a b --workers 2", ErrorKind::UnknownArgument),
+        ("eve-tpcc make", ErrorKind::MissingRequiredArgument),
+        ("eve-tpcc make 1 1", ErrorKind::MissingRequiredArgument),
+        ("eve-tpcc make 1 1 1 1", ErrorKind::UnknownArgument),
+        ("eve-tpcc make -1 1 1", ErrorKind::UnknownArgument),
+        ("eve-tpcc make 0 1 1", ErrorKind::ValueValidation),
+        ("eve-tpcc make 101 1 1", ErrorKind::ValueValidation),
+        ("eve-tpcc make 1 0 1", ErrorKind::ValueValidation),
+        ("eve-tpcc make 1 3001 1", ErrorKind::ValueValidation),
+        ("eve-tpcc make 1 1 0", ErrorKind::ValueValidation),
+        ("eve-tpcc make 1 1 100001", ErrorKind::ValueValidation),
+        ("eve-tpcc make 1 1 1.5", ErrorKind::ValueValidation),
+        ("eve-tpcc make 1 1 -- -1", ErrorKind::ValueValidation),
+        ("eve-tpcc make one 1 1", ErrorKind::ValueValidation),
+        ("eve-tpcc make  1 1", ErrorKind::ValueValidation),
     ];
     for (line, kind) in cases {
         let (error, status) = refusal(rt.alloc(), line)?;
@@ -64,6 +108,9 @@ fn helps(rt: HostRuntime) -> Result<(), Fail> {
         "eve-tpcc help run",
         "eve-tpcc run --help",
         "eve-tpcc run a -h",
+        "eve-tpcc help make",
+        "eve-tpcc make --help",
+        "eve-tpcc make 1 -h",
     ] {
         let (error, status) = refusal(rt.alloc(), line)?;
         assert_eq!(rt; status, 0, "at {line}");
@@ -94,15 +141,51 @@ Usage: eve-tpcc run <IMAGE> <BATCHES>
 For more information, try '--help'.
 ";
 
+const MAKE_HELP: &str = "\
+Writes the image of a new database
+
+Usage: eve-tpcc make <W> <C> <I>
+
+Arguments:
+  <W>  The number of warehouses, 1 to 100
+  <C>  The number of customers of a district, 1 to 3000
+  <I>  The number of items, 1 to 100000
+
+Options:
+  -h, --help  Print help
+";
+
 #[test]
 fn names_the_program_whatever_it_was_started_as(rt: HostRuntime) -> Result<(), Fail> {
     for (line, text) in [
         ("out/eve_tpcc run --help", RUN_HELP),
         ("out/eve_tpcc run a", NO_BATCHES),
+        ("out/eve_tpcc make --help", MAKE_HELP),
     ] {
-        let (error, _) = refusal(rt.alloc(), line)?;
-        let printed = format!(in rt.alloc(); "{error}")?;
-        assert_eq!(rt; printed.as_str(), text);
+        assert_eq!(rt; printed(rt.alloc(), line)?.as_str(), text);
+    }
+    Ok(())
+}
+
+const NO_CUSTOMER: &str = "\
+error: invalid value '0' for '<C>': 0 is not in 1..=3000
+
+For more information, try '--help'.
+";
+
+const NO_NUMBER: &str = "\
+error: invalid value 'one' for '<W>': invalid digit found in string
+
+For more information, try '--help'.
+";
+
+#[test]
+fn says_why_a_number_is_refused(rt: HostRuntime) -> Result<(), Fail> {
+    for (line, text) in [
+        ("eve-tpcc make 1 0 1", NO_CUSTOMER),
+        ("eve-tpcc make one 1 1", NO_NUMBER),
+    ] {
+        assert_eq!(rt; printed(rt.alloc(), line)?.as_str(), text);
     }
     Ok(())
 }

@@ -2,9 +2,11 @@
 //! thin layer over the crates below: it opens files, and prints what they answer.
 #![tactic(auto)]
 
+ghost use Rattle.tpcc_rows.specs.Limits.{IsBetween};
+
 use command_line::{Line, LineFault, line_of, line_status};
 use requests::ends::Counting;
-use runner::{RunFault, fault_line, run_text};
+use runner::{RunFault, fault_line, make_text, run_text};
 use std::process::ExitCode;
 use std::rt::{Env, Files};
 use std::{env, fs, io, str};
@@ -48,6 +50,23 @@ where
     }
 }
 
+fn make<R: Print + Eprint + AllocGlobal>(
+    rt: &R,
+    warehouses: u8,
+    customers: u16,
+    items: u32,
+) -> ExitCode
+    requires warehouses { IsBetween 1 100 warehouses }
+    requires customers { IsBetween 1 3000 customers }
+    requires items { IsBetween 1 100000 items }
+{
+    let mut output = Counting::new(io::writer(rt));
+    match make_text(rt.alloc(), warehouses, customers, items, &mut output) {
+        Ok(()) => ExitCode::SUCCESS,
+        Err(fault) => report(rt, &fault),
+    }
+}
+
 fn words<R: Env + AllocGlobal>(rt: &R) -> io::Result<Vec<String>> {
     Ok(env::args(rt)?.collect(rt.alloc())?)
 }
@@ -58,6 +77,13 @@ fn main(rt: HostRuntime) -> ExitCode {
     };
     match line_of(rt.alloc(), words) {
         Ok(Line::Run { image, batches }) => run(&rt, image.as_str(), batches.as_str()),
+        Ok(
+            Line::Make {
+                warehouses,
+                customers,
+                items,
+            },
+        ) => make(&rt, warehouses, customers, items),
         Err(fault) => {
             let status = line_status(&fault);
             if let LineFault::Refused(error) = fault {

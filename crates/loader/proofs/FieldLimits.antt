@@ -1,7 +1,7 @@
 -- What is read from a field is within its limits.
-use Rattle.std.proofs.Common.{◌≡◌, ◌-ℤ◌, ℕ, pos, List, [], ◌∷◌, ◌&&◌, Bool, true, false, cond, Option, Some, None, Result, Ok, Err, refl, arith, inl, inr}
+use Rattle.std.proofs.Common.{◌≡◌, ◌≤◌, ◌+◌, ◌-ℤ◌, ℕ, zero, suc, ℤ, pos, List, [], ◌∷◌, ◌&&◌, Bool, true, false, cond, Option, Some, None, IfSome, Result, Ok, Err, refl, ap, arith, inl, inr}
 use Rattle.std.specs.Prelude.{IfOk, length, nat_le, ◌==◌, codes}
-use Rattle.std.specs.List.{list_all}
+use Rattle.std.specs.List.{AllByRecursion, list_all}
 use Rattle.std.specs.Str.{bytes_eq}
 use Rattle.std.specs.Str.Parse.{digits_value}
 use Rattle.std.proofs.lemmas.Int.{ints}
@@ -9,11 +9,12 @@ use Rattle.std.proofs.lemmas.Bool.{cases_Bool}
 use Rattle.std.proofs.lemmas.List.Elements.{All-cons, All-nil}
 use Rattle.std.proofs.lemmas.Bool.Decides.{nat_tests}
 use Rattle.csv.specs.Records.{field_at}
-use Rattle.requests.specs.Fields.{◌>>=◌, Fields, below_zero, in_range, is_numeral, number_at, number_in, said_by, signed_at, signed_in, text_at, text_in}
+use Rattle.requests.specs.Fields.{◌>>=◌, Fields, below_zero, in_range, is_numeral, is_text as is_field, number_at, number_in, number_or_null_at, said_by, signed_at, signed_in, text_at, text_in}
 use Rattle.requests.specs.declared.fault.Slip.{Slip}
 use Rattle.requests.specs.declared.fault.Slip.TheVariants as slip
-use Rattle.tpcc_rows.specs.Limits.{IsBetween, IsCents}
+use Rattle.tpcc_rows.specs.Limits.{IsBetween, IsCents, IsStockQuantity}
 use Rattle.tpcc_rows.specs.Texts.{ArePrintable, IsPrintable, IsText, is_printable, is_text}
+use Rattle.loader.specs.Columns.{texts_at}
 use Rattle.tpcc_rows.proofs.Singles.{and-left, and-right}
 
 -- a field, and what is made of it
@@ -45,23 +46,38 @@ said_by-within P says all (Some bytes) = all bytes
 pub number_at-within : (fields : Fields) (i low high : ℕ) → IfOk (number_at fields i low high) (IsBetween low high)
 number_at-within fields i low high = said_by-within (IsBetween low high) (number_in low high) (number_in-within low high) (field_at fields i)
 
-below_zero-within : (digits : List ℕ) → IfOk (below_zero 1000000000000000 digits) IsCents
-below_zero-within digits = elim (cases_Bool (bytes_eq digits (codes "0"))) [
-  | inl zero ↦ rw zero tt
-  | inr other ↦ rw other (then-gives (IsBetween 0 1000000000000000) IsCents (number_in 0 1000000000000000 digits) (λ n. Ok (pos 0 -ℤ pos n)) (number_in-within 0 1000000000000000 digits) (λ n h. let most = h.1 in (omega (arith, ints, most), omega (arith, ints, most))))
-]
+-- a signed number, whose limits are these
+module _ (most : ℕ) (P : ℤ → Type 0) (above : (n : ℕ) → n ≤ most → P (pos n)) (below : (n : ℕ) → n ≤ most → P (pos 0 -ℤ pos n)) where
+  below_zero-within : (digits : List ℕ) → IfOk (below_zero most digits) P
+  below_zero-within digits = elim (cases_Bool (bytes_eq digits (codes "0"))) [
+    | inl none ↦ rw none tt
+    | inr other ↦ rw other (then-gives (IsBetween 0 most) P (number_in 0 most digits) (λ n. Ok (pos 0 -ℤ pos n)) (number_in-within 0 most digits) (λ n h. below n h.1))
+  ]
 
-cents_in-within : (bytes : List ℕ) → IfOk (signed_in 1000000000000000 bytes) IsCents
-cents_in-within [] = tt
-cents_in-within (b ∷ bytes) = elim (cases_Bool (b == 45)) [
-  | inl sign ↦ rw sign (below_zero-within bytes)
-  | inr other ↦ rw other (then-gives (IsBetween 0 1000000000000000) IsCents (number_in 0 1000000000000000 (b ∷ bytes)) (λ n. Ok (pos n)) (number_in-within 0 1000000000000000 (b ∷ bytes)) (λ n h. let most = h.1 in (omega (arith, ints, most), omega (arith, ints, most))))
-]
+  signed_in-within : (bytes : List ℕ) → IfOk (signed_in most bytes) P
+  signed_in-within [] = tt
+  signed_in-within (b ∷ bytes) = elim (cases_Bool (b == 45)) [
+    | inl sign ↦ rw sign (below_zero-within bytes)
+    | inr other ↦ rw other (then-gives (IsBetween 0 most) P (number_in 0 most (b ∷ bytes)) (λ n. Ok (pos n)) (number_in-within 0 most (b ∷ bytes)) (λ n h. above n h.1))
+  ]
+
+  signed_at-within : (fields : Fields) (i : ℕ) → IfOk (signed_at fields i most) P
+  signed_at-within fields i = said_by-within P (signed_in most) signed_in-within (field_at fields i)
 
 pub cents_at-within : (fields : Fields) (i : ℕ) → IfOk (signed_at fields i 1000000000000000) IsCents
-cents_at-within fields i = said_by-within IsCents (signed_in 1000000000000000) cents_in-within (field_at fields i)
+cents_at-within = signed_at-within 1000000000000000 IsCents (λ n most. (omega (arith, ints, most), omega (arith, ints, most))) (λ n most. (omega (arith, ints, most), omega (arith, ints, most)))
 
-printable-all : (xs : List ℕ) → list_all is_printable xs ≡ true → ArePrintable xs
+pub quantity_at-within : (fields : Fields) (i : ℕ) → IfOk (signed_at fields i 9999) IsStockQuantity
+quantity_at-within = signed_at-within 9999 IsStockQuantity (λ n most. (omega (arith, ints, most), omega (arith, ints, most))) (λ n most. (omega (arith, ints, most), omega (arith, ints, most)))
+
+-- a number, or null
+pub number_or_null_at-within : (fields : Fields) (i low high : ℕ) → IfOk (number_or_null_at fields i low high) (λ o. IfSome o (IsBetween low high))
+number_or_null_at-within fields i low high = elim (cases_Bool (is_field (codes "-") (field_at fields i))) [
+  | inl dash ↦ rw dash tt
+  | inr other ↦ rw other (then-gives (IsBetween low high) (λ o. IfSome o (IsBetween low high)) (number_at fields i low high) (λ n. Ok (Some n)) (number_at-within fields i low high) (λ n h. h))
+]
+
+pub printable-all : (xs : List ℕ) → list_all is_printable xs ≡ true → ArePrintable xs
 printable-all [] h = All-nil IsPrintable
 printable-all (x ∷ xs) h =
     let here = and-left (is_printable x) (list_all is_printable xs) h in
@@ -79,3 +95,12 @@ text_in-within most bytes = elim (cases_Bool (is_text most bytes)) [
 
 pub text_at-within : (fields : Fields) (i most : ℕ) → IfOk (text_at fields i most) (IsText most)
 text_at-within fields i most = said_by-within (IsText most) (text_in most) (text_in-within most) (field_at fields i)
+
+-- texts, as many as are asked for
+pub texts_at-within : (fields : Fields) (i count most : ℕ) → IfOk (texts_at fields i count most) (λ ts. (length ts ≡ count) × AllByRecursion (IsText most) ts)
+unfolding texts_at
+texts_at-within fields i zero most = (refl, tt)
+texts_at-within fields i (suc count) most =
+    then-gives (IsText most) _ (text_at fields i most) _ (text_at-within fields i most) (λ t t_is.
+    then-gives (λ ts. (length ts ≡ count) × AllByRecursion (IsText most) ts) _ (texts_at fields (i + 1) count most) _ (texts_at-within fields (i + 1) count most) (λ ts are.
+    (ap (λ n. suc n) are.0, (t_is, are.1))))

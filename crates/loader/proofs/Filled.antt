@@ -1,5 +1,5 @@
 -- Tables as they are filled: each value is within its limits, and a row that goes with a card is there with it.
-use Rattle.std.proofs.Common.{◌≡◌, ◌∙◌, ℕ, Option, Some, None, IsSome, refl, sym, subst, inl, inr}
+use Rattle.std.proofs.Common.{◌≡◌, ◌∙◌, ℕ, Option, Some, None, IsSome, IfSome, refl, sym, subst, inl, inr}
 use Rattle.std.specs.Cmp.{IsTotalOrder}
 use Rattle.std.specs.FinMap.{FinMap, IsAntisymmetric, get, get-empty, insert}
 use Rattle.std.specs.declared.cmp.Ordering.{Ordering}
@@ -12,13 +12,15 @@ use Rattle.catalog.specs.declared.card.CardKey.TheVariants as card_key
 use Rattle.catalog.proofs.CardKeys.{card_key_cmp_total, exact_cards}
 use Rattle.catalog.proofs.Keyed.{keyed-insert}
 use Rattle.tpcc_model.specs.Database.{Database}
-use Rattle.tpcc_model.specs.Soundness.{IsCard, IsCustomerRow}
+use Rattle.tpcc_model.specs.Soundness.{IsCard, IsCustomerRow, IsStockRow}
 use Rattle.tpcc_rows.specs.Limits.{IsBetween, IsCents}
 use Rattle.tpcc_rows.specs.Texts.{IsText}
 use Rattle.tpcc_rows.specs.RowMap.{row_key_cmp}
 use Rattle.tpcc_rows.specs.declared.key.RowKey.{RowKey}
 use Rattle.tpcc_rows.specs.declared.key.RowKey.TheVariants as key
 use Rattle.tpcc_rows.specs.declared.row.HistoryRow.{HistoryRow}
+use Rattle.tpcc_rows.specs.declared.row.OrderLineRow.{OrderLineRow}
+use Rattle.tpcc_rows.specs.declared.row.OrderRow.{OrderRow}
 use Rattle.tpcc_rows.specs.declared.row.Row.{Row}
 use Rattle.tpcc_rows.specs.declared.row.Row.TheVariants as row
 use Rattle.tpcc_rows.proofs.Keys.{exact_keys, row_key_cmp_total}
@@ -52,11 +54,33 @@ pub record IsHistoryRow (n : ℕ) (r : HistoryRow) : Type 0 where
   pub amount : IsBetween 0 999999 r.amount
   pub text : IsText 24 r.data
 
--- the row is of its key's kind, one of those that images have, and within its limits
+-- the key of an order, a new order or an order line
+pub record IsOrderKey (w d o : ℕ) : Type 0 where
+  pub warehouse : IsBetween 1 100 w
+  pub district : IsBetween 1 10 d
+  pub order : IsBetween 1 9999998 o
+
+pub record IsOrderRow (r : OrderRow) : Type 0 where
+  pub entry : IsBetween 0 999999999999 r.entry
+  pub carrier : IfSome r.carrier (IsBetween 1 10)
+  pub line_count : IsBetween 1 15 r.line_count
+
+pub record IsLineRow (n : ℕ) (r : OrderLineRow) : Type 0 where
+  pub number : IsBetween 1 15 n
+  pub delivery : IfSome r.delivery (IsBetween 0 999999999999)
+  pub quantity : IsBetween 0 99 r.quantity
+  pub amount : IsBetween 0 999999 r.amount
+  pub district_info : IsText 24 r.district_info
+
+-- the row is of its key's kind, and within its limits
 abbrev pub IsLimited : RowKey → Row → Type 0
 IsLimited (key.Warehouse w) (row.Warehouse r) = IsCents r.ytd
 IsLimited (key.District w d) (row.District r) = IsCents r.ytd × IsBetween 1 9999999 r.next_order
 IsLimited (key.Customer w d c) (row.Customer r) = IsCustomerRow r
+IsLimited (key.Stock w i) (row.Stock r) = IsStockRow r
+IsLimited (key.Order w d o) (row.Order r) = IsOrderKey w d o × IsOrderRow r
+IsLimited (key.NewOrder w d o) row.NewOrder = IsOrderKey w d o
+IsLimited (key.OrderLine w d o n) (row.OrderLine r) = IsOrderKey w d o × IsLineRow n r
 IsLimited (key.History n) (row.History r) = IsHistoryRow n r
 IsLimited _ _ = ⊥
 
@@ -72,6 +96,11 @@ abbrev pub IsRead : ImageRecord → Type 0
 IsRead (said.Warehouse c r) = IsCard (card.Warehouse c) × IsCents r.ytd
 IsRead (said.District c r) = IsCard (card.District c) × IsCents r.ytd × IsBetween 1 9999999 r.next_order
 IsRead (said.Customer c r) = IsCard (card.Customer c) × IsCustomerRow r
+IsRead (said.Item c) = IsCard (card.Item c)
+IsRead (said.Stock c r) = IsCard (card.Stock c) × IsStockRow r
+IsRead (said.Order w d o r) = IsOrderKey w d o × IsOrderRow r
+IsRead (said.NewOrder w d o) = IsOrderKey w d o
+IsRead (said.OrderLine w d o n r) = IsOrderKey w d o × IsLineRow n r
 IsRead (said.History n r) = IsHistoryRow n r
 
 pub filled-none : IsFilled no_tables
@@ -85,14 +114,31 @@ filled-none = record {
 
 -- one entry more
 module _ {K X : Type 0} {R : K → K → Ordering} (total : IsTotalOrder R) (exact : IsAntisymmetric R) (m : FinMap R X) (k : K) (x : X) where
-  some-here : IsSome (get (insert m k x) k)
+  pub some-here : IsSome (get (insert m k x) k)
   some-here = subst IsSome (sym (here total exact m k x)) refl
 
-  some-insert : (q : K) → IsSome (get m q) → IsSome (get (insert m k x) q)
+  pub some-insert : (q : K) → IsSome (get m q) → IsSome (get (insert m k x) q)
   some-insert q some = elim (same_key total exact q k) [
     | inl e ↦ subst (λ z. IsSome (get (insert m k x) z)) (sym e) some-here
     | inr n ↦ subst IsSome (sym (apart total exact m k x q n)) some
   ]
+
+-- a card more, which goes with no row
+module _ (db : Database) (q : CardKey) (c : Card) (filled : IsFilled db) where
+  filled-card : row_key_of q ≡ None → own_key c ≡ q → IsCard c → IsFilled (record { cards = insert db.cards q c; rows = db.rows })
+  filled-card alone own limited = record {
+    keyed = keyed-insert db.cards q c own filled.keyed;
+    limits = λ p b there. elim (entry_of card_key_cmp_total exact_cards db.cards q c p b there) [
+      | inl new ↦ subst IsCard new.1 limited
+      | inr old ↦ filled.limits p b old
+    ];
+    there = λ l p e some. elim (same_key card_key_cmp_total exact_cards p q) [
+      | inl same ↦ let bad : ⊥ = cc in absurd bad
+      | inr other ↦ filled.there l p e (subst IsSome (apart card_key_cmp_total exact_cards db.cards q c p other) some)
+    ];
+    owned = λ l p y e there. some-insert card_key_cmp_total exact_cards db.cards q c p (filled.owned l p y e there);
+    entries = filled.entries;
+  }
 
 -- a card more, with its row
 module _ (db : Database) (q : CardKey) (c : Card) (k : RowKey) (x : Row) (filled : IsFilled db) where
@@ -146,4 +192,9 @@ pub filled-more : (db : Database) (record_said : ImageRecord) → IsRead record_
 filled-more db (said.Warehouse c r) h filled = filled-both db (card_key.Warehouse c.warehouse) (card.Warehouse c) (key.Warehouse c.warehouse) (row.Warehouse r) filled refl refl refl h.0 h.1
 filled-more db (said.District c r) h filled = filled-both db (card_key.District c.warehouse c.district) (card.District c) (key.District c.warehouse c.district) (row.District r) filled refl refl refl h.0 (h.1, h.2)
 filled-more db (said.Customer c r) h filled = filled-both db (card_key.Customer c.warehouse c.district c.customer) (card.Customer c) (key.Customer c.warehouse c.district c.customer) (row.Customer r) filled refl refl refl h.0 h.1
+filled-more db (said.Item c) h filled = filled-card db (card_key.Item c.item) (card.Item c) filled refl refl h
+filled-more db (said.Stock c r) h filled = filled-both db (card_key.Stock c.warehouse c.item) (card.Stock c) (key.Stock c.warehouse c.item) (row.Stock r) filled refl refl refl h.0 h.1
+filled-more db (said.Order w d o r) h filled = filled-row db (key.Order w d o) (row.Order r) filled refl h
+filled-more db (said.NewOrder w d o) h filled = filled-row db (key.NewOrder w d o) row.NewOrder filled refl h
+filled-more db (said.OrderLine w d o n r) h filled = filled-row db (key.OrderLine w d o n) (row.OrderLine r) filled refl h
 filled-more db (said.History n r) h filled = filled-row db (key.History n) (row.History r) filled refl h

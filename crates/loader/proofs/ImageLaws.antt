@@ -6,7 +6,8 @@ use Rattle.requests.specs.Records.{records_in}
 use Rattle.requests.specs.declared.fault.Slip.{Slip}
 use Rattle.tpcc_model.specs.Database.{Database}
 use Rattle.tpcc_model.specs.Soundness.{IsSound}
-use Rattle.loader.specs.Checks.{next_orders_agree, parents_there, ytds_agree}
+use Rattle.loader.specs.Checks.{parents_there, ytds_agree}
+use Rattle.loader.specs.Districts.{line_counts_agree, next_orders_agree, spans_agree}
 use Rattle.loader.specs.Image.{counts, ended, image, is_end, is_first, placed, read_all, read_from, tested}
 use Rattle.loader.specs.ImageRecords.{record_at}
 use Rattle.loader.specs.Tables.{is_taken, no_tables, with_record}
@@ -51,8 +52,10 @@ tested-sound (Err e) h = tt
 tested-sound (Ok db) h =
     either IsSound (not (parents_there db)) (Err err.MissingParent) _ (λ _. tt) (λ parents.
     either IsSound (not (ytds_agree db.rows)) (Err (err.Inconsistent 1)) _ (λ _. tt) (λ ytds.
-    either IsSound (not (next_orders_agree db.rows)) (Err (err.Inconsistent 2)) (Ok db) (λ _. tt) (λ nexts.
-    is-sound db h (passed (parents_there db) parents) (passed (ytds_agree db.rows) ytds) (passed (next_orders_agree db.rows) nexts))))
+    either IsSound (not (next_orders_agree db.rows)) (Err (err.Inconsistent 2)) _ (λ _. tt) (λ nexts.
+    either IsSound (not (spans_agree db.rows)) (Err (err.Inconsistent 3)) _ (λ _. tt) (λ spans.
+    either IsSound (not (line_counts_agree db.rows)) (Err (err.Inconsistent 4)) (Ok db) (λ _. tt) (λ lines.
+    is-sound db h (passed (parents_there db) parents) (passed (ytds_agree db.rows) ytds) (passed (next_orders_agree db.rows) nexts) (passed (spans_agree db.rows) spans) (passed (line_counts_agree db.rows) lines))))))
 
 pub image-sound : (bytes : List ℕ) (db : Database) → image bytes ≡ Ok db → IsSound db
 image-sound bytes db is = subst (λ (said : Result Database LoadError). IfOk said IsSound) is (tested-sound (read_all (records_in bytes)) (read_all-filled (records_in bytes)))

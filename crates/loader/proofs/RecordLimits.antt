@@ -1,17 +1,18 @@
 -- What a record says is within its limits.
-use Rattle.std.proofs.Common.{ℕ, ℤ, List, Bool, cond, Result, Err, true, false}
+use Rattle.std.proofs.Common.{◌≡◌, ℕ, ℤ, List, Bool, cond, Option, IfSome, Result, Err, true, false}
 use Rattle.std.specs.Prelude.{IfOk, ◌==◌, length, codes}
+use Rattle.std.specs.List.{AllByRecursion}
 use Rattle.csv.specs.Records.{field_at}
 use Rattle.requests.specs.BatchRecords.{of_count}
-use Rattle.requests.specs.Fields.{◌>>=◌, Fields, is_text, number_at, signed_at, text_at}
+use Rattle.requests.specs.Fields.{◌>>=◌, Fields, is_text, number_at, number_or_null_at, signed_at, text_at}
 use Rattle.requests.specs.declared.fault.Slip.{Slip}
 use Rattle.requests.specs.declared.fault.Slip.TheVariants as slip
-use Rattle.tpcc_rows.specs.Limits.{IsBetween, IsCents}
+use Rattle.tpcc_rows.specs.Limits.{IsBetween, IsCents, IsStockQuantity}
 use Rattle.tpcc_rows.specs.Texts.{IsText}
-use Rattle.loader.specs.Columns.{credit_of}
-use Rattle.loader.specs.ImageRecords.{customer_fields, district_fields, history_fields, record_at, warehouse_fields}
+use Rattle.loader.specs.Columns.{credit_of, texts_at}
+use Rattle.loader.specs.ImageRecords.{customer_fields, district_fields, history_fields, item_fields, new_order_fields, order_fields, order_line_fields, record_at, stock_fields, warehouse_fields}
 use Rattle.loader.specs.declared.image_record.ImageRecord.{ImageRecord}
-use Rattle.loader.proofs.FieldLimits.{any-gives, cents_at-within, number_at-within, text_at-within, then-gives}
+use Rattle.loader.proofs.FieldLimits.{any-gives, cents_at-within, number_at-within, number_or_null_at-within, quantity_at-within, text_at-within, texts_at-within, then-gives}
 use Rattle.loader.proofs.Filled.{IsRead}
 
 module _ (fields : Fields) where
@@ -23,6 +24,15 @@ module _ (fields : Fields) where
 
   cents : (i : ℕ) (f : ℤ → Result ImageRecord Slip) → ((z : ℤ) → IsCents z → IfOk (f z) IsRead) → IfOk (signed_at fields i 1000000000000000 >>= f) IsRead
   cents i f more = then-gives IsCents IsRead (signed_at fields i 1000000000000000) f (cents_at-within fields i) more
+
+  quantity : (i : ℕ) (f : ℤ → Result ImageRecord Slip) → ((z : ℤ) → IsStockQuantity z → IfOk (f z) IsRead) → IfOk (signed_at fields i 9999 >>= f) IsRead
+  quantity i f more = then-gives IsStockQuantity IsRead (signed_at fields i 9999) f (quantity_at-within fields i) more
+
+  or_null : (i low high : ℕ) (f : Option ℕ → Result ImageRecord Slip) → ((o : Option ℕ) → IfSome o (IsBetween low high) → IfOk (f o) IsRead) → IfOk (number_or_null_at fields i low high >>= f) IsRead
+  or_null i low high f more = then-gives (λ o. IfSome o (IsBetween low high)) IsRead (number_or_null_at fields i low high) f (number_or_null_at-within fields i low high) more
+
+  infos : (i count : ℕ) (f : List (List ℕ) → Result ImageRecord Slip) → ((ts : List (List ℕ)) → (length ts ≡ count) × AllByRecursion (IsText 24) ts → IfOk (f ts) IsRead) → IfOk (texts_at fields i count 24 >>= f) IsRead
+  infos i count f more = then-gives (λ ts. (length ts ≡ count) × AllByRecursion (IsText 24) ts) IsRead (texts_at fields i count 24) f (texts_at-within fields i count 24) more
 
   warehouse : IfOk (warehouse_fields fields) IsRead
   unfolding warehouse_fields
@@ -76,6 +86,68 @@ module _ (fields : Fields) where
         },
       ))))))))))))))
 
+  item : IfOk (item_fields fields) IsRead
+  unfolding item_fields
+  item =
+      number 1 1 100000 _ (λ i i_is.
+      text 2 24 _ (λ name name_is.
+      number 3 0 99999 _ (λ price price_is.
+      text 4 50 _ (λ note note_is. (i_is, name_is, price_is, note_is)))))
+
+  stock : IfOk (stock_fields fields) IsRead
+  unfolding stock_fields
+  stock =
+      number 1 1 100 _ (λ w w_is.
+      number 2 1 100000 _ (λ i i_is.
+      quantity 3 _ (λ left left_is.
+      number 4 0 1000000000 _ (λ ytd ytd_is.
+      number 5 0 1000000000 _ (λ orders orders_is.
+      number 6 0 1000000000 _ (λ remotes remotes_is.
+      text 7 50 _ (λ note note_is.
+      infos 8 10 _ (λ texts texts_are. (
+        record { warehouse = w_is; item = i_is; text = note_is; ten_infos = texts_are.0; district_infos = texts_are.1 },
+        record { quantity = left_is; ytd = ytd_is; order_count = orders_is; remote_count = remotes_is },
+      )))))))))
+
+  order : IfOk (order_fields fields) IsRead
+  unfolding order_fields
+  order =
+      number 1 1 100 _ (λ w w_is.
+      number 2 1 10 _ (λ d d_is.
+      number 3 1 9999998 _ (λ o o_is.
+      number 4 1 3000 _ (λ c c_is.
+      number 5 0 999999999999 _ (λ entry entry_is.
+      or_null 6 1 10 _ (λ carrier carrier_is.
+      number 7 1 15 _ (λ lines lines_are.
+      number 8 0 1 _ (λ local local_is. (
+        record { warehouse = w_is; district = d_is; order = o_is },
+        record { entry = entry_is; carrier = carrier_is; line_count = lines_are },
+      )))))))))
+
+  new_order : IfOk (new_order_fields fields) IsRead
+  unfolding new_order_fields
+  new_order =
+      number 1 1 100 _ (λ w w_is.
+      number 2 1 10 _ (λ d d_is.
+      number 3 1 9999998 _ (λ o o_is. record { warehouse = w_is; district = d_is; order = o_is })))
+
+  order_line : IfOk (order_line_fields fields) IsRead
+  unfolding order_line_fields
+  order_line =
+      number 1 1 100 _ (λ w w_is.
+      number 2 1 10 _ (λ d d_is.
+      number 3 1 9999998 _ (λ o o_is.
+      number 4 1 15 _ (λ n n_is.
+      number 5 1 100000 _ (λ i i_is.
+      number 6 1 100 _ (λ supply supply_is.
+      or_null 7 0 999999999999 _ (λ delivery delivery_is.
+      number 8 0 99 _ (λ quantity quantity_is.
+      number 9 0 999999 _ (λ amount amount_is.
+      text 10 24 _ (λ info info_is. (
+        record { warehouse = w_is; district = d_is; order = o_is },
+        record { number = n_is; delivery = delivery_is; quantity = quantity_is; amount = amount_is; district_info = info_is },
+      )))))))))))
+
   history : IfOk (history_fields fields) IsRead
   unfolding history_fields
   history =
@@ -101,4 +173,9 @@ module _ (fields : Fields) where
       kind (is_text (codes "W") (field_at fields 0)) _ _ (counted 5 (warehouse_fields fields) warehouse)
       (kind (is_text (codes "D") (field_at fields 0)) _ _ (counted 7 (district_fields fields) district)
       (kind (is_text (codes "C") (field_at fields 0)) _ _ (counted 14 (customer_fields fields) customer)
-      (kind (is_text (codes "H") (field_at fields 0)) (of_count 10 fields (history_fields fields)) (Err slip.UnknownKind) (counted 10 (history_fields fields) history) tt)))
+      (kind (is_text (codes "I") (field_at fields 0)) _ _ (counted 5 (item_fields fields) item)
+      (kind (is_text (codes "S") (field_at fields 0)) _ _ (counted 18 (stock_fields fields) stock)
+      (kind (is_text (codes "O") (field_at fields 0)) _ _ (counted 9 (order_fields fields) order)
+      (kind (is_text (codes "N") (field_at fields 0)) _ _ (counted 4 (new_order_fields fields) new_order)
+      (kind (is_text (codes "L") (field_at fields 0)) _ _ (counted 11 (order_line_fields fields) order_line)
+      (kind (is_text (codes "H") (field_at fields 0)) (of_count 10 fields (history_fields fields)) (Err slip.UnknownKind) (counted 10 (history_fields fields) history) tt))))))))

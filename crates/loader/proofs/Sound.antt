@@ -1,36 +1,38 @@
 -- Filled tables that pass the tests are sound.
-use Rattle.std.proofs.Common.{◌≡◌, ◌∙◌, ◌+◌, ◌-◌, ◌<◌, ℕ, zero, suc, ℤ, pos, List, [], ◌∷◌, ◌&&◌, Bool, true, false, Option, Some, None, IsSome, IfSome, get_or, refl, sym, ap, inl, inr, arith}
+use Rattle.std.proofs.Common.{◌≡◌, ◌∙◌, ◌+◌, ◌-◌, ◌<◌, ◌≤◌, ℕ, zero, suc, ◌&&◌, Bool, true, false, Option, Some, None, IsSome, IfSome, get_or, refl, sym, ap, inl, inr, arith}
 use Rattle.std.specs.List.{list_all}
 use Rattle.std.specs.Option.{option_and_then}
-use Rattle.std.specs.Ordering.{int_eq}
 use Rattle.std.specs.FinMap.{entries, get}
-use Rattle.std.proofs.lemmas.Bool.{cases_Bool, eqb-true}
-use Rattle.std.proofs.lemmas.Bool.Decides.{Decides-int_eq}
-use Rattle.std.proofs.lemmas.Int.{ints}
+use Rattle.std.proofs.lemmas.Bool.{cases_Bool}
+use Rattle.std.proofs.lemmas.Bool.Decides.{Decides-int_eq, nat_tests}
 use Rattle.std.proofs.lemmas.List.Folds.{list_all_at}
 use Rattle.catalog.specs.CardKinds.{as_customer, as_district, as_item, as_stock, as_warehouse, card_key as own_key}
 use Rattle.catalog.specs.CardMap.{AreKeyed, Cards}
+use Rattle.catalog.specs.Lookups.{customer_card, district_card}
 use Rattle.catalog.specs.declared.card.Card.{Card}
 use Rattle.catalog.specs.declared.card.Card.TheVariants as card
 use Rattle.catalog.specs.declared.card.CardKey.{CardKey}
 use Rattle.catalog.specs.declared.card.CardKey.TheVariants as card_key
 use Rattle.catalog.proofs.CardKeys.{card_key_cmp_total, exact_cards}
-use Rattle.tpcc_model.specs.Conditions.{Condition1, HasNewOrder, HasOrder, IsConsistent, district_share, line_share, promised_share}
+use Rattle.tpcc_model.specs.Conditions.{Condition1, HasOrder, district_share}
 use Rattle.tpcc_model.specs.Database.{Database}
 use Rattle.tpcc_model.specs.Soundness.{AreCards, HasCard, IsEntry, IsSound}
 use Rattle.tpcc_rows.specs.Limits.{IsBetween, ten}
-use Rattle.tpcc_rows.specs.RowKinds.{as_warehouse as row_as_warehouse}
+use Rattle.tpcc_rows.specs.RowKinds.{as_order, as_warehouse as row_as_warehouse}
 use Rattle.tpcc_rows.specs.RowMap.{Rows}
-use Rattle.tpcc_rows.specs.Totals.{sum_entries, total}
+use Rattle.tpcc_rows.specs.Rows.{order_row}
+use Rattle.tpcc_rows.specs.Totals.{total}
 use Rattle.tpcc_rows.specs.declared.key.RowKey.{RowKey}
 use Rattle.tpcc_rows.specs.declared.key.RowKey.TheVariants as key
-use Rattle.tpcc_rows.specs.declared.row.DistrictRow.{DistrictRow}
+use Rattle.tpcc_rows.specs.declared.row.OrderRow.{OrderRow}
 use Rattle.tpcc_rows.specs.declared.row.Row.{Row}
 use Rattle.tpcc_rows.specs.declared.row.Row.TheVariants as row
 use Rattle.tpcc_rows.proofs.Keys.{exact_keys, row_key_cmp_total}
-use Rattle.tpcc_rows.proofs.Singles.{all-pass, and-left, and-right, passes}
-use Rattle.loader.specs.Checks.{card_has_parents, next_order_agrees, next_orders_agree, parents_there, row_has_parents, ytd_agrees, ytds_agree}
+use Rattle.tpcc_rows.proofs.Singles.{and-left, and-right, passes}
+use Rattle.loader.specs.Checks.{card_has_parents, has_line, parents_there, row_has_parents, ytd_agrees, ytds_agree}
+use Rattle.loader.specs.Districts.{line_counts_agree, next_orders_agree, spans_agree}
 use Rattle.loader.specs.Tables.{has_card}
+use Rattle.loader.proofs.DistrictLemmas.{consistent}
 use Rattle.loader.proofs.Filled.{IsFilled, IsLimited}
 
 -- ---- look-ups of cards
@@ -57,6 +59,10 @@ district-kind w d _ e = cc
 customer-kind : (w d n : ℕ) (c : Card) → own_key c ≡ card_key.Customer w d n → IsSome (as_customer c)
 customer-kind w d n (card.Customer c) e = refl
 customer-kind w d n _ e = cc
+
+stock-kind : (w i : ℕ) (c : Card) → own_key c ≡ card_key.Stock w i → IsSome (as_stock c)
+stock-kind w i (card.Stock c) e = refl
+stock-kind w i _ e = cc
 
 item-kind : (i : ℕ) (c : Card) → own_key c ≡ card_key.Item i → IsSome (as_item c)
 item-kind i (card.Item c) e = refl
@@ -96,11 +102,11 @@ ten-pass p all d within = elim (cases_Bool (p d)) [
 module _ (db : Database) (filled : IsFilled db) (parents : parents_there db ≡ true) where
   cards-pass : list_all (card_has_parents db.cards) (entries db.cards) ≡ true
   unfolding parents_there
-  cards-pass = and-left (list_all (card_has_parents db.cards) (entries db.cards)) (list_all (row_has_parents db.cards) (entries db.rows)) parents
+  cards-pass = and-left (list_all (card_has_parents db.cards) (entries db.cards)) (list_all (row_has_parents db) (entries db.rows)) parents
 
-  rows-pass : list_all (row_has_parents db.cards) (entries db.rows) ≡ true
+  rows-pass : list_all (row_has_parents db) (entries db.rows) ≡ true
   unfolding parents_there
-  rows-pass = and-right (list_all (card_has_parents db.cards) (entries db.cards)) (list_all (row_has_parents db.cards) (entries db.rows)) parents
+  rows-pass = and-right (list_all (card_has_parents db.cards) (entries db.cards)) (list_all (row_has_parents db) (entries db.rows)) parents
 
   -- a card that is there has its parents
   card-parents : (q : CardKey) → IsSome (get db.cards q) → (c : Card) × (card_has_parents db.cards (q, c) ≡ true)
@@ -130,7 +136,7 @@ module _ (db : Database) (filled : IsFilled db) (parents : parents_there db ≡ 
   }
 
   -- where a card is, its row is
-  rows-there : (k : RowKey) → HasCard db.cards k → IsSome (get db.rows k)
+  pub rows-there : (k : RowKey) → HasCard db.cards k → IsSome (get db.rows k)
   rows-there (key.Warehouse w) some = filled.there (key.Warehouse w) (card_key.Warehouse w) refl (then-some as_warehouse (get db.cards (card_key.Warehouse w)) some)
   rows-there (key.District w d) some = filled.there (key.District w d) (card_key.District w d) refl (then-some as_district (get db.cards (card_key.District w d)) some)
   rows-there (key.Customer w d n) some = filled.there (key.Customer w d n) (card_key.Customer w d n) refl (then-some as_customer (get db.cards (card_key.Customer w d n)) some)
@@ -140,19 +146,76 @@ module _ (db : Database) (filled : IsFilled db) (parents : parents_there db ≡ 
   rows-there (key.OrderLine w d o n) some = absurd some
   rows-there (key.History n) some = absurd some
 
+  -- a row that is there has its parents
+  row-parents : (k : RowKey) (x : Row) → get db.rows k ≡ Some x → row_has_parents db (k, x) ≡ true
+  row-parents k x there = passes row_key_cmp_total exact_keys (row_has_parents db) db.rows k x rows-pass there
+
+  district-card : (w d : ℕ) → has_card db.cards (card_key.District w d) ≡ true → IsSome (district_card db.cards w d)
+  district-card w d some = then-kind as_district db.cards (card_key.District w d) filled.keyed (district-kind w d) some
+
+  customer-card : (w d c : ℕ) → has_card db.cards (card_key.Customer w d c) ≡ true → IsSome (customer_card db.cards w d c)
+  customer-card w d c some = then-kind as_customer db.cards (card_key.Customer w d c) filled.keyed (customer-kind w d c) some
+
+  -- what is there by an order's key is an order
+  order-of : (w d o : ℕ) (x : Row) → get db.rows (key.Order w d o) ≡ Some x → HasOrder db.rows w d o
+  order-of w d o x there = of-kind x there (filled.entries (key.Order w d o) x there)
+    where
+      of-kind : (x : Row) → get db.rows (key.Order w d o) ≡ Some x → IsLimited (key.Order w d o) x → HasOrder db.rows w d o
+      of-kind (row.Order r) there h = (r, there)
+      of-kind _ there h = absurd h
+
+  -- an order that has at least so many lines
+  line-order : (w d o n : ℕ) → has_line n (order_row db.rows w d o) ≡ true → (r : OrderRow) × (get db.rows (key.Order w d o) ≡ Some (row.Order r)) × (n ≤ r.line_count)
+  line-order w d o n line = at (get db.rows (key.Order w d o)) refl line
+    where
+      at : (x : Option Row) → get db.rows (key.Order w d o) ≡ x → has_line n (option_and_then as_order x) ≡ true → (r : OrderRow) × (get db.rows (key.Order w d o) ≡ Some (row.Order r)) × (n ≤ r.line_count)
+      at (Some (row.Order r)) there line = (r, there, grind (arith, nat_tests))
+      at _ there line = cc
+
   -- each row is as it should be
-  entry : (k : RowKey) (x : Row) → get db.rows k ≡ Some x → IsLimited k x → IsEntry db.cards db.rows k x
+  pub entry : (k : RowKey) (x : Row) → get db.rows k ≡ Some x → IsLimited k x → IsEntry db.cards db.rows k x
   entry (key.Warehouse w) (row.Warehouse r) there h = (then-kind as_warehouse db.cards (card_key.Warehouse w) filled.keyed (warehouse-kind w) (filled.owned (key.Warehouse w) (card_key.Warehouse w) (row.Warehouse r) refl there), h)
   entry (key.District w d) (row.District r) there h = (then-kind as_district db.cards (card_key.District w d) filled.keyed (district-kind w d) (filled.owned (key.District w d) (card_key.District w d) (row.District r) refl there), h.0, h.1)
   entry (key.Customer w d n) (row.Customer r) there h = (then-kind as_customer db.cards (card_key.Customer w d n) filled.keyed (customer-kind w d n) (filled.owned (key.Customer w d n) (card_key.Customer w d n) (row.Customer r) refl there), h)
+  entry (key.Stock w i) (row.Stock r) there h = (then-kind as_stock db.cards (card_key.Stock w i) filled.keyed (stock-kind w i) (filled.owned (key.Stock w i) (card_key.Stock w i) (row.Stock r) refl there), h)
+  entry (key.Order w d o) (row.Order r) there h =
+      let district = has_card db.cards (card_key.District w d) in
+      let customer = has_card db.cards (card_key.Customer w d r.customer) in
+      let pass : (district && customer) ≡ true = row-parents (key.Order w d o) (row.Order r) there in
+      record {
+        number = h.0.order;
+        district = district-card w d (and-left district customer pass);
+        customer = customer-card w d r.customer (and-right district customer pass);
+        entry = h.1.entry;
+        carrier = h.1.carrier;
+        line_count = h.1.line_count;
+      }
+  entry (key.NewOrder w d o) row.NewOrder there h =
+      let (x, order_there) = value-of (get db.rows (key.Order w d o)) (row-parents (key.NewOrder w d o) row.NewOrder there) in
+      order-of w d o x order_there
+  entry (key.OrderLine w d o n) (row.OrderLine r) there h =
+      let line = has_line n (order_row db.rows w d o) in
+      let stock = has_card db.cards (card_key.Stock r.supply r.item) in
+      let pass : (line && stock) ≡ true = row-parents (key.OrderLine w d o n) (row.OrderLine r) there in
+      let (order, order_there, few) = line-order w d o n (and-left line stock pass) in
+      record {
+        order = order;
+        has_order = order_there;
+        number = (h.1.number.0, few);
+        stock = then-kind as_stock db.cards (card_key.Stock r.supply r.item) filled.keyed (stock-kind r.supply r.item) (and-right line stock pass);
+        delivery = h.1.delivery;
+        quantity = h.1.quantity;
+        amount = h.1.amount;
+        district_info = h.1.district_info;
+      }
   entry (key.History n) (row.History r) there h =
       let customer = has_card db.cards (card_key.Customer r.customer_warehouse r.customer_district r.customer) in
       let district = has_card db.cards (card_key.District r.warehouse r.district) in
-      let pass : (customer && district) ≡ true = passes row_key_cmp_total exact_keys (row_has_parents db.cards) db.rows (key.History n) (row.History r) rows-pass there in
+      let pass : (customer && district) ≡ true = row-parents (key.History n) (row.History r) there in
       record {
         number = h.number;
-        customer = then-kind as_customer db.cards (card_key.Customer r.customer_warehouse r.customer_district r.customer) filled.keyed (customer-kind r.customer_warehouse r.customer_district r.customer) (and-left customer district pass);
-        district = then-kind as_district db.cards (card_key.District r.warehouse r.district) filled.keyed (district-kind r.warehouse r.district) (and-right customer district pass);
+        customer = customer-card r.customer_warehouse r.customer_district r.customer (and-left customer district pass);
+        district = district-card r.warehouse r.district (and-right customer district pass);
         date = h.date;
         amount = h.amount;
         text = h.text;
@@ -160,47 +223,6 @@ module _ (db : Database) (filled : IsFilled db) (parents : parents_there db ≡ 
   entry _ _ there h = absurd h
 
 -- ---- conditions
-sum-none : (share : RowKey → Row → ℤ) (es : List (RowKey × Row)) → list_all (λ e. int_eq (share e.0 e.1) (pos 0)) es ≡ true → sum_entries share es ≡ pos 0
-sum-none share [] all = refl
-sum-none share (e ∷ es) all =
-    let here = (Decides-int_eq (share e.0 e.1) (pos 0)).0 (and-left (int_eq (share e.0 e.1) (pos 0)) (list_all (λ e. int_eq (share e.0 e.1) (pos 0)) es) all) in
-    let rest = sum-none share es (and-right (int_eq (share e.0 e.1) (pos 0)) (list_all (λ e. int_eq (share e.0 e.1) (pos 0)) es) all) in
-    omega (arith, ints, here, rest)
-
--- nothing has a share
-total-none : (share : RowKey → Row → ℤ) (rows : Rows) → ((k : RowKey) (x : Row) → get rows k ≡ Some x → share k x ≡ pos 0) → total share rows ≡ pos 0
-unfolding total
-total-none share rows none = sum-none share (entries rows) (all-pass row_key_cmp_total exact_keys (λ e. int_eq (share e.0 e.1) (pos 0)) rows (λ k x there. (Decides-int_eq (share k x) (pos 0)).1 (none k x there)))
-
--- among these rows are no orders and no order lines
-no-promise : (w d : ℕ) (k : RowKey) (x : Row) → IsLimited k x → promised_share w d k x ≡ pos 0
-no-promise w d (key.Order v e o) x h = absurd h
-no-promise w d _ x h = refl
-
-no-line : (w d : ℕ) (k : RowKey) (x : Row) → IsLimited k x → line_share w d k x ≡ pos 0
-no-line w d (key.OrderLine v e o n) x h = absurd h
-no-line w d _ x h = refl
-
-module _ (db : Database) (filled : IsFilled db) where
-  no-order : (w d o : ℕ) → HasOrder db.rows w d o → ⊥
-  no-order w d o h = filled.entries (key.Order w d o) (row.Order h.0) h.1
-
-  no-new_order : (w d o : ℕ) → HasNewOrder db.rows w d o → ⊥
-  no-new_order w d o h = filled.entries (key.NewOrder w d o) row.NewOrder h
-
-  consistent : next_orders_agree db.rows ≡ true → (w d : ℕ) (r : DistrictRow) → get db.rows (key.District w d) ≡ Some (row.District r) → IsConsistent db.rows w d r.next_order
-  unfolding next_orders_agree
-  consistent nexts w d r there =
-      let next : r.next_order ≡ 1 = eqb-true _ _ (passes row_key_cmp_total exact_keys next_order_agrees db.rows (key.District w d) (row.District r) nexts there) in
-      record {
-        last_order = record { there = inl (omega (arith, next)); above = λ o h. absurd (no-order w d o h) };
-        last_new_order = λ o h. absurd (no-new_order w d o h);
-        new_orders = λ low high least most. absurd (no-new_order w d low least.there);
-        lines =
-            total-none (promised_share w d) db.rows (λ k x h. no-promise w d k x (filled.entries k x h))
-            ∙ sym (total-none (line_share w d) db.rows (λ k x h. no-line w d k x (filled.entries k x h)));
-      }
-
 -- the test of condition 1, at a look-up
 first-at : (rows : Rows) (w : ℕ) (o : Option Row) → ((r : Row) → o ≡ Some r → ytd_agrees rows (key.Warehouse w, r) ≡ true) → IfSome (option_and_then row_as_warehouse o) (λ r. r.ytd ≡ total (district_share w) rows)
 first-at rows w None pass = tt
@@ -211,11 +233,11 @@ first-condition : (rows : Rows) → ytds_agree rows ≡ true → Condition1 rows
 unfolding ytds_agree
 first-condition rows ytds w = first-at rows w (get rows (key.Warehouse w)) (λ r there. passes row_key_cmp_total exact_keys (ytd_agrees rows) rows (key.Warehouse w) r ytds there)
 
-pub is-sound : (db : Database) → IsFilled db → parents_there db ≡ true → ytds_agree db.rows ≡ true → next_orders_agree db.rows ≡ true → IsSound db
-is-sound db filled parents ytds nexts = record {
+pub is-sound : (db : Database) → IsFilled db → parents_there db ≡ true → ytds_agree db.rows ≡ true → next_orders_agree db.rows ≡ true → spans_agree db.rows ≡ true → line_counts_agree db.rows ≡ true → IsSound db
+is-sound db filled parents ytds nexts spans lines = record {
   cards = are-cards db filled parents;
   there = rows-there db filled parents;
   entries = λ k x there. entry db filled parents k x there (filled.entries k x there);
   condition_1 = first-condition db.rows ytds;
-  districts = consistent db filled nexts;
+  districts = consistent db.rows nexts spans lines;
 }

@@ -1,5 +1,5 @@
--- Tests of parents and of the consistency conditions (TPC-C clauses 3.3.2.1 and 3.3.2.2).
-use Rattle.std.specs.Prelude.{◌≡◌, ◌<◌, ◌*◌, ◌+ℤ◌, slice_index_or, ◌==◌, ◌&&◌, Bool, true, not, ℕ, ℤ, pos, List, Result, Ok, Err, if◌then◌else◌}
+-- Tests of parents and of the consistency condition of each warehouse (TPC-C clause 3.3.2.1), and all tests in their order.
+use Rattle.std.specs.Prelude.{◌≡◌, ◌<◌, ◌*◌, ◌+ℤ◌, slice_index_or, nat_le, ◌&&◌, Bool, true, false, not, ℕ, ℤ, pos, List, Option, Some, None, Result, Ok, Err, if◌then◌else◌}
 use Rattle.std.specs.Ordering.{int_eq}
 use Rattle.std.specs.List.{list_all}
 use Rattle.std.specs.FinMap as map
@@ -12,12 +12,15 @@ use Rattle.tpcc_model.specs.Conditions.{district_share}
 use Rattle.tpcc_model.specs.Database.{Database}
 use Rattle.tpcc_rows.specs.Limits.{ten}
 use Rattle.tpcc_rows.specs.RowMap.{Rows}
+use Rattle.tpcc_rows.specs.Rows.{order_row}
 use Rattle.tpcc_rows.specs.Totals.{sum_entries, total}
 use Rattle.tpcc_rows.specs.declared.key.RowKey.{RowKey}
 use Rattle.tpcc_rows.specs.declared.key.RowKey.TheVariants as key
+use Rattle.tpcc_rows.specs.declared.row.OrderRow.{OrderRow}
 use Rattle.tpcc_rows.specs.declared.row.Row.{Row}
 use Rattle.tpcc_rows.specs.declared.row.Row.TheVariants as row
-use Rattle.loader.specs.Tables.{has_card}
+use Rattle.loader.specs.Districts.{line_counts_agree, next_orders_agree, spans_agree}
+use Rattle.loader.specs.Tables.{has_card, has_row}
 use Rattle.loader.specs.declared.fault.LoadError.{LoadError}
 use Rattle.loader.specs.declared.fault.LoadError.TheVariants as err
 
@@ -31,17 +34,28 @@ card_has_parents cards (card_key.Stock w i, _) =
     has_card cards (card_key.Warehouse w) && has_card cards (card_key.Item i)
 card_has_parents cards (card_key.Item i, _) = true
 
--- a row of HISTORY has its customer, and its district
-abbrev pub row_has_parents : Cards → RowKey × Row → Bool
-row_has_parents cards (_, row.History r) =
-    has_card cards (card_key.Customer r.customer_warehouse r.customer_district r.customer)
-    && has_card cards (card_key.District r.warehouse r.district)
-row_has_parents cards (_, _) = true
+-- an order that is there, and has at least so many lines
+abbrev pub has_line : ℕ → Option OrderRow → Bool
+has_line number None = false
+has_line number (Some order) = nat_le number order.line_count
+
+-- an order has its district and its customer, a new order its order, an order line an order of at least so many lines
+-- and its stock, and a row of HISTORY its customer and its district
+abbrev pub row_has_parents : Database → RowKey × Row → Bool
+row_has_parents db (key.Order w d o, row.Order r) =
+    has_card db.cards (card_key.District w d) && has_card db.cards (card_key.Customer w d r.customer)
+row_has_parents db (key.NewOrder w d o, _) = has_row db.rows (key.Order w d o)
+row_has_parents db (key.OrderLine w d o number, row.OrderLine r) =
+    has_line number (order_row db.rows w d o) && has_card db.cards (card_key.Stock r.supply r.item)
+row_has_parents db (key.History number, row.History r) =
+    has_card db.cards (card_key.Customer r.customer_warehouse r.customer_district r.customer)
+    && has_card db.cards (card_key.District r.warehouse r.district)
+row_has_parents db (_, _) = true
 
 unfoldable pub parents_there : Database → Bool
 parents_there db =
     list_all (card_has_parents db.cards) (map.entries db.cards)
-    && list_all (row_has_parents db.cards) (map.entries db.rows)
+    && list_all (row_has_parents db) (map.entries db.rows)
 
 -- condition 1: W_YTD of a warehouse is the sum of D_YTD over its districts
 abbrev pub ytd_agrees : Rows → RowKey × Row → Bool
@@ -51,20 +65,14 @@ ytd_agrees rows (_, _) = true
 unfoldable pub ytds_agree : Rows → Bool
 ytds_agree rows = list_all (ytd_agrees rows) (map.entries rows)
 
--- condition 2: D_NEXT_O_ID of a district is 1, since no district has an order
-abbrev pub next_order_agrees : RowKey × Row → Bool
-next_order_agrees (_, row.District r) = r.next_order == 1
-next_order_agrees (_, _) = true
-
-unfoldable pub next_orders_agree : Rows → Bool
-next_orders_agree rows = list_all next_order_agrees (map.entries rows)
-
 -- the database, or the first fault of its parents and its conditions
 abbrev pub checked : Database → Result Database LoadError
 checked db =
     if not (parents_there db) then Err err.MissingParent
     else if not (ytds_agree db.rows) then Err (err.Inconsistent 1)
     else if not (next_orders_agree db.rows) then Err (err.Inconsistent 2)
+    else if not (spans_agree db.rows) then Err (err.Inconsistent 3)
+    else if not (line_counts_agree db.rows) then Err (err.Inconsistent 4)
     else Ok db
 
 -- ---- sums of the warehouses, while they are added up

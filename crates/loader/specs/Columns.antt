@@ -1,8 +1,8 @@
 -- What the columns of an image say, besides numbers and texts.
-use Rattle.std.specs.Prelude.{List, ℕ, codes, Option, Result, Ok, Err, if◌then◌else◌}
+use Rattle.std.specs.Prelude.{◌+◌, List, [], ◌∷◌, ℕ, zero, suc, codes, Option, Result, Ok, Err, if◌then◌else◌}
 use Rattle.catalog.specs.declared.card.Credit.{Credit}
 use Rattle.catalog.specs.declared.card.Credit.TheVariants as credit
-use Rattle.requests.specs.Fields.{is_text}
+use Rattle.requests.specs.Fields.{Fields, ◌>>=◌, is_text, text_at}
 use Rattle.requests.specs.declared.fault.Slip.{Slip}
 use Rattle.requests.specs.declared.fault.Slip.TheVariants as slip
 
@@ -12,3 +12,11 @@ credit_of field =
     if is_text (codes "GC") field then Ok credit.Good
     else if is_text (codes "BC") field then Ok credit.Bad
     else Err slip.BadField
+
+-- the texts in so many fields, the first at this place
+unfoldable pub texts_at : Fields → ℕ → ℕ → ℕ → Result (List (List ℕ)) Slip
+texts_at fields i zero most = Ok []
+texts_at fields i (suc count) most = do
+  text ← text_at fields i most
+  texts ← texts_at fields (i + 1) count most
+  Ok (text ∷ texts)

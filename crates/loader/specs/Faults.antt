@@ -1,9 +1,11 @@
 -- Faults of an image.
-use Rattle.std.specs.Prelude.{◌≡◌, ◌⊎◌, ℕ, List, codes, Option, Some, None, Result, Err}
+use Rattle.std.specs.Prelude.{◌≡◌, ◌⊎◌, ℕ, List, codes, Option, Some, None, Result, Ok, Err, MatchResult}
 use Rattle.requests.specs.declared.fault.Slip.{Slip}
 use Rattle.requests.specs.declared.fault.Slip.TheVariants as slip
 use Rattle.loader.specs.declared.fault.LoadError.{LoadError}
 use Rattle.loader.specs.declared.fault.LoadError.TheVariants as err
+use Rattle.loader.specs.declared.record_fault.RecordFault.{RecordFault}
+use Rattle.loader.specs.declared.record_fault.RecordFault.TheVariants as record_fault
 
 abbrev pub code_of : LoadError → ℕ
 code_of (err.BadRecord n) = 1
@@ -46,6 +48,15 @@ fault_of n slip.BadField = err.BadRecord n
 fault_of n slip.WrongCount = err.BadRecord n
 fault_of n slip.UnknownKind = err.BadRecord n
 fault_of n slip.BatchTooLong = err.BadRecord n
+
+-- a record's fault is the definition's; memory may be refused at any time
+abbrev pub IsFaultOf : {A : Type 0} → Result A Slip → RecordFault → Type 0
+IsFaultOf definition (record_fault.Slip e) = definition ≡ Err e
+IsFaultOf definition record_fault.Memory = Unit {0}
+
+-- what is read of a record is what the definition says, where memory isn't refused
+abbrev pub Reads : {A : Type 0} → Result A Slip → Result A RecordFault → Type 0
+Reads definition result = MatchResult result (λ x. definition ≡ Ok x) (IsFaultOf definition)
 
 -- the reasons for which the bytes aren't had, or no memory for what they say
 abbrev pub IsOfReading : LoadError → Type 0

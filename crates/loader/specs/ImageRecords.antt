@@ -1,11 +1,11 @@
 -- What a record of an image says.
-use Rattle.std.specs.Prelude.{Result, Ok, Err, codes, if◌then◌else◌}
+use Rattle.std.specs.Prelude.{Bool, true, false, ◌==◌, ℕ, List, Result, Ok, Err, codes, if◌then◌else◌}
 use Rattle.csv.specs.Records.{field_at}
 use Rattle.requests.specs.BatchRecords.{of_count}
-use Rattle.requests.specs.Fields.{Fields, ◌>>=◌, is_text, number_at, signed_at, text_at}
+use Rattle.requests.specs.Fields.{Fields, ◌>>=◌, is_text, number_at, number_or_null_at, signed_at, text_at}
 use Rattle.requests.specs.declared.fault.Slip.{Slip}
 use Rattle.requests.specs.declared.fault.Slip.TheVariants as slip
-use Rattle.loader.specs.Columns.{credit_of}
+use Rattle.loader.specs.Columns.{credit_of, texts_at}
 use Rattle.loader.specs.declared.image_record.ImageRecord.{ImageRecord}
 use Rattle.loader.specs.declared.image_record.ImageRecord.TheVariants as said
 
@@ -63,6 +63,79 @@ customer_fields fields = do
     «data» = text;
   }))
 
+-- `I,i,name,price,data`
+unfoldable pub item_fields : Fields → Result ImageRecord Slip
+item_fields fields = do
+  i ← number_at fields 1 1 100000
+  name ← text_at fields 2 24
+  price ← number_at fields 3 0 99999
+  text ← text_at fields 4 50
+  Ok (said.Item (record { item = i; name = name; price = price; «data» = text }))
+
+-- `S,w,i,quantity,ytd,order_cnt,remote_cnt,data,dist01,..,dist10`
+unfoldable pub stock_fields : Fields → Result ImageRecord Slip
+stock_fields fields = do
+  w ← number_at fields 1 1 100
+  i ← number_at fields 2 1 100000
+  quantity ← signed_at fields 3 9999
+  ytd ← number_at fields 4 0 1000000000
+  orders ← number_at fields 5 0 1000000000
+  remotes ← number_at fields 6 0 1000000000
+  text ← text_at fields 7 50
+  infos ← texts_at fields 8 10 24
+  Ok (said.Stock
+      (record { warehouse = w; item = i; «data» = text; district_infos = infos })
+      (record { quantity = quantity; ytd = ytd; order_count = orders; remote_count = remotes }))
+
+-- `O,w,d,o,c,entry,carrier,ol_cnt,all_local`
+unfoldable pub order_fields : Fields → Result ImageRecord Slip
+order_fields fields = do
+  w ← number_at fields 1 1 100
+  d ← number_at fields 2 1 10
+  o ← number_at fields 3 1 9999998
+  c ← number_at fields 4 1 3000
+  entry ← number_at fields 5 0 999999999999
+  carrier ← number_or_null_at fields 6 1 10
+  lines ← number_at fields 7 1 15
+  local ← number_at fields 8 0 1
+  Ok (said.Order w d o (record {
+    customer = c;
+    entry = entry;
+    carrier = carrier;
+    line_count = lines;
+    all_local = local == 1;
+  }))
+
+-- `N,w,d,o`
+unfoldable pub new_order_fields : Fields → Result ImageRecord Slip
+new_order_fields fields = do
+  w ← number_at fields 1 1 100
+  d ← number_at fields 2 1 10
+  o ← number_at fields 3 1 9999998
+  Ok (said.NewOrder w d o)
+
+-- `L,w,d,o,number,item,supply,delivery,quantity,amount,info`
+unfoldable pub order_line_fields : Fields → Result ImageRecord Slip
+order_line_fields fields = do
+  w ← number_at fields 1 1 100
+  d ← number_at fields 2 1 10
+  o ← number_at fields 3 1 9999998
+  number ← number_at fields 4 1 15
+  i ← number_at fields 5 1 100000
+  supply ← number_at fields 6 1 100
+  delivery ← number_or_null_at fields 7 0 999999999999
+  quantity ← number_at fields 8 0 99
+  amount ← number_at fields 9 0 999999
+  info ← text_at fields 10 24
+  Ok (said.OrderLine w d o number (record {
+    item = i;
+    supply = supply;
+    delivery = delivery;
+    quantity = quantity;
+    amount = amount;
+    district_info = info;
+  }))
+
 -- `H,number,c,cd,cw,d,w,date,amount,data`
 unfoldable pub history_fields : Fields → Result ImageRecord Slip
 history_fields fields = do
@@ -86,11 +159,20 @@ history_fields fields = do
     «data» = text;
   }))
 
+-- whether a record is of the kind with this first field, whose records have so many fields
+abbrev pub is_kind : List ℕ → ℕ → Fields → Result Bool Slip
+is_kind kind count fields = if is_text kind (field_at fields 0) then of_count count fields (Ok true) else Ok false
+
 -- what a record says: its kind is told by its first field, and each kind has its number of fields
 abbrev pub record_at : Fields → Result ImageRecord Slip
 record_at fields =
     if is_text (codes "W") (field_at fields 0) then of_count 5 fields (warehouse_fields fields)
     else if is_text (codes "D") (field_at fields 0) then of_count 7 fields (district_fields fields)
     else if is_text (codes "C") (field_at fields 0) then of_count 14 fields (customer_fields fields)
+    else if is_text (codes "I") (field_at fields 0) then of_count 5 fields (item_fields fields)
+    else if is_text (codes "S") (field_at fields 0) then of_count 18 fields (stock_fields fields)
+    else if is_text (codes "O") (field_at fields 0) then of_count 9 fields (order_fields fields)
+    else if is_text (codes "N") (field_at fields 0) then of_count 4 fields (new_order_fields fields)
+    else if is_text (codes "L") (field_at fields 0) then of_count 11 fields (order_line_fields fields)
     else if is_text (codes "H") (field_at fields 0) then of_count 10 fields (history_fields fields)
     else Err slip.UnknownKind

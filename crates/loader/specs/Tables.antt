@@ -35,6 +35,11 @@ abbrev pub is_taken : Database → ImageRecord → Bool
 is_taken db (said.Warehouse c r) = has_card db.cards (card_key.Warehouse c.warehouse)
 is_taken db (said.District c r) = has_card db.cards (card_key.District c.warehouse c.district)
 is_taken db (said.Customer c r) = has_card db.cards (card_key.Customer c.warehouse c.district c.customer)
+is_taken db (said.Item c) = has_card db.cards (card_key.Item c.item)
+is_taken db (said.Stock c r) = has_card db.cards (card_key.Stock c.warehouse c.item)
+is_taken db (said.Order w d o r) = has_row db.rows (key.Order w d o)
+is_taken db (said.NewOrder w d o) = has_row db.rows (key.NewOrder w d o)
+is_taken db (said.OrderLine w d o number r) = has_row db.rows (key.OrderLine w d o number)
 is_taken db (said.History number r) = has_row db.rows (key.History number)
 
 -- the database with what a record says
@@ -51,4 +56,12 @@ with_record db (said.Customer c r) = record {
   cards = map.insert db.cards (card_key.Customer c.warehouse c.district c.customer) (card.Customer c);
   rows = map.insert db.rows (key.Customer c.warehouse c.district c.customer) (row.Customer r);
 }
+with_record db (said.Item c) = record db { cards = map.insert db.cards (card_key.Item c.item) (card.Item c) }
+with_record db (said.Stock c r) = record {
+  cards = map.insert db.cards (card_key.Stock c.warehouse c.item) (card.Stock c);
+  rows = map.insert db.rows (key.Stock c.warehouse c.item) (row.Stock r);
+}
+with_record db (said.Order w d o r) = record db { rows = map.insert db.rows (key.Order w d o) (row.Order r) }
+with_record db (said.NewOrder w d o) = record db { rows = map.insert db.rows (key.NewOrder w d o) row.NewOrder }
+with_record db (said.OrderLine w d o number r) = record db { rows = map.insert db.rows (key.OrderLine w d o number) (row.OrderLine r) }
 with_record db (said.History number r) = record db { rows = map.insert db.rows (key.History number) (row.History r) }

@@ -4,14 +4,18 @@ ghost use Rattle.std.specs.List.{list_all};
 ghost use Rattle.catalog.specs.declared.card.CardKey.TheVariants as card_key;
 ghost use Rattle.tpcc_model.specs.Conditions.{district_share};
 ghost use Rattle.tpcc_rows.specs.Limits.{IsCents, ten};
+ghost use Rattle.tpcc_rows.specs.Rows.{order_row};
+ghost use Rattle.tpcc_rows.specs.declared.key.RowKey.TheVariants as row_key;
 ghost use Rattle.requests.specs.Fields.{IsWithin};
-ghost use Rattle.loader.specs.Checks.{AreSums, AreWithin, card_has_parents, checked, next_order_agrees, next_orders_agree, parents_there, row_has_parents, sum_at, ytd_agrees, ytds_agree};
-ghost use Rattle.loader.specs.Tables.{has_card, loaded};
+ghost use Rattle.loader.specs.Checks.{AreSums, AreWithin, card_has_parents, checked, has_line, parents_there, row_has_parents, sum_at, ytd_agrees, ytds_agree};
+ghost use Rattle.loader.specs.Tables.{has_card, has_row, loaded};
 
+use crate::books::books_of;
+use crate::districts::{line_counts_agree, next_orders_agree, spans_agree};
 use crate::fault::LoadError;
 use catalog::Catalog;
 use catalog::card::{Card, CardKey};
-use tpcc_rows::id::{DistrictId, WarehouseId};
+use tpcc_rows::id::{CustomerId, DistrictId, ItemId, LineNumber, OrderId, WarehouseId};
 use tpcc_rows::key::RowKey;
 use tpcc_rows::plain::RowStore;
 use tpcc_rows::row::Row;
@@ -25,16 +29,22 @@ fn has_card(catalog: &Catalog, key: CardKey) -> bool
     catalog.get(&key).is_some()
 }
 
+fn has_district(catalog: &Catalog, warehouse: WarehouseId, district: DistrictId) -> bool
+    ensures { result ≡ has_card catalog.now (card_key.District warehouse district) }
+{
+    let key = CardKey::District {
+        warehouse,
+        district,
+    };
+    has_card(catalog, key)
+}
+
 fn has_ten_districts(catalog: &Catalog, warehouse: WarehouseId) -> bool
     ensures { result ≡ list_all (λ d. has_card catalog.now (card_key.District warehouse d)) ten }
 {
-    DistrictId::all().iter().all(|district| {
-        let key = CardKey::District {
-            warehouse,
-            district: *district,
-        };
-        has_card(catalog, key)
-    })
+    DistrictId::all()
+        .iter()
+        .all(|district| has_district(catalog, warehouse, *district))
 }
 
 /// Whether the cards are there that a card goes with.
@@ -50,13 +60,7 @@ fn card_has_parents(catalog: &Catalog, key: &CardKey, card: &Card) -> bool
             warehouse,
             district,
             ..
-        } => {
-            let key = CardKey::District {
-                warehouse,
-                district,
-            };
-            has_card(catalog, key)
-        }
+        } => has_district(catalog, warehouse, district),
         CardKey::Stock { warehouse, item } => {
             if !has_card(catalog, CardKey::Warehouse { warehouse }) {
                 return false;
@@ -67,25 +71,103 @@ fn card_has_parents(catalog: &Catalog, key: &CardKey, card: &Card) -> bool
     }
 }
 
-/// Whether the cards are there that a row goes with, besides that of its own key.
-fn row_has_parents(catalog: &Catalog, key: &RowKey, row: &Row) -> bool
-    ensures { result ≡ row_has_parents catalog.now (key.now, row.now) }
+fn has_customer(
+    catalog: &Catalog,
+    warehouse: WarehouseId,
+    district: DistrictId,
+    customer: CustomerId,
+) -> bool
+    ensures { result ≡ has_card catalog.now (card_key.Customer warehouse district customer) }
 {
-    match row {
-        Row::History(row) => {
-            let customer = CardKey::Customer {
-                warehouse: row.customer_warehouse,
-                district: row.customer_district,
-                customer: row.customer,
-            };
-            if !has_card(catalog, customer) {
-                return false;
-            }
-            let district = CardKey::District {
-                warehouse: row.warehouse,
-                district: row.district,
-            };
-            has_card(catalog, district)
+    let key = CardKey::Customer {
+        warehouse,
+        district,
+        customer,
+    };
+    has_card(catalog, key)
+}
+
+fn has_stock(catalog: &Catalog, warehouse: WarehouseId, item: ItemId) -> bool
+    ensures { result ≡ has_card catalog.now (card_key.Stock warehouse item) }
+{
+    has_card(catalog, CardKey::Stock { warehouse, item })
+}
+
+fn has_order(rows: &RowStore, warehouse: WarehouseId, district: DistrictId, order: OrderId) -> bool
+    ensures { result ≡ has_row rows.now (row_key.Order warehouse district order) }
+{
+    let key = RowKey::Order {
+        warehouse,
+        district,
+        order,
+    };
+    rows.get(&key).is_some()
+}
+
+/// Whether the order is there, and has at least so many lines.
+fn has_line(
+    rows: &RowStore,
+    warehouse: WarehouseId,
+    district: DistrictId,
+    order: OrderId,
+    number: LineNumber,
+) -> bool
+    ensures { result ≡ has_line number (order_row rows.now warehouse district order) }
+{
+    let key = RowKey::Order {
+        warehouse,
+        district,
+        order,
+    };
+    match rows.get(&key) {
+        Some(Row::Order(order)) => number <= order.line_count,
+        _ => false,
+    }
+}
+
+/// Whether the cards and the rows are there that a row goes with, besides the card of its own key.
+fn row_has_parents(catalog: &Catalog, rows: &RowStore, key: &RowKey, row: &Row) -> bool
+    ensures { result ≡ row_has_parents (loaded (catalog.now, rows.now)) (key.now, row.now) }
+{
+    match (key, row) {
+        (
+            RowKey::Order {
+                warehouse,
+                district,
+                ..
+            },
+            Row::Order(row),
+        ) => {
+            has_district(catalog, *warehouse, *district)
+                && has_customer(catalog, *warehouse, *district, row.customer)
+        }
+        (
+            RowKey::NewOrder {
+                warehouse,
+                district,
+                order,
+            },
+            _,
+        ) => has_order(rows, *warehouse, *district, *order),
+        (
+            RowKey::OrderLine {
+                warehouse,
+                district,
+                order,
+                number,
+            },
+            Row::OrderLine(row),
+        ) => {
+            has_line(rows, *warehouse, *district, *order, *number)
+                && has_stock(catalog, row.supply, row.item)
+        }
+        (RowKey::History { .. }, Row::History(row)) => {
+            has_customer(
+                catalog,
+                row.customer_warehouse,
+                row.customer_district,
+                row.customer,
+            ) && has_district(catalog, row.warehouse, row.district)
         }
         _ => true,
     }
@@ -102,7 +184,7 @@ fn parents_there(catalog: &Catalog, rows: &RowStore) -> bool
         }
     }
     for (row_key, row) in rows.iter() {
-        if !row_has_parents(catalog, row_key, row) {
+        if !row_has_parents(catalog, rows, row_key, row.row()) {
             return false;
         }
     }
@@ -137,7 +219,7 @@ fn district_sums(rows: &RowStore) -> Sums
     let mut sums = [0i128; 101];
     let _count = rows.len();
     for (key, row) in rows.iter() {
-        add_share(&mut sums, key, row);
+        add_share(&mut sums, key, row.row());
     }
     sums
 }
@@ -161,29 +243,7 @@ fn ytds_agree(rows: &RowStore) -> bool
 {
     let sums = district_sums(rows);
     for (key, row) in rows.iter() {
-        if !ytd_agrees(&sums, rows, key, row) {
-            return false;
-        }
-    }
-    true
-}
-
-fn next_order_agrees(key: &RowKey, row: &Row) -> bool
-    ensures { result ≡ next_order_agrees (key.now, row.now) }
-{
-    match row {
-        Row::District(row) => row.next_order.number() == 1,
-        _ => true,
-    }
-}
-
-/// Whether D_NEXT_O_ID of each district is that of a district with no orders.
-#[tactic(auto, unfolding(crate::specs::Checks::next_orders_agree))]
-fn next_orders_agree(rows: &RowStore) -> bool
-    ensures { result ≡ next_orders_agree rows.now }
-{
-    for (key, row) in rows.iter() {
-        if !next_order_agrees(key, row) {
+        if !ytd_agrees(&sums, rows, key, row.row()) {
             return false;
         }
     }
@@ -201,8 +261,15 @@ pub(crate) fn check(catalog: &Catalog, rows: &RowStore) -> Result<(), LoadError>
     if !ytds_agree(rows) {
         return Err(LoadError::Inconsistent(1));
     }
-    if !next_orders_agree(rows) {
+    let books = books_of(rows);
+    if !next_orders_agree(&books, rows) {
         return Err(LoadError::Inconsistent(2));
+    }
+    if !spans_agree(&books, rows) {
+        return Err(LoadError::Inconsistent(3));
+    }
+    if !line_counts_agree(&books, rows) {
+        return Err(LoadError::Inconsistent(4));
     }
     Ok(())
 }

@@ -1,12 +1,15 @@
 //! The columns of an image that no batch has.
-ghost use Rattle.std.specs.Prelude.{◌≡◌};
+ghost use Rattle.std.specs.Prelude.{◌≡◌, ◌+◌, ◌<◌, ◌^◌};
 ghost use Rattle.csv.specs.Records.{field_at, fields_of};
-ghost use Rattle.loader.specs.Columns.{credit_of};
+ghost use Rattle.loader.specs.Columns.{credit_of, texts_at};
+ghost use Rattle.loader.specs.Faults.{Reads};
 
-use catalog::card::Credit;
+use crate::record_fault::RecordFault;
+use catalog::card::{Credit, DistrictInfos};
 use csv::ByteRecord;
 use requests::fault::Slip;
-use requests::fields::has_text;
+use requests::fields::{has_text, text};
+use std::alloc::Global;
 
 /// C_CREDIT: `GC` or `BC`.
 pub(crate) fn credit(fields: &ByteRecord, i: usize) -> Result<Credit, Slip>
@@ -19,4 +22,20 @@ pub(crate) fn credit(fields: &ByteRecord, i: usize) -> Result<Credit, Slip>
         return Ok(Credit::Bad);
     }
     Err(Slip::BadField)
+}
+
+/// S_DIST_01 to S_DIST_10, from this place on.
+pub(crate) fn district_infos(
+    alloc: Global,
+    fields: &ByteRecord,
+    first: usize,
+) -> Result<DistrictInfos, RecordFault>
+    requires { first + 10 < 2 ^ 64 }
+    ensures { Reads (texts_at (fields_of fields.now) first 10 24) result }
+{
+    let mut infos = Vec::with_capacity(alloc, 10)?;
+    for i in first..first + 10 {
+        infos.push(text(fields, i)?)?;
+    }
+    Ok(DistrictInfos::new(infos).unwrap())
 }

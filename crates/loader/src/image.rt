@@ -27,7 +27,7 @@ fn load_text(alloc: Global, text: &[u8]) -> Result<(Catalog, RowStore), LoadErro
     ensures kinds { IfErr result IsOfText }
 {
     let tables = read_tables(alloc, text)?;
-    let catalog = tables.cards.finish();
+    let catalog = tables.cards.finish(alloc)?;
     check(&catalog, &tables.rows)?;
     Ok((catalog, tables.rows))
 }

@@ -1,18 +1,24 @@
 //! What the records of an image say, between the first record and the end record.
 ghost use Rattle.std.specs.Prelude.{◌≡◌};
 ghost use Rattle.csv.specs.Records.{fields_of};
-ghost use Rattle.loader.specs.ImageRecords.{customer_fields, district_fields, history_fields, record_at, warehouse_fields};
+ghost use Rattle.loader.specs.Faults.{Reads};
+ghost use Rattle.loader.specs.ImageRecords.{customer_fields, district_fields, history_fields, is_kind, item_fields, new_order_fields, order_fields, order_line_fields, record_at, stock_fields, warehouse_fields};
 
-use crate::columns::credit;
-use catalog::card::{CustomerCard, DistrictCard, WarehouseCard};
+use crate::columns::{credit, district_infos};
+use crate::record_fault::RecordFault;
+use catalog::card::{CustomerCard, DistrictCard, ItemCard, StockCard, WarehouseCard};
 use csv::ByteRecord;
 use requests::fault::Slip;
 use requests::fields::{
-    amount, cents, count, customer, district, has_text, moment, next_order, rate, request_number,
-    text, warehouse,
+    amount, carrier_or_null, cents, count, customer, district, has_text, item, line_number,
+    line_quantity, moment, moment_or_null, next_order, number_at, order, price, rate,
+    request_number, stock_quantity, text, warehouse,
 };
-use tpcc_rows::id::RequestNumber;
-use tpcc_rows::row::{CustomerRow, DistrictRow, HistoryRow, WarehouseRow};
+use std::alloc::Global;
+use tpcc_rows::id::{DistrictId, LineNumber, OrderId, RequestNumber, WarehouseId};
+use tpcc_rows::row::{
+    CustomerRow, DistrictRow, HistoryRow, OrderLineRow, OrderRow, StockRow, WarehouseRow,
+};
 
 /// What one record adds to a database.
 #[derive(Drop)]
@@ -28,6 +34,31 @@ pub(crate) enum ImageRecord {
     Customer {
         card: CustomerCard,
         row: CustomerRow,
+    },
+    Item {
+        card: ItemCard,
+    },
+    Stock {
+        card: StockCard,
+        row: StockRow,
+    },
+    Order {
+        warehouse: WarehouseId,
+        district: DistrictId,
+        order: OrderId,
+        row: OrderRow,
+    },
+    NewOrder {
+        warehouse: WarehouseId,
+        district: DistrictId,
+        order: OrderId,
+    },
+    OrderLine {
+        warehouse: WarehouseId,
+        district: DistrictId,
+        order: OrderId,
+        number: LineNumber,
+        row: OrderLineRow,
     },
     History {
         number: RequestNumber,
@@ -94,6 +125,94 @@ fn customer_record(fields: &ByteRecord) -> Result<ImageRecord, Slip>
     Ok(ImageRecord::Customer { card, row })
 }
 
+/// `I,i,name,price,data`
+#[tactic(auto, unfolding(crate::specs::ImageRecords::item_fields))]
+fn item_record(fields: &ByteRecord) -> Result<ImageRecord, Slip>
+    ensures { result ≡ item_fields (fields_of fields.now) }
+{
+    let card = ItemCard {
+        item: item(fields, 1)?,
+        name: text(fields, 2)?,
+        price: price(fields, 3)?,
+        data: text(fields, 4)?,
+    };
+    Ok(ImageRecord::Item { card })
+}
+
+/// `S,w,i,quantity,ytd,order_cnt,remote_cnt,data,dist01,..,dist10`
+#[tactic(auto, unfolding(crate::specs::ImageRecords::stock_fields))]
+fn stock_record(alloc: Global, fields: &ByteRecord) -> Result<ImageRecord, RecordFault>
+    ensures { Reads (stock_fields (fields_of fields.now)) result }
+{
+    let warehouse = warehouse(fields, 1)?;
+    let item = item(fields, 2)?;
+    let row = StockRow {
+        quantity: stock_quantity(fields, 3)?,
+        ytd: count(fields, 4)?,
+        order_count: count(fields, 5)?,
+        remote_count: count(fields, 6)?,
+    };
+    let card = StockCard {
+        warehouse,
+        item,
+        data: text(fields, 7)?,
+        district_infos: district_infos(alloc, fields, 8)?,
+    };
+    Ok(ImageRecord::Stock { card, row })
+}
+
+/// `O,w,d,o,c,entry,carrier,ol_cnt,all_local`
+#[tactic(auto, unfolding(crate::specs::ImageRecords::order_fields))]
+fn order_record(fields: &ByteRecord) -> Result<ImageRecord, Slip>
+    ensures { result ≡ order_fields (fields_of fields.now) }
+{
+    Ok(ImageRecord::Order {
+        warehouse: warehouse(fields, 1)?,
+        district: district(fields, 2)?,
+        order: order(fields, 3)?,
+        row: OrderRow {
+            customer: customer(fields, 4)?,
+            entry: moment(fields, 5)?,
+            carrier: carrier_or_null(fields, 6)?,
+            line_count: line_number(fields, 7)?,
+            all_local: number_at(fields, 8, 0, 1)? == 1,
+        },
+    })
+}
+
+/// `N,w,d,o`
+#[tactic(auto, unfolding(crate::specs::ImageRecords::new_order_fields))]
+fn new_order_record(fields: &ByteRecord) -> Result<ImageRecord, Slip>
+    ensures { result ≡ new_order_fields (fields_of fields.now) }
+{
+    Ok(ImageRecord::NewOrder {
+        warehouse: warehouse(fields, 1)?,
+        district: district(fields, 2)?,
+        order: order(fields, 3)?,
+    })
+}
+
+/// `L,w,d,o,number,item,supply,delivery,quantity,amount,info`
+#[tactic(auto, unfolding(crate::specs::ImageRecords::order_line_fields))]
+fn order_line_record(fields: &ByteRecord) -> Result<ImageRecord, Slip>
+    ensures { result ≡ order_line_fields (fields_of fields.now) }
+{
+    Ok(ImageRecord::OrderLine {
+        warehouse: warehouse(fields, 1)?,
+        district: district(fields, 2)?,
+        order: order(fields, 3)?,
+        number: line_number(fields, 4)?,
+        row: OrderLineRow {
+            item: item(fields, 5)?,
+            supply: warehouse(fields, 6)?,
+            delivery: moment_or_null(fields, 7)?,
+            quantity: line_quantity(fields, 8)?,
+            amount: amount(fields, 9)?,
+            district_info: text(fields, 10)?,
+        },
+    })
+}
+
 /// `H,number,c,cd,cw,d,w,date,amount,data`
 #[tactic(auto, unfolding(crate::specs::ImageRecords::history_fields))]
 fn history_record(fields: &ByteRecord) -> Result<ImageRecord, Slip>
@@ -113,33 +232,49 @@ fn history_record(fields: &ByteRecord) -> Result<ImageRecord, Slip>
     Ok(ImageRecord::History { number, row })
 }
 
-/// What a record says that is neither the first nor the end record.
-pub(crate) fn image_record(fields: &ByteRecord) -> Result<ImageRecord, Slip>
-    ensures { result ≡ record_at (fields_of fields.now) }
+/// Whether a record is of the kind with this first field. It has so many fields then.
+fn is_kind(fields: &ByteRecord, kind: &[u8], count: usize) -> Result<bool, Slip>
+    ensures { result ≡ is_kind kind.now count (fields_of fields.now) }
 {
-    if has_text(fields, 0, b"W") {
-        if fields.len() != 5 {
-            return Err(Slip::WrongCount);
-        }
-        return warehouse_record(fields);
+    if !has_text(fields, 0, kind) {
+        return Ok(false);
     }
-    if has_text(fields, 0, b"D") {
-        if fields.len() != 7 {
-            return Err(Slip::WrongCount);
-        }
-        return district_record(fields);
+    if fields.len() != count {
+        return Err(Slip::WrongCount);
     }
-    if has_text(fields, 0, b"C") {
-        if fields.len() != 14 {
-            return Err(Slip::WrongCount);
-        }
-        return customer_record(fields);
+    Ok(true)
+}
+
+/// What a record says that is neither the first nor the end record.
+pub(crate) fn image_record(alloc: Global, fields: &ByteRecord) -> Result<ImageRecord, RecordFault>
+    ensures { Reads (record_at (fields_of fields.now)) result }
+{
+    if is_kind(fields, b"W", 5)? {
+        return Ok(warehouse_record(fields)?);
     }
-    if has_text(fields, 0, b"H") {
-        if fields.len() != 10 {
-            return Err(Slip::WrongCount);
-        }
-        return history_record(fields);
+    if is_kind(fields, b"D", 7)? {
+        return Ok(district_record(fields)?);
     }
-    Err(Slip::UnknownKind)
+    if is_kind(fields, b"C", 14)? {
+        return Ok(customer_record(fields)?);
+    }
+    if is_kind(fields, b"I", 5)? {
+        return Ok(item_record(fields)?);
+    }
+    if is_kind(fields, b"S", 18)? {
+        return stock_record(alloc, fields);
+    }
+    if is_kind(fields, b"O", 9)? {
+        return Ok(order_record(fields)?);
+    }
+    if is_kind(fields, b"N", 4)? {
+        return Ok(new_order_record(fields)?);
+    }
+    if is_kind(fields, b"L", 11)? {
+        return Ok(order_line_record(fields)?);
+    }
+    if is_kind(fields, b"H", 10)? {
+        return Ok(history_record(fields)?);
+    }
+    Err(RecordFault::Slip(Slip::UnknownKind))
 }

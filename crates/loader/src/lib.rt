@@ -2,17 +2,26 @@
 //! parents and the consistency conditions are tested.
 #![tactic(auto)]
 
+mod books;
 mod checks;
 mod columns;
+mod districts;
 pub mod fault;
 pub mod image;
 mod image_record;
 pub mod laws;
+mod made_records;
+pub mod making;
 mod reading;
+mod record_fault;
+pub mod store;
+mod stored_record;
 mod tables;
 
 pub use fault::LoadError;
 pub use image::load;
+pub use making::make;
+pub use store::store_image;
 
 #[cfg(test)]
 mod tests;

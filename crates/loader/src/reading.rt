@@ -9,6 +9,7 @@ ghost use Rattle.loader.specs.Tables.{database_of};
 
 use crate::fault::{LoadError, fault};
 use crate::image_record::image_record;
+use crate::record_fault::RecordFault;
 use crate::tables::Tables;
 use catalog::builder::CatalogError;
 use csv::{ByteRecord, Reader};
@@ -43,15 +44,21 @@ fn counts(number: u64, fields: &ByteRecord) -> bool
 }
 
 /// Takes in the record of this number.
-fn place(tables: &mut Tables, number: u64, fields: &ByteRecord) -> Result<(), LoadError>
+fn place(
+    alloc: Global,
+    tables: &mut Tables,
+    number: u64,
+    fields: &ByteRecord,
+) -> Result<(), LoadError>
     ensures ok { OnOk result ((rest : Rest)
         → placed number (database_of tables.old) (record_at (fields_of fields.now)) rest ≡ rest (database_of tables.new)) }
     ensures err { IfErr result (λ e. (rest : Rest)
         → StopsBy e (placed number (database_of tables.old) (record_at (fields_of fields.now)) rest)) }
 {
-    let said = match image_record(fields) {
+    let said = match image_record(alloc, fields) {
         Ok(said) => said,
-        Err(slip) => return Err(fault(number, slip)),
+        Err(RecordFault::Slip(slip)) => return Err(fault(number, slip)),
+        Err(RecordFault::Memory) => return Err(LoadError::Memory),
     };
     match tables.add(said) {
         Ok(()) => Ok(()),
@@ -75,6 +82,7 @@ fn end(reader: &mut Reader<&[u8]>, fields: &mut ByteRecord, number: u64) -> Resu
 /// Takes in the records after the first, up to the end.
 #[tactic(auto, unfolding(crate::specs::Image::read_from))]
 fn read_rest(
+    alloc: Global,
     reader: &mut Reader<&[u8]>,
     fields: &mut ByteRecord,
     tables: &mut Tables,
@@ -93,7 +101,7 @@ fn read_rest(
             }
             return end(reader, fields, number + 1);
         }
-        place(tables, number, fields)?;
+        place(alloc, tables, number, fields)?;
         number += 1;
     }
     Err(LoadError::Truncated)
@@ -115,6 +123,6 @@ pub(crate) fn read_tables(alloc: Global, text: &[u8]) -> Result<Tables, LoadErro
         return Err(LoadError::BadRecord(1));
     }
     let mut tables = Tables::new(alloc);
-    read_rest(&mut reader, &mut fields, &mut tables)?;
+    read_rest(alloc, &mut reader, &mut fields, &mut tables)?;
     Ok(tables)
 }

@@ -90,6 +90,54 @@ impl Tables {
                 };
                 self.add_both(Card::Customer(card), key, Row::Customer(row))
             }
+            ImageRecord::Item { card } => self.cards.add(Card::Item(card)),
+            ImageRecord::Stock { card, row } => {
+                let key = RowKey::Stock {
+                    warehouse: card.warehouse,
+                    item: card.item,
+                };
+                self.add_both(Card::Stock(card), key, Row::Stock(row))
+            }
+            ImageRecord::Order {
+                warehouse,
+                district,
+                order,
+                row,
+            } => {
+                let key = RowKey::Order {
+                    warehouse,
+                    district,
+                    order,
+                };
+                self.add_row(key, Row::Order(row))
+            }
+            ImageRecord::NewOrder {
+                warehouse,
+                district,
+                order,
+            } => {
+                let key = RowKey::NewOrder {
+                    warehouse,
+                    district,
+                    order,
+                };
+                self.add_row(key, Row::NewOrder)
+            }
+            ImageRecord::OrderLine {
+                warehouse,
+                district,
+                order,
+                number,
+                row,
+            } => {
+                let key = RowKey::OrderLine {
+                    warehouse,
+                    district,
+                    order,
+                    number,
+                };
+                self.add_row(key, Row::OrderLine(row))
+            }
             ImageRecord::History { number, row } => {
                 self.add_row(RowKey::History { number }, Row::History(row))
             }

@@ -1,19 +1,23 @@
 //! What no clause says: that images load with ample memory, and that the definitions say what the format says.
+mod districts;
 mod ends;
 mod faults;
 mod fields;
 mod images;
+mod made;
 mod sources;
+mod stores;
 
 use crate::{LoadError, load};
 use requests::BytesSource;
 use std::alloc::{AllocError, Global};
 
-/// A warehouse with its ten districts, a customer of each credit, and a payment's record.
-const IMAGE: [&str; 16] = [
+/// A record of each kind: a warehouse with its ten districts, a customer of each credit, a payment's record, an item
+/// and its stock, and an order of one line.
+const IMAGE: [&str; 21] = [
     "eve-tpcc,1",
     "W,1,W1,1000,30000000",
-    "D,1,1,D1,500,3000000,1",
+    "D,1,1,D1,500,3000000,2",
     "D,1,2,D2,500,3000000,1",
     "D,1,3,D3,500,3000000,1",
     "D,1,4,D4,500,3000000,1",
@@ -26,7 +30,12 @@ const IMAGE: [&str; 16] = [
     "C,1,1,1,NAME1,OE,F9,GC,1000,-1000,1000,1,0,",
     "C,1,1,10,NAME0,OE,F9,BC,1000,-1000,1000,1,0,x",
     "H,5,10,1,1,2,1,7,100,W1    D2",
-    "E,14",
+    "I,1,ITEM1,100,PLAIN",
+    "S,1,1,11,0,0,0,PLAIN,DIST01,DIST02,DIST03,DIST04,DIST05,DIST06,DIST07,DIST08,DIST09,DIST10",
+    "O,1,1,1,1,0,-,1,1",
+    "N,1,1,1",
+    "L,1,1,1,1,1,1,-,1,100,DIST01",
+    "E,19",
 ];
 
 /// The text of the image's records, the one at `place` replaced. What stands there may be several records, or none.

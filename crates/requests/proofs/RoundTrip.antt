@@ -7,38 +7,19 @@ use Rattle.std.proofs.lemmas.List.Elements.{All-head, All-tail}
 use Rattle.csv.specs.Reading.{strip_bom}
 use Rattle.csv.specs.Records.{field_at}
 use Rattle.csv.specs.Writing.{read_back}
-use Rattle.requests.specs.BatchRecords.{head_at, head_fields, payment_fields, request_at, verdict_of}
+use Rattle.requests.specs.BatchRecords.{head_at, head_fields, verdict_of}
 use Rattle.requests.specs.Batches.{Reading, batch_of, batches, between, clean, reading_from, settled, with_front}
 use Rattle.requests.specs.Fields.{Fields}
 use Rattle.requests.specs.Records.{records_in}
-use Rattle.requests.specs.BatchText.{IsReadBatch, IsReadPayment, IsReadRequest, batch_records, batches_text, head_record, payment_record, request_record, verdict_text}
+use Rattle.requests.specs.BatchText.{IsReadBatch, IsReadRequest, batch_records, batches_text, head_record, request_record, verdict_text}
 use Rattle.requests.specs.declared.batch_record.BatchHead.{BatchHead}
 use Rattle.requests.specs.declared.request.Batch.{Batch}
-use Rattle.requests.specs.declared.request.CustomerChoice.{CustomerChoice}
-use Rattle.requests.specs.declared.request.CustomerChoice.TheVariants as choice
-use Rattle.requests.specs.declared.request.Payment.{Payment}
 use Rattle.requests.specs.declared.request.Request.{Request}
 use Rattle.requests.specs.declared.request.Request.TheVariants as request
 use Rattle.requests.specs.declared.request.Verdict.{Verdict}
 use Rattle.requests.specs.declared.request.Verdict.TheVariants as verdict
-use Rattle.requests.proofs.SpellingLemmas.{number_in-decimal, records_after-text}
-
-payment-read : (p : Payment) (c : CustomerChoice) → IsReadPayment (record p { customer = c }) → request_at (payment_record (record p { customer = c })) ≡ Ok (request.Payment (record p { customer = c }))
-unfolding field_at payment_fields
-payment-read p (choice.LastName last) h = absurd h.customer
-payment-read p (choice.Number c) h = rw (
-  number_in-decimal 1 100 p.warehouse h.warehouse.0 h.warehouse.1 (let b = h.warehouse.1 in omega (arith, b)),
-  number_in-decimal 1 10 p.district h.district.0 h.district.1 (let b = h.district.1 in omega (arith, b)),
-  number_in-decimal 1 100 p.customer_warehouse h.customer_warehouse.0 h.customer_warehouse.1 (let b = h.customer_warehouse.1 in omega (arith, b)),
-  number_in-decimal 1 10 p.customer_district h.customer_district.0 h.customer_district.1 (let b = h.customer_district.1 in omega (arith, b)),
-  number_in-decimal 1 3000 c h.customer.0 h.customer.1 (let b = h.customer.1 in omega (arith, b)),
-  number_in-decimal 100 500000 p.amount h.amount.0 h.amount.1 (let b = h.amount.1 in omega (arith, b)),
-) refl
-
--- a request is read from its record
-pub request_at-request_record : (q : Request) → IsReadRequest q → request_at (request_record q) ≡ Ok q
-request_at-request_record (request.Payment p) h = payment-read p p.customer h
-request_at-request_record _ h = absurd h
+use Rattle.requests.proofs.RequestRoundTrip.{request_at-request_record}
+use Rattle.requests.proofs.SpellingLemmas.{number-read, records_after-text}
 
 verdict-read : (v : Verdict) → verdict_of (Some (verdict_text v)) ≡ Ok v
 verdict-read verdict.Commit = refl
@@ -51,9 +32,9 @@ head_of b = record { moment = b.moment; verdict = b.verdict; count = length b.re
 head-read : (b : Batch) → IsReadBatch b → head_at (head_record b) ≡ Ok (head_of b)
 unfolding field_at head_fields
 head-read b h = rw (
-  number_in-decimal 0 999999999999 b.moment h.moment.0 h.moment.1 (let k = h.moment.1 in omega (arith, k)),
+  number-read 0 999999999999 b.moment h.moment (omega arith),
   verdict-read b.verdict,
-  number_in-decimal 0 1024 (length b.requests) (omega arith) h.count (let k = h.count in omega (arith, k)),
+  number-read 0 1024 (length b.requests) (omega arith, h.count) (omega arith),
 ) refl
 
 -- the rest of a batch
@@ -93,23 +74,25 @@ strip_bom-batches_text [] = refl
 strip_bom-batches_text (b ∷ bs) = strip_bom-letter _
 
 -- each record has a field, so it is read as it was written
-read_back-request : (q : Request) → IsReadRequest q → read_back (request_record q) ≡ request_record q
-read_back-request (request.Payment p) h = refl
-read_back-request _ h = absurd h
+read_back-request : (q : Request) → read_back (request_record q) ≡ request_record q
+read_back-request (request.NewOrder r) = refl
+read_back-request (request.Payment r) = refl
+read_back-request (request.OrderStatus r) = refl
+read_back-request (request.Delivery r) = refl
+read_back-request (request.StockLevel r) = refl
 
-read_back-requests : (qs : List Request) → All IsReadRequest qs → map read_back (map request_record qs) ≡ map request_record qs
-read_back-requests [] all = refl
-read_back-requests (q ∷ qs) all = ap₂ (λ (r : Fields) (rs : List Fields). r ∷ rs) (read_back-request q (All-head IsReadRequest q qs all)) (read_back-requests qs (All-tail IsReadRequest q qs all))
+read_back-requests : (qs : List Request) → map read_back (map request_record qs) ≡ map request_record qs
+read_back-requests [] = refl
+read_back-requests (q ∷ qs) = ap₂ (λ (r : Fields) (rs : List Fields). r ∷ rs) (read_back-request q) (read_back-requests qs)
 
-read_back-batches : (bs : List Batch) → All IsReadBatch bs → map read_back (flat_map batch_records bs) ≡ flat_map batch_records bs
-read_back-batches [] all = refl
-read_back-batches (b ∷ bs) all =
-    let fits = All-head IsReadBatch b bs all in
+read_back-batches : (bs : List Batch) → map read_back (flat_map batch_records bs) ≡ flat_map batch_records bs
+read_back-batches [] = refl
+read_back-batches (b ∷ bs) =
     ap (λ (rs : List Fields). head_record b ∷ rs)
     (map-append read_back (map request_record b.requests) (flat_map batch_records bs)
-    ∙ ap₂ (λ (xs ys : List Fields). xs ++ ys) (read_back-requests b.requests fits.requests) (read_back-batches bs (All-tail IsReadBatch b bs all)))
+    ∙ ap₂ (λ (xs ys : List Fields). xs ++ ys) (read_back-requests b.requests) (read_back-batches bs))
 
 pub batches-batches_text : (bs : List Batch) → All IsReadBatch bs → batches (batches_text bs) ≡ (bs, clean)
 batches-batches_text bs all =
-    let written : records_in (batches_text bs) ≡ flat_map batch_records bs = rw (strip_bom-batches_text bs) (records_after-text (flat_map batch_records bs) ∙ read_back-batches bs all) in
+    let written : records_in (batches_text bs) ≡ flat_map batch_records bs = rw (strip_bom-batches_text bs) (records_after-text (flat_map batch_records bs) ∙ read_back-batches bs) in
     rw written (records-read bs 1 all)

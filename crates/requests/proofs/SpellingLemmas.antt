@@ -7,6 +7,8 @@ use Rattle.std.specs.List.{list_all}
 use Rattle.std.specs.Str.{bytes_eq}
 use Rattle.std.specs.Str.Parse.{digits_value}
 use Rattle.std.proofs.lemmas.Bool.{cases_Bool, eqb-true}
+use Rattle.std.proofs.lemmas.Bool.Decides.{nat_tests}
+use Rattle.std.proofs.lemmas.List.Elements.{All-head, All-tail}
 use Rattle.std.proofs.lemmas.Fmt.{decimal-digits_value, decimal_digit, decimal_nonempty, digits_decimal, digits_value-decimal, first_decimal}
 use Rattle.std.proofs.lemmas.Int.{ints}
 use Rattle.std.proofs.lemmas.Slice.Eq.{bytes_eq-Decides}
@@ -15,7 +17,9 @@ use Rattle.csv.specs.Machine.{next_record}
 use Rattle.csv.specs.Writing.{read_back}
 use Rattle.csv.specs.declared.parser.State.TheVariants as st
 use Rattle.csv.proofs.RoundTrip.{read-write}
-use Rattle.requests.specs.Fields.{◌>>=◌, Fields, IsWithin, in_range, is_numeral, number_in, signed_in}
+use Rattle.tpcc_rows.specs.Limits.{IsBetween}
+use Rattle.tpcc_rows.specs.Texts.{ArePrintable, IsPrintable, IsText, is_printable}
+use Rattle.requests.specs.Fields.{◌>>=◌, Fields, IsWithin, in_range, is_numeral, number_in, signed_in, text_in}
 use Rattle.requests.specs.Records.{records_after}
 use Rattle.requests.specs.Spelling.{text_of_records}
 use Rattle.requests.specs.declared.fault.Slip.{Slip}
@@ -42,6 +46,23 @@ is_numeral-decimal (suc n) h = is_numeral-plain (decimal (suc n)) (digits_decima
 
 pub number_in-decimal : (low high n : ℕ) → low ≤ n → n ≤ high → n < 2 ^ 64 → number_in low high (decimal n) ≡ Ok n
 number_in-decimal low high n a b h = rw (is_numeral-decimal n h, digits_value-decimal own n h) (in_range-within low high n a b)
+
+-- a number within its limits
+pub number-read : (low high n : ℕ) → IsBetween low high n → high < 2 ^ 64 → number_in low high (decimal n) ≡ Ok n
+number-read low high n h small = let most = h.1 in number_in-decimal low high n h.0 h.1 (omega arith)
+
+is_printable-all : (xs : List ℕ) → ArePrintable xs → list_all is_printable xs ≡ true
+is_printable-all [] all = refl
+is_printable-all (x ∷ xs) all =
+    let here = All-head IsPrintable x xs all in
+    let rest = is_printable-all xs (All-tail IsPrintable x xs all) in
+    grind (arith, nat_tests)
+
+-- a text within its length
+pub text-read : (most : ℕ) (xs : List ℕ) → IsText most xs → text_in most xs ≡ Ok xs
+text-read most xs h =
+    let fits : nat_le (length xs) most ≡ true = (let short = h.fits in grind arith) in
+    rw (fits, is_printable-all xs h.printable) refl
 
 -- a `0` that stands alone
 is_numeral-zero : (c : ℕ) (cs : List ℕ) → c ≡ 48 → length cs ≡ 0 → list_all is_ascii_digit (c ∷ cs) ≡ true

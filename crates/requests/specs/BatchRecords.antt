@@ -1,13 +1,11 @@
 -- What a record of a file of batches says.
-use Rattle.std.specs.Prelude.{◌==◌, ◌+◌, ℕ, List, length, codes, Option, Result, Ok, Err, if◌then◌else◌}
+use Rattle.std.specs.Prelude.{◌==◌, ℕ, List, length, codes, Option, Result, Ok, Err, if◌then◌else◌}
 use Rattle.csv.specs.Records.{field_at}
 use Rattle.requests.specs.Fields.{Fields, ◌>>=◌, is_text, number_at}
+use Rattle.requests.specs.RequestRecords.{delivery_fields, has_lines, new_order_fields, order_status_fields, payment_fields, stock_level_fields}
 use Rattle.requests.specs.declared.fault.Slip.{Slip}
 use Rattle.requests.specs.declared.fault.Slip.TheVariants as slip
 use Rattle.requests.specs.declared.batch_record.BatchHead.{BatchHead}
-use Rattle.requests.specs.declared.request.CustomerChoice.{CustomerChoice}
-use Rattle.requests.specs.declared.request.CustomerChoice.TheVariants as choice
-use Rattle.requests.specs.declared.request.Payment.{Payment}
 use Rattle.requests.specs.declared.request.Request.{Request}
 use Rattle.requests.specs.declared.request.Request.TheVariants as request
 use Rattle.requests.specs.declared.request.Verdict.{Verdict}
@@ -16,6 +14,10 @@ use Rattle.requests.specs.declared.request.Verdict.TheVariants as verdict
 -- what a record says where it has so many fields
 abbrev pub of_count : {A : Type 0} → ℕ → Fields → Result A Slip → Result A Slip
 of_count count fields said = if length fields == count then said else Err slip.WrongCount
+
+-- what a new order's record says where it has 5 to 15 lines
+abbrev pub of_lines : {A : Type 0} → Fields → Result A Slip → Result A Slip
+of_lines fields said = if has_lines fields then said else Err slip.WrongCount
 
 abbrev pub verdict_of : Option (List ℕ) → Result Verdict Slip
 verdict_of field =
@@ -41,32 +43,12 @@ head_fields fields = do
 abbrev pub head_at : Fields → Result BatchHead Slip
 head_at fields = if is_text (codes "B") (field_at fields 0) then of_count 4 fields (head_fields fields) else Err slip.UnknownKind
 
--- `I,customer`: the form, and then the customer
-abbrev pub choice_at : Fields → ℕ → Result CustomerChoice Slip
-choice_at fields i =
-    if is_text (codes "I") (field_at fields i) then number_at fields (i + 1) 1 3000 >>= (λ c. Ok (choice.Number c))
-    else Err slip.BadField
-
--- `P,warehouse,district,customer's warehouse,customer's district,form,customer,amount`
-unfoldable pub payment_fields : Fields → Result Payment Slip
-payment_fields fields = do
-  w ← number_at fields 1 1 100
-  d ← number_at fields 2 1 10
-  cw ← number_at fields 3 1 100
-  cd ← number_at fields 4 1 10
-  customer ← choice_at fields 5
-  amount ← number_at fields 7 100 500000
-  Ok (record {
-    warehouse = w;
-    district = d;
-    customer_warehouse = cw;
-    customer_district = cd;
-    customer = customer;
-    amount = amount;
-  })
-
 -- what a record says that is to be a request
 abbrev pub request_at : Fields → Result Request Slip
 request_at fields =
-    if is_text (codes "P") (field_at fields 0) then of_count 8 fields (payment_fields fields >>= (λ p. Ok (request.Payment p)))
+    if is_text (codes "N") (field_at fields 0) then of_lines fields (new_order_fields fields >>= (λ r. Ok (request.NewOrder r)))
+    else if is_text (codes "P") (field_at fields 0) then of_count 8 fields (payment_fields fields >>= (λ r. Ok (request.Payment r)))
+    else if is_text (codes "O") (field_at fields 0) then of_count 5 fields (order_status_fields fields >>= (λ r. Ok (request.OrderStatus r)))
+    else if is_text (codes "D") (field_at fields 0) then of_count 3 fields (delivery_fields fields >>= (λ r. Ok (request.Delivery r)))
+    else if is_text (codes "S") (field_at fields 0) then of_count 4 fields (stock_level_fields fields >>= (λ r. Ok (request.StockLevel r)))
     else Err slip.UnknownKind

@@ -1,15 +1,21 @@
 -- How batches are spelled, and which of them are read from that.
-use Rattle.std.specs.Prelude.{◌≤◌, ◌++◌, ◌∷◌, [], ℕ, List, All, length, map, codes, decimal}
+use Rattle.std.specs.Prelude.{◌≤◌, ◌∷◌, [], ℕ, List, All, length, map, codes, decimal}
 use Rattle.std.specs.List.{flat_map}
 use Rattle.tpcc_rows.specs.Limits.{IsBetween}
+use Rattle.tpcc_rows.specs.Texts.{IsText}
 use Rattle.requests.specs.Fields.{Fields}
 use Rattle.requests.specs.Spelling.{text_of_records}
 use Rattle.requests.specs.declared.request.Batch.{Batch}
 use Rattle.requests.specs.declared.request.CustomerChoice.{CustomerChoice}
 use Rattle.requests.specs.declared.request.CustomerChoice.TheVariants as choice
+use Rattle.requests.specs.declared.request.Delivery.{Delivery}
+use Rattle.requests.specs.declared.request.NewOrder.{NewOrder}
+use Rattle.requests.specs.declared.request.OrderStatus.{OrderStatus}
+use Rattle.requests.specs.declared.request.OrderedLine.{OrderedLine}
 use Rattle.requests.specs.declared.request.Payment.{Payment}
 use Rattle.requests.specs.declared.request.Request.{Request}
 use Rattle.requests.specs.declared.request.Request.TheVariants as request
+use Rattle.requests.specs.declared.request.StockLevel.{StockLevel}
 use Rattle.requests.specs.declared.request.Verdict.{Verdict}
 use Rattle.requests.specs.declared.request.Verdict.TheVariants as verdict
 
@@ -21,20 +27,47 @@ verdict_text verdict.Rerun = codes "rerun"
 abbrev pub head_record : Batch → Fields
 head_record b = codes "B" ∷ decimal b.moment ∷ verdict_text b.verdict ∷ decimal (length b.requests) ∷ []
 
--- `I,customer` or `L,last name`
-abbrev pub choice_fields : CustomerChoice → Fields
-choice_fields (choice.Number c) = codes "I" ∷ decimal c ∷ []
-choice_fields (choice.LastName last) = codes "L" ∷ last ∷ []
+-- `I` for a customer's number, `L` for a last name
+abbrev pub choice_form : CustomerChoice → List ℕ
+choice_form (choice.Number c) = codes "I"
+choice_form (choice.LastName last) = codes "L"
+
+abbrev pub choice_text : CustomerChoice → List ℕ
+choice_text (choice.Number c) = decimal c
+choice_text (choice.LastName last) = last
+
+-- `item,supply,quantity`
+abbrev pub ordered_line_fields : OrderedLine → Fields
+ordered_line_fields line = decimal line.item ∷ decimal line.supply ∷ decimal line.quantity ∷ []
+
+-- `N,warehouse,district,customer` and the lines
+abbrev pub new_order_record : NewOrder → Fields
+new_order_record r = codes "N" ∷ decimal r.warehouse ∷ decimal r.district ∷ decimal r.customer ∷ flat_map ordered_line_fields r.lines
 
 -- `P,warehouse,district,customer's warehouse,customer's district,form,customer,amount`
 abbrev pub payment_record : Payment → Fields
-payment_record p = codes "P" ∷ decimal p.warehouse ∷ decimal p.district ∷ decimal p.customer_warehouse ∷ decimal p.customer_district
-    ∷ (choice_fields p.customer ++ decimal p.amount ∷ [])
+payment_record r = codes "P" ∷ decimal r.warehouse ∷ decimal r.district ∷ decimal r.customer_warehouse ∷ decimal r.customer_district
+    ∷ choice_form r.customer ∷ choice_text r.customer ∷ decimal r.amount ∷ []
 
--- the record of a request, of the kinds that are read
+-- `O,warehouse,district,form,customer`
+abbrev pub order_status_record : OrderStatus → Fields
+order_status_record r = codes "O" ∷ decimal r.warehouse ∷ decimal r.district ∷ choice_form r.customer ∷ choice_text r.customer ∷ []
+
+-- `D,warehouse,carrier`
+abbrev pub delivery_record : Delivery → Fields
+delivery_record r = codes "D" ∷ decimal r.warehouse ∷ decimal r.carrier ∷ []
+
+-- `S,warehouse,district,threshold`
+abbrev pub stock_level_record : StockLevel → Fields
+stock_level_record r = codes "S" ∷ decimal r.warehouse ∷ decimal r.district ∷ decimal r.threshold ∷ []
+
+-- the record of a request
 abbrev pub request_record : Request → Fields
-request_record (request.Payment p) = payment_record p
-request_record _ = []
+request_record (request.NewOrder r) = new_order_record r
+request_record (request.Payment r) = payment_record r
+request_record (request.OrderStatus r) = order_status_record r
+request_record (request.Delivery r) = delivery_record r
+request_record (request.StockLevel r) = stock_level_record r
 
 abbrev pub batch_records : Batch → List Fields
 batch_records b = head_record b ∷ map request_record b.requests
@@ -43,22 +76,51 @@ batch_records b = head_record b ∷ map request_record b.requests
 abbrev pub batches_text : List Batch → List ℕ
 batches_text bs = text_of_records (flat_map batch_records bs)
 
--- within the limits, and of the forms that are read
+-- within the limits
 abbrev pub IsReadChoice : CustomerChoice → Type 0
 IsReadChoice (choice.Number c) = IsBetween 1 3000 c
-IsReadChoice (choice.LastName last) = ⊥
+IsReadChoice (choice.LastName last) = IsText 16 last
 
-pub record IsReadPayment (p : Payment) : Type 0 where
-  pub warehouse : IsBetween 1 100 p.warehouse
-  pub district : IsBetween 1 10 p.district
-  pub customer_warehouse : IsBetween 1 100 p.customer_warehouse
-  pub customer_district : IsBetween 1 10 p.customer_district
-  pub customer : IsReadChoice p.customer
-  pub amount : IsBetween 100 500000 p.amount
+pub record IsReadLine (line : OrderedLine) : Type 0 where
+  pub item : IsBetween 1 999999 line.item
+  pub supply : IsBetween 1 100 line.supply
+  pub quantity : IsBetween 1 10 line.quantity
+
+pub record IsReadNewOrder (r : NewOrder) : Type 0 where
+  pub warehouse : IsBetween 1 100 r.warehouse
+  pub district : IsBetween 1 10 r.district
+  pub customer : IsBetween 1 3000 r.customer
+  pub count : IsBetween 5 15 (length r.lines)
+  pub lines : All IsReadLine r.lines
+
+pub record IsReadPayment (r : Payment) : Type 0 where
+  pub warehouse : IsBetween 1 100 r.warehouse
+  pub district : IsBetween 1 10 r.district
+  pub customer_warehouse : IsBetween 1 100 r.customer_warehouse
+  pub customer_district : IsBetween 1 10 r.customer_district
+  pub customer : IsReadChoice r.customer
+  pub amount : IsBetween 100 500000 r.amount
+
+pub record IsReadOrderStatus (r : OrderStatus) : Type 0 where
+  pub warehouse : IsBetween 1 100 r.warehouse
+  pub district : IsBetween 1 10 r.district
+  pub customer : IsReadChoice r.customer
+
+pub record IsReadDelivery (r : Delivery) : Type 0 where
+  pub warehouse : IsBetween 1 100 r.warehouse
+  pub carrier : IsBetween 1 10 r.carrier
+
+pub record IsReadStockLevel (r : StockLevel) : Type 0 where
+  pub warehouse : IsBetween 1 100 r.warehouse
+  pub district : IsBetween 1 10 r.district
+  pub threshold : IsBetween 10 20 r.threshold
 
 abbrev pub IsReadRequest : Request → Type 0
-IsReadRequest (request.Payment p) = IsReadPayment p
-IsReadRequest _ = ⊥
+IsReadRequest (request.NewOrder r) = IsReadNewOrder r
+IsReadRequest (request.Payment r) = IsReadPayment r
+IsReadRequest (request.OrderStatus r) = IsReadOrderStatus r
+IsReadRequest (request.Delivery r) = IsReadDelivery r
+IsReadRequest (request.StockLevel r) = IsReadStockLevel r
 
 pub record IsReadBatch (b : Batch) : Type 0 where
   pub moment : IsBetween 0 999999999999 b.moment

@@ -5,6 +5,8 @@ pub mod Ends
 pub mod Fields
 pub mod Records
 pub mod Spelling
+pub mod Writer
+pub mod RequestRecords
 pub mod BatchRecords
 pub mod Batches
 pub mod Reader

@@ -6,7 +6,7 @@ ghost use Rattle.csv.specs.Records.{field_at, fields_of};
 ghost use Rattle.requests.specs.Fields.{IsWithin, below_zero, is_numeral, is_text, number_at, number_in, number_or_null_at, signed_at, signed_in, text_at};
 
 use crate::fault::Slip;
-use crate::number::PaymentAmount;
+use crate::number::{OrderedQuantity, PaymentAmount, Threshold};
 use csv::ByteRecord;
 use tpcc_rows::id::{
     CustomerId, DistrictId, ItemId, LineNumber, OrderId, RequestNumber, WarehouseId,
@@ -173,12 +173,28 @@ pub fn rate(fields: &ByteRecord, i: usize) -> Result<Rate, Slip>
     Rate::new(value).ok_or(Slip::OutOfRange)
 }
 
+/// How many of an item a new order takes.
+pub fn ordered_quantity(fields: &ByteRecord, i: usize) -> Result<OrderedQuantity, Slip>
+    ensures { result ≡ number_at (fields_of fields.now) i 1 10 }
+{
+    let value = number_at(fields, i, 1, 10)? as u8;
+    OrderedQuantity::new(value).ok_or(Slip::OutOfRange)
+}
+
 /// What a payment pays.
 pub fn payment_amount(fields: &ByteRecord, i: usize) -> Result<PaymentAmount, Slip>
     ensures { result ≡ number_at (fields_of fields.now) i 100 500000 }
 {
     let cents = number_at(fields, i, 100, 500_000)? as u32;
     PaymentAmount::new(cents).ok_or(Slip::OutOfRange)
+}
+
+/// Below how many of an item a stock is low.
+pub fn threshold(fields: &ByteRecord, i: usize) -> Result<Threshold, Slip>
+    ensures { result ≡ number_at (fields_of fields.now) i 10 20 }
+{
+    let value = number_at(fields, i, 10, 20)? as u8;
+    Threshold::new(value).ok_or(Slip::OutOfRange)
 }
 
 /// W_YTD, D_YTD, C_BALANCE or C_YTD_PAYMENT.
@@ -202,6 +218,14 @@ pub fn item(fields: &ByteRecord, i: usize) -> Result<ItemId, Slip>
     ensures { result ≡ number_at (fields_of fields.now) i 1 100000 }
 {
     let number = number_at(fields, i, 1, 100_000)? as u32;
+    ItemId::new(number).ok_or(Slip::OutOfRange)
+}
+
+/// I_ID, of an item that a new order names: the database may have none of this number.
+pub fn requested_item(fields: &ByteRecord, i: usize) -> Result<ItemId, Slip>
+    ensures { result ≡ number_at (fields_of fields.now) i 1 999999 }
+{
+    let number = number_at(fields, i, 1, 999_999)? as u32;
     ItemId::new(number).ok_or(Slip::OutOfRange)
 }
 

@@ -35,7 +35,7 @@ pub fn records_read_back()
         → records_in (text_of_records rows) ≡ map read_back rows }
 {}
 
-/// Batches are read from their text, where they are within the limits and of the forms that are read.
+/// Batches are read from their text, where they are within the limits.
 pub fn batches_read_back()
     ensures { (bs : List Batch) → All IsReadBatch bs → batches (batches_text bs) ≡ (bs, clean) }
 {}

@@ -13,6 +13,7 @@ pub mod memory_ends;
 pub mod number;
 mod reading;
 pub mod record_text;
+pub mod record_writer;
 pub mod records;
 pub mod reply;
 pub mod reply_text;

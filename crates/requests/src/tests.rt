@@ -5,3 +5,4 @@ mod faults;
 mod fields;
 mod memory;
 mod replies;
+mod request_faults;

@@ -2,3 +2,4 @@ pub mod Text
 pub mod Runs
 pub mod FaultText
 pub mod WholeRuns
+pub mod MadeTexts

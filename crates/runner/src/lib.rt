@@ -4,9 +4,11 @@
 mod batch;
 mod engine;
 pub mod fault;
+mod make;
 mod opening;
 mod run;
 mod text;
 
 pub use fault::{BatchRefusal, RunFault, fault_line};
+pub use make::make_text;
 pub use run::run_text;

@@ -1,10 +1,29 @@
--- Laws of requests that are executed one after the other.
-use Rattle.std.specs.Prelude.{ℕ, List}
+-- Laws of the definitions.
+use Rattle.std.specs.Prelude.{◌≡◌, ◌↔◌, ◌≤◌, ◌<◌, ◌+◌, ◌-◌, ℕ, nat_eq, true, List, Some}
+use Rattle.std.specs.FinMap as map
+use Rattle.std.specs.Set.{is_member}
 use Rattle.serializability.specs.Laws.{FoldsInTwoAt}
 use Rattle.requests.specs.declared.request.Request.{Request}
+use Rattle.requests.specs.declared.request.StockLevel.{StockLevel}
+use Rattle.tpcc_rows.specs.declared.key.RowKey.TheVariants as key
+use Rattle.tpcc_rows.specs.declared.row.Row.TheVariants as row
+use Rattle.tpcc_rows.specs.declared.row.OrderLineRow.{OrderLineRow}
 use Rattle.tpcc_model.specs.Database.{Database}
+use Rattle.tpcc_model.specs.Soundness.{IsSound}
 use Rattle.tpcc_model.specs.Steps.{steps_at}
+use Rattle.tpcc_model.specs.StockLevels.{first_recent, is_low, low_items}
 
 -- what more requests do is what they do on the rows that the first ones leave
 abbrev pub FoldsInTwo : Type 0
 FoldsInTwo = (db : Database) (moment number : ℕ) (first more : List Request) → FoldsInTwoAt (steps_at db.cards moment) db.rows number first more
+
+-- the item of a line of one of the district's last twenty orders: D_NEXT_O_ID - 20 <= OL_O_ID < D_NEXT_O_ID
+abbrev pub IsRecentItem : Database → StockLevel → ℕ → ℕ → Type 0
+IsRecentItem db p next item =
+    (o n : ℕ) × (line : OrderLineRow) × (map.get db.rows (key.OrderLine p.warehouse p.district o n) ≡ Some (row.OrderLine line))
+    × (next ≤ o + 20) × (o < next) × (line.item ≡ item)
+
+-- what a stock level counts: in a sound database, the items of such lines that are low
+abbrev pub LowItemsAreRecent : Type 0
+LowItemsAreRecent = (db : Database) (p : StockLevel) (next item : ℕ) → IsSound db
+    → (is_member nat_eq (low_items db p (first_recent next) (next - first_recent next)) item ≡ true) ↔ (IsRecentItem db p next item × (is_low db p item ≡ true))

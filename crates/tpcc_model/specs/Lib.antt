@@ -1,7 +1,11 @@
 pub mod Database
 pub mod Staging
+pub mod Choices
 pub mod Payments
 pub mod NewOrders
+pub mod OrderStatuses
+pub mod Deliveries
+pub mod StockLevels
 pub mod Steps
 pub mod Conditions
 pub mod Soundness

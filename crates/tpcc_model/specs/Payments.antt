@@ -1,5 +1,5 @@
 -- A payment (TPC-C clause 2.5): the cards of its keys are found, then their rows, then the new rows are made.
-use Rattle.std.specs.Prelude.{ℕ, ◌+◌, pos, ◌+ℤ◌, ◌-ℤ◌, List, [], ◌∷◌, ◌++◌, codes, Option, Some, None, Result, Ok, decimal}
+use Rattle.std.specs.Prelude.{ℕ, ◌+◌, pos, ◌+ℤ◌, ◌-ℤ◌, List, [], ◌∷◌, ◌++◌, codes, Some, Result, Ok, decimal}
 use Rattle.std.specs.FinMap as map
 use Rattle.tpcc_rows.specs.Limits.{between, cents_of}
 use Rattle.tpcc_rows.specs.Texts.{clip}
@@ -18,20 +18,14 @@ use Rattle.catalog.specs.declared.card.Credit.TheVariants.{Good, Bad}
 use Rattle.catalog.specs.declared.card.WarehouseCard.{WarehouseCard}
 use Rattle.catalog.specs.declared.card.DistrictCard.{DistrictCard}
 use Rattle.catalog.specs.declared.card.CustomerCard.{CustomerCard}
-use Rattle.requests.specs.declared.request.CustomerChoice.{CustomerChoice}
-use Rattle.requests.specs.declared.request.CustomerChoice.TheVariants as choice
 use Rattle.requests.specs.declared.request.Payment.{Payment}
 use Rattle.requests.specs.declared.reply.Refusal.{Refusal}
 use Rattle.requests.specs.declared.reply.ShownCredit.{ShownCredit}
 use Rattle.requests.specs.declared.reply.ShownCredit.TheVariants as shown
 use Rattle.requests.specs.declared.reply.PaymentReply.{PaymentReply}
+use Rattle.tpcc_model.specs.Choices.{chosen_customer}
 use Rattle.tpcc_model.specs.Database.{Database}
 use Rattle.tpcc_model.specs.Staging.{◌>>=◌, known, within}
-
--- the number of the customer that a request means; nobody is found by last name yet
-abbrev pub chosen_customer : CustomerChoice → Option ℕ
-chosen_customer (choice.Number c) = Some c
-chosen_customer (choice.LastName last) = None
 
 -- the customer, and the cards of a payment's keys
 pub record PaymentCards : Type 0 where
@@ -44,7 +38,7 @@ unfoldable pub found_cards : Cards → Payment → Result PaymentCards Refusal
 found_cards cards p = do
   warehouse ← known (warehouse_card cards p.warehouse)
   district ← known (district_card cards p.warehouse p.district)
-  c ← known (chosen_customer p.customer)
+  c ← known (chosen_customer cards p.customer_warehouse p.customer_district p.customer)
   customer ← known (customer_card cards p.customer_warehouse p.customer_district c)
   Ok (record { customer_id = c; warehouse = warehouse; district = district; customer = customer })
 

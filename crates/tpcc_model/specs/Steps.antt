@@ -11,12 +11,16 @@ use Rattle.requests.specs.declared.request.Request.TheVariants as request
 use Rattle.requests.specs.declared.request.RequestKind.{RequestKind}
 use Rattle.requests.specs.declared.request.RequestKind.TheVariants as kind
 use Rattle.requests.specs.declared.reply.Refusal.{Refusal}
-use Rattle.requests.specs.declared.reply.Refusal.TheVariants as refusal
 use Rattle.requests.specs.declared.reply.Reply.{Reply}
 use Rattle.requests.specs.declared.reply.Reply.TheVariants as reply
+use Rattle.requests.specs.declared.reply.OrderStatusReply.{OrderStatusReply}
+use Rattle.requests.specs.declared.reply.StockLevelReply.{StockLevelReply}
 use Rattle.tpcc_model.specs.Database.{Database}
+use Rattle.tpcc_model.specs.Deliveries.{Delivered, delivery}
 use Rattle.tpcc_model.specs.NewOrders.{PlacedOrder, new_order}
+use Rattle.tpcc_model.specs.OrderStatuses.{order_status}
 use Rattle.tpcc_model.specs.Payments.{Paid, payment, payment_reply, payment_changes}
+use Rattle.tpcc_model.specs.StockLevels.{stock_level}
 
 -- the reply, and the keys that are written or deleted, each with its new row or none
 pub record Outcome : Type 0 where
@@ -35,13 +39,25 @@ abbrev pub new_order_outcome : Result PlacedOrder Refusal → Outcome
 new_order_outcome (Ok placed) = record { reply = reply.NewOrder placed.reply; changes = placed.changes }
 new_order_outcome (Err why) = refused kind.NewOrder why
 
--- the step of a request with its number, at a moment. New orders and payments are served yet; the others are refused.
+abbrev pub order_status_outcome : Result OrderStatusReply Refusal → Outcome
+order_status_outcome (Ok shown) = record { reply = reply.OrderStatus shown; changes = map.empty }
+order_status_outcome (Err why) = refused kind.OrderStatus why
+
+abbrev pub delivery_outcome : Result Delivered Refusal → Outcome
+delivery_outcome (Ok made) = record { reply = reply.Delivery made.reply; changes = made.changes }
+delivery_outcome (Err why) = refused kind.Delivery why
+
+abbrev pub stock_level_outcome : Result StockLevelReply Refusal → Outcome
+stock_level_outcome (Ok counted) = record { reply = reply.StockLevel counted; changes = map.empty }
+stock_level_outcome (Err why) = refused kind.StockLevel why
+
+-- the step of a request with its number, at a moment
 unfoldable pub step : Database → Request → ℕ → ℕ → Outcome
 step db (request.NewOrder p) number moment = new_order_outcome (new_order db p moment)
 step db (request.Payment p) number moment = payment_outcome p number (payment db p moment)
-step db (request.OrderStatus p) number moment = refused kind.OrderStatus refusal.UnknownKey
-step db (request.Delivery p) number moment = refused kind.Delivery refusal.UnknownKey
-step db (request.StockLevel p) number moment = refused kind.StockLevel refusal.UnknownKey
+step db (request.OrderStatus p) number moment = order_status_outcome (order_status db p)
+step db (request.Delivery p) number moment = delivery_outcome (delivery db p moment)
+step db (request.StockLevel p) number moment = stock_level_outcome (stock_level db p)
 
 -- the steps on the rows of these cards, all at one moment
 abbrev pub steps_at : Cards → ℕ → Step row_key_cmp Row Request Reply

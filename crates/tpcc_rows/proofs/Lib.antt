@@ -6,3 +6,5 @@ pub mod Totals
 pub mod Changes
 pub mod Fitting
 pub mod KeyCodes
+pub mod Picks
+pub mod RowKindFacts

@@ -7,3 +7,4 @@ pub mod Changing
 pub mod Totals
 pub mod Codes
 pub mod Prices
+pub mod Picks

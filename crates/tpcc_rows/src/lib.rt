@@ -10,6 +10,8 @@ pub mod memory;
 pub mod number;
 pub mod plain;
 pub mod row;
+mod searching;
+pub mod stored;
 #[cfg(test)]
 mod tests;
 pub mod text;

@@ -3,14 +3,17 @@ ghost use Rattle.std.specs.Prelude.{◌≡◌, ◌<◌, ◌^◌, IfSome, OnOk, O
 ghost use Rattle.std.specs.FinMap as map;
 ghost use Rattle.serializability.specs.Changes.{changed};
 ghost use Rattle.tpcc_rows.specs.Changing.{IsMadeInPart, after, new_row_fits};
+ghost use Rattle.tpcc_rows.specs.Picks.{latest, oldest};
 ghost use Rattle.tpcc_rows.specs.RowKinds.{fits};
 ghost use Rattle.tpcc_rows.specs.Rows.{customer_row, district_row, warehouse_row};
 
 use crate::delta::Delta;
-use crate::id::{CustomerId, DistrictId, WarehouseId};
+use crate::id::{CustomerId, DistrictId, OrderId, WarehouseId};
 use crate::key::RowKey;
 use crate::memory::Memory;
 use crate::row::{CustomerRow, DistrictRow, Row, WarehouseRow};
+use crate::searching::{larger, lesser, new_pick, order_pick};
+use crate::stored::StoredRow;
 use std::alloc::Global;
 use std::collections::BTreeMap;
 use std::collections::btree_map::Iter;
@@ -19,7 +22,8 @@ use std::marker::Model;
 /// A finite map from keys to rows, each row of its key's kind.
 #[derive(Drop)]
 pub struct RowStore {
-    rows: BTreeMap<RowKey, Row>,
+    rows: BTreeMap<RowKey, StoredRow>,
+    alloc: Global,
 }
 
 impl Model for RowStore {
@@ -43,18 +47,25 @@ impl RowStore {
     {
         RowStore {
             rows: BTreeMap::new(alloc),
+            alloc,
         }
     }
 
-    pub fn get(&self, key: &RowKey) -> Option<&Row>
+    fn stored(&self, key: &RowKey) -> Option<&StoredRow>
         ensures value { option_copied result ≡ map.get self.now key.now }
         ensures kind { IfSome (option_copied result) (λ row. fits key.now row ≡ true) }
     {
         self.rows.get(key)
     }
 
-    /// The key has this row from now on.
-    pub fn put(&mut self, key: RowKey, row: Row) -> Result<(), Memory>
+    pub fn get(&self, key: &RowKey) -> Option<&Row>
+        ensures value { option_copied result ≡ map.get self.now key.now }
+        ensures kind { IfSome (option_copied result) (λ row. fits key.now row ≡ true) }
+    {
+        Some(self.stored(key)?.row())
+    }
+
+    fn put_stored(&mut self, key: RowKey, row: StoredRow) -> Result<(), Memory>
         requires { fits key row ≡ true }
         ensures ok { OnOk result (self.new ≡ map.insert self.old key row) }
         ensures err { OnErr result (self.new ≡ self.old) }
@@ -63,12 +74,29 @@ impl RowStore {
         Ok(())
     }
 
+    /// The key has this row from now on.
+    pub fn put(&mut self, key: RowKey, row: Row) -> Result<(), Memory>
+        requires { fits key row ≡ true }
+        ensures ok { OnOk result (self.new ≡ map.insert self.old key row) }
+        ensures err { OnErr result (self.new ≡ self.old) }
+    {
+        let row = StoredRow::new(self.alloc, row)?;
+        self.put_stored(key, row)
+    }
+
+    fn remove_stored(&mut self, key: &RowKey) -> Option<StoredRow>
+        ensures value { result ≡ map.get self.old key.now }
+        ensures after { self.new ≡ map.remove self.old key.now }
+    {
+        self.rows.remove(key)
+    }
+
     /// The key has no row from now on; the answer is the one that it had.
     pub fn remove(&mut self, key: &RowKey) -> Option<Row>
         ensures value { result ≡ map.get self.old key.now }
         ensures after { self.new ≡ map.remove self.old key.now }
     {
-        self.rows.remove(key)
+        Some(self.remove_stored(key)?.into_row())
     }
 
     /// How many rows there are.
@@ -80,7 +108,7 @@ impl RowStore {
     }
 
     /// The rows in key order.
-    pub fn iter(&self) -> Iter<'_, RowKey, Row>
+    pub fn iter(&self) -> Iter<'_, RowKey, StoredRow>
         ensures { result ≡ map.entries self.now }
     {
         self.rows.iter()
@@ -116,6 +144,37 @@ impl RowStore {
             customer,
         };
         self.get(&key)?.as_customer()
+    }
+
+    /// The least number of the district's new orders.
+    pub fn oldest_new(&self, warehouse: WarehouseId, district: DistrictId) -> Option<OrderId>
+        ensures { result ≡ oldest self.now warehouse district }
+    {
+        let mut oldest = None;
+        for (key, row) in self.iter() {
+            if let Some(order) = new_pick(warehouse, district, key, row.row()) {
+                oldest = Some(lesser(order, oldest));
+            }
+        }
+        oldest
+    }
+
+    /// The greatest number of the customer's orders.
+    pub fn last_order(
+        &self,
+        warehouse: WarehouseId,
+        district: DistrictId,
+        customer: CustomerId,
+    ) -> Option<OrderId>
+        ensures { result ≡ latest self.now warehouse district customer }
+    {
+        let mut latest = None;
+        for (key, row) in self.iter() {
+            if let Some(order) = order_pick(warehouse, district, customer, key, row.row()) {
+                latest = Some(larger(order, latest));
+            }
+        }
+        latest
     }
 
     fn change(&mut self, key: &RowKey, new_row: &Option<Row>) -> Result<(), Memory>

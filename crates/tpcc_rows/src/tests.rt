@@ -6,7 +6,7 @@ use crate::number::{
     Amount, Carrier, Cents, Count, LineQuantity, Moment, Price, Rate, StockQuantity,
 };
 use crate::plain::RowStore;
-use crate::row::{Row, WarehouseRow, fits};
+use crate::row::{OrderRow, Row, WarehouseRow, fits};
 use crate::text::Text;
 use std::test::Fail;
 
@@ -86,5 +86,69 @@ fn changes(rt: HostRuntime) -> Result<(), Fail> {
         .and_then(Row::as_warehouse)
         .map(|row| row.ytd.amount());
     assert_eq!(rt; ytd, Some(7));
+    Ok(())
+}
+
+fn put_order(
+    store: &mut RowStore,
+    customer: CustomerId,
+    district: DistrictId,
+    order: u32,
+) -> Result<(), Fail> {
+    let warehouse = WarehouseId::new(1).ok_or("an id")?;
+    let order = OrderId::new(order).ok_or("an order")?;
+    let row = OrderRow {
+        customer,
+        entry: Moment::new(0).ok_or("a moment")?,
+        carrier: None,
+        line_count: LineNumber::new(5).ok_or("a count")?,
+        all_local: true,
+    };
+    let key = RowKey::Order {
+        warehouse,
+        district,
+        order,
+    };
+    store.put(key, Row::Order(row))?;
+    let key = RowKey::NewOrder {
+        warehouse,
+        district,
+        order,
+    };
+    store.put(key, Row::NewOrder)?;
+    Ok(())
+}
+
+#[test]
+fn oldest_and_latest(rt: HostRuntime) -> Result<(), Fail> {
+    let warehouse = WarehouseId::new(1).ok_or("an id")?;
+    let district = DistrictId::new(1).ok_or("an id")?;
+    let other = DistrictId::new(2).ok_or("an id")?;
+    let one = CustomerId::new(1).ok_or("an id")?;
+    let two = CustomerId::new(2).ok_or("an id")?;
+    let mut store = RowStore::new(rt.alloc());
+    assert!(rt; store.oldest_new(warehouse, district).is_none());
+    assert!(rt; store.last_order(warehouse, district, one).is_none());
+    put_order(&mut store, one, district, 7)?;
+    put_order(&mut store, one, district, 3)?;
+    put_order(&mut store, two, district, 9)?;
+    put_order(&mut store, one, other, 1)?;
+    assert_eq!(rt;
+        store.oldest_new(warehouse, district).map(OrderId::number),
+        Some(3)
+    );
+    assert_eq!(rt;
+        store
+            .last_order(warehouse, district, one)
+            .map(OrderId::number),
+        Some(7)
+    );
+    assert_eq!(rt;
+        store
+            .last_order(warehouse, district, two)
+            .map(OrderId::number),
+        Some(9)
+    );
+    assert!(rt; store.last_order(warehouse, other, two).is_none());
     Ok(())
 }

@@ -1,6 +1,6 @@
 -- How the rows' own part of soundness goes through single changes.
 use Rattle.std.proofs.Common.{◌≡◌, ℕ, Some, IsSome, inl, inr, sym, ap, subst, subst₂, ◌∙◌, is_some}
-use Rattle.std.specs.FinMap.{get, insert}
+use Rattle.std.specs.FinMap.{get, insert, remove}
 use Rattle.catalog.specs.CardMap.{Cards}
 use Rattle.tpcc_rows.specs.Limits.{IsBetween}
 use Rattle.tpcc_rows.specs.RowMap.{Rows}
@@ -11,7 +11,7 @@ use Rattle.tpcc_rows.specs.declared.row.Row.TheVariants as row
 use Rattle.tpcc_rows.specs.declared.row.OrderRow.{OrderRow}
 use Rattle.tpcc_rows.specs.declared.row.OrderLineRow.{OrderLineRow}
 use Rattle.tpcc_rows.proofs.Keys.{row_key_cmp_total, exact_keys}
-use Rattle.tpcc_rows.proofs.Singles.{same_key, here, apart, entry_of}
+use Rattle.tpcc_rows.proofs.Singles.{same_key, here, apart, left, entry_of, entry_left}
 use Rattle.tpcc_model.specs.Soundness.{HasCard, IsEntry, IsOrderLine}
 
 -- each row of m is as it should be, with its parents in p
@@ -32,10 +32,19 @@ module _ (cards : Cards) where
     | inr g ↦ h q y g
   ]
 
+  pub each-remove : (p m : Rows) (k : RowKey) → Each cards p m → Each cards p (remove m k)
+  each-remove p m k h q y e = h q y (entry_left row_key_cmp_total exact_keys m k q y e)
+
   pub there-insert : (m : Rows) (k : RowKey) (x : Row) → There cards m → There cards (insert m k x)
   there-insert m k x h q c = elim (same_key row_key_cmp_total exact_keys q k) [
     | inl s ↦ subst (λ z. IsSome (get (insert m k x) z)) (sym s) (ap is_some (here row_key_cmp_total exact_keys m k x))
     | inr n ↦ ap is_some (apart row_key_cmp_total exact_keys m k x q n) ∙ h q c
+  ]
+
+  pub there-remove : (m : Rows) (k : RowKey) → (HasCard cards k → ⊥) → There cards m → There cards (remove m k)
+  there-remove m k none h q c = elim (same_key row_key_cmp_total exact_keys q k) [
+    | inl s ↦ absurd (none (subst (HasCard cards) s c))
+    | inr n ↦ ap is_some (left row_key_cmp_total exact_keys m k q n) ∙ h q c
   ]
 
   moved_line : (p q : Rows) → OrdersKept p q → (w d o n : ℕ) (r : OrderLineRow) → IsOrderLine cards p w d o n r → IsOrderLine cards q w d o n r

@@ -2,6 +2,8 @@ pub mod Doing
 pub mod ForEach
 pub mod FaultFacts
 pub mod FoundLines
+pub mod HeldItems
+pub mod LowItemFacts
 pub mod CardFacts
 pub mod Entries
 pub mod Conditions
@@ -12,4 +14,8 @@ pub mod NewOrderFacts
 pub mod NewOrderKeeps
 pub mod PaymentFacts
 pub mod PaymentKeeps
+pub mod DeliveryFacts
+pub mod DeliveryLines
+pub mod DeliverySteps
+pub mod DeliveryKeeps
 pub mod Keeping

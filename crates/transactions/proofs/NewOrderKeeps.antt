@@ -54,7 +54,7 @@ no_new_order v e _ x t = cc
 same_district : (w d : ℕ) → (w == w && d == d) ≡ true
 same_district w d = grind (arith, nat_tests)
 
-other_district : (v w e d : ℕ) → (v ≡ w → e ≡ d → ⊥) → (w == v && d == e) ≡ false
+pub other_district : (v w e d : ℕ) → (v ≡ w → e ≡ d → ⊥) → (w == v && d == e) ≡ false
 other_district v w e d n = elim (cases_eq v w) [
   | inl a ↦ elim (cases_eq e d) [ inl b ↦ absurd (n a b) | inr b ↦ grind (arith, nat_tests) ]
   | inr a ↦ grind (arith, nat_tests)

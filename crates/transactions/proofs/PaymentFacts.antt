@@ -20,8 +20,9 @@ use Rattle.tpcc_rows.specs.declared.row.DistrictRow.{DistrictRow}
 use Rattle.tpcc_rows.specs.declared.row.CustomerRow.{CustomerRow}
 use Rattle.tpcc_rows.specs.RowKinds.{as_warehouse, as_district, as_customer}
 use Rattle.tpcc_rows.proofs.Clips.{clip-is, decimal_printable}
+use Rattle.tpcc_model.specs.Choices.{chosen_customer}
 use Rattle.tpcc_model.specs.Database.{Database}
-use Rattle.tpcc_model.specs.Payments.{Paid, chosen_customer, field, found_cards, found_rows, history_of, paid_customer, paid_data, paid_district, paid_rows, paid_warehouse, payment, payment_note}
+use Rattle.tpcc_model.specs.Payments.{Paid, field, found_cards, found_rows, history_of, paid_customer, paid_data, paid_district, paid_rows, paid_warehouse, payment, payment_note}
 use Rattle.tpcc_model.specs.Soundness.{IsCustomerRow, IsHistory, IsSound}
 use Rattle.tpcc_model.specs.Staging.{known, within}
 use Rattle.transactions.specs.Requests.{IsPayment}
@@ -139,7 +140,7 @@ found db p number moment paid sound few numbered timed h =
     ok-by (found_rows db.rows p cards.customer_id) _ _ hc λ rows er hr.
     ok-by (known (warehouse_card db.cards p.warehouse)) _ _ ec λ c1 e1 h1.
     ok-by (known (district_card db.cards p.warehouse p.district)) _ _ h1 λ c2 e2 h2.
-    ok-by (known (chosen_customer p.customer)) _ _ h2 λ c e0 h0.
+    ok-by (known (chosen_customer db.cards p.customer_warehouse p.customer_district p.customer)) _ _ h2 λ c e0 h0.
     ok-by (known (customer_card db.cards p.customer_warehouse p.customer_district c)) _ _ h0 λ c3 e3 h3.
     let id : c ≡ cards.customer_id = cc in
     let card1 : c1 ≡ cards.warehouse = cc in

@@ -1,6 +1,7 @@
 -- Requests within their limits.
 use Rattle.std.specs.Prelude.{length}
 use Rattle.std.specs.List.{AllByRecursion}
+use Rattle.requests.specs.declared.request.Delivery.{Delivery}
 use Rattle.requests.specs.declared.request.NewOrder.{NewOrder}
 use Rattle.requests.specs.declared.request.Payment.{Payment}
 use Rattle.requests.specs.declared.request.Request.{Request}
@@ -15,9 +16,12 @@ pub record IsNewOrder (p : NewOrder) : Type 0 where
 abbrev pub IsPayment : Payment → Type 0
 IsPayment p = IsBetween 100 500000 p.amount
 
+abbrev pub IsDelivery : Delivery → Type 0
+IsDelivery p = IsBetween 1 10 p.carrier
+
 abbrev pub IsRequest : Request → Type 0
 IsRequest (request.NewOrder p) = IsNewOrder p
 IsRequest (request.Payment p) = IsPayment p
 IsRequest (request.OrderStatus p) = Unit {0}
-IsRequest (request.Delivery p) = Unit {0}
+IsRequest (request.Delivery p) = IsDelivery p
 IsRequest (request.StockLevel p) = Unit {0}

@@ -1,16 +1,27 @@
-//! The transactions: what one request answers, and which rows it changes. Of the five, new orders and payments by the
-//! customer's number are served yet.
+//! The transactions: what one request answers, and which rows it changes.
 #![tactic(auto)]
 
+mod choice;
+mod delivery;
 mod fault;
 pub mod laws;
 mod new_order;
 mod order_line;
+mod order_status;
 mod payment;
 mod seen;
+mod stock_level;
 mod transaction;
 
 pub use transaction::execute;
 
+#[cfg(test)]
+mod choice_tests;
+#[cfg(test)]
+mod delivery_tests;
+#[cfg(test)]
+mod order_status_tests;
+#[cfg(test)]
+mod stock_level_tests;
 #[cfg(test)]
 mod tests;

@@ -36,7 +36,7 @@ fn raised_district(old: &DistrictRow) -> Result<DistrictRow, Refusal>
     Ok(DistrictRow { next_order, ..*old })
 }
 
-fn line_number(number: usize) -> LineNumber
+pub(crate) fn line_number(number: usize) -> LineNumber
     requires { IsBetween 1 15 number }
     ensures { result ≡ number }
 {

@@ -1,15 +1,16 @@
 //! Payment (TPC-C clause 2.5): the cards of its keys are found, then their rows, then the new rows are made. What can
 //! fail for want of memory comes last.
 ghost use Rattle.std.specs.Prelude.{◌≡◌, ◌++◌, IfOk};
-ghost use Rattle.tpcc_model.specs.Payments.{chosen_customer, field, found_cards, history_of, paid_customer, paid_data, paid_district, paid_warehouse, payment, payment_changes, payment_note, payment_reply};
+ghost use Rattle.tpcc_model.specs.Payments.{field, found_cards, history_of, paid_customer, paid_data, paid_district, paid_warehouse, payment, payment_changes, payment_note, payment_reply};
 ghost use Rattle.tpcc_model.specs.Steps.{payment_outcome};
 ghost use Rattle.tpcc_rows.specs.Texts.{IsPrintable, clip};
 ghost use Rattle.transactions.specs.Outcomes.{IsOutcome, new_rows_of, paid_of};
 
+use crate::choice::chosen_customer;
 use catalog::{Catalog, Credit};
 use requests::number::PaymentAmount;
 use requests::reply::{PaymentReply, Refusal, Reply, ShownCredit};
-use requests::request::{CustomerChoice, Payment, RequestKind};
+use requests::request::{Payment, RequestKind};
 use std::alloc::Global;
 use tpcc_rows::delta::Delta;
 use tpcc_rows::id::{CustomerId, RequestNumber};
@@ -29,15 +30,6 @@ pub(crate) struct NewRows {
     pub history: HistoryRow,
     pub customer_id: CustomerId,
     pub credit: Credit,
-}
-
-fn chosen_customer(choice: &CustomerChoice) -> Option<CustomerId>
-    ensures { result ≡ chosen_customer choice.now }
-{
-    match choice {
-        CustomerChoice::Number(customer) => Some(*customer),
-        CustomerChoice::LastName(_) => None,
-    }
 }
 
 #[tactic(auto, unfolding(tpcc_model::specs::Payments::paid_warehouse))]
@@ -162,7 +154,13 @@ fn payment(
     let district_card = catalog
         .district(p.warehouse, p.district)
         .ok_or(Refusal::UnknownKey)?;
-    let customer_id = chosen_customer(&p.customer).ok_or(Refusal::UnknownKey)?;
+    let chosen = chosen_customer(
+        catalog,
+        p.customer_warehouse,
+        p.customer_district,
+        &p.customer,
+    );
+    let customer_id = chosen.ok_or(Refusal::UnknownKey)?;
     let customer_card = catalog
         .customer(p.customer_warehouse, p.customer_district, customer_id)
         .ok_or(Refusal::UnknownKey)?;

@@ -2,13 +2,13 @@
 ghost use Rattle.std.specs.Prelude.{◌≡◌, option_copied};
 ghost use Rattle.std.specs.FinMap as map;
 ghost use Rattle.tpcc_rows.specs.Changing.{after};
-ghost use Rattle.tpcc_rows.specs.Rows.{stock_row};
+ghost use Rattle.tpcc_rows.specs.Rows.{customer_row, order_line_row, order_row, stock_row};
 
 use tpcc_rows::delta::Delta;
-use tpcc_rows::id::{ItemId, WarehouseId};
+use tpcc_rows::id::{CustomerId, DistrictId, ItemId, LineNumber, OrderId, WarehouseId};
 use tpcc_rows::key::RowKey;
 use tpcc_rows::plain::RowStore;
-use tpcc_rows::row::{Row, StockRow};
+use tpcc_rows::row::{CustomerRow, OrderLineRow, OrderRow, Row, StockRow};
 
 #[tactic(auto, using(tpcc_rows::proofs::Changes::seen))]
 fn row_seen<'a>(store: &'a RowStore, changes: &'a Delta, key: &RowKey) -> Option<&'a Row>
@@ -29,4 +29,57 @@ pub(crate) fn stock_seen<'a>(
     ensures { option_copied result ≡ stock_row (after store.now changes.now) warehouse item }
 {
     row_seen(store, changes, &RowKey::Stock { warehouse, item })?.as_stock()
+}
+
+pub(crate) fn customer_seen<'a>(
+    store: &'a RowStore,
+    changes: &'a Delta,
+    warehouse: WarehouseId,
+    district: DistrictId,
+    customer: CustomerId,
+) -> Option<&'a CustomerRow>
+    ensures { option_copied result ≡ customer_row (after store.now changes.now) warehouse district customer }
+{
+    let key = RowKey::Customer {
+        warehouse,
+        district,
+        customer,
+    };
+    row_seen(store, changes, &key)?.as_customer()
+}
+
+pub(crate) fn order_seen<'a>(
+    store: &'a RowStore,
+    changes: &'a Delta,
+    warehouse: WarehouseId,
+    district: DistrictId,
+    order: OrderId,
+) -> Option<&'a OrderRow>
+    ensures { option_copied result ≡ order_row (after store.now changes.now) warehouse district order }
+{
+    let key = RowKey::Order {
+        warehouse,
+        district,
+        order,
+    };
+    row_seen(store, changes, &key)?.as_order()
+}
+
+pub(crate) fn order_line_seen<'a>(
+    store: &'a RowStore,
+    changes: &'a Delta,
+    warehouse: WarehouseId,
+    district: DistrictId,
+    order: OrderId,
+    number: LineNumber,
+) -> Option<&'a OrderLineRow>
+    ensures { option_copied result ≡ order_line_row (after store.now changes.now) warehouse district order number }
+{
+    let key = RowKey::OrderLine {
+        warehouse,
+        district,
+        order,
+        number,
+    };
+    row_seen(store, changes, &key)?.as_order_line()
 }

@@ -1,13 +1,11 @@
 //! The choice of the transaction.
-ghost use Rattle.std.specs.Prelude.{◌≡◌, IfOk};
-ghost use Rattle.requests.specs.Kinds.{kind_of};
-ghost use Rattle.requests.specs.declared.reply.Reply.TheVariants as reply;
+ghost use Rattle.std.specs.Prelude.{IfOk};
 ghost use Rattle.tpcc_model.specs.Steps.{step};
 ghost use Rattle.transactions.specs.Outcomes.{IsOutcome};
 
-use crate::{new_order, payment};
+use crate::{delivery, new_order, order_status, payment, stock_level};
 use catalog::Catalog;
-use requests::reply::{Refusal, Reply};
+use requests::reply::Reply;
 use requests::request::Request;
 use std::alloc::Global;
 use tpcc_rows::delta::Delta;
@@ -31,18 +29,8 @@ pub fn execute(
     match request {
         Request::NewOrder(p) => new_order::execute(alloc, catalog, p, moment, store),
         Request::Payment(p) => payment::execute(alloc, catalog, p, number, moment, store),
-        // The other three aren't served yet: no reader gives them.
-        Request::OrderStatus(_) | Request::Delivery(_) | Request::StockLevel(_) => {
-            Ok((refused(request, Refusal::UnknownKey), Delta::new(alloc)))
-        }
-    }
-}
-
-fn refused(request: &Request, refusal: Refusal) -> Reply
-    ensures { result ≡ reply.Refused (kind_of request.now) refusal }
-{
-    Reply::Refused {
-        kind: request.kind(),
-        refusal,
+        Request::OrderStatus(p) => order_status::execute(alloc, catalog, p, store),
+        Request::Delivery(p) => delivery::execute(alloc, catalog, p, moment, store),
+        Request::StockLevel(p) => stock_level::execute(alloc, catalog, p, store),
     }
 }

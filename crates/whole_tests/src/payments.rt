@@ -1,13 +1,11 @@
 //! Payments by the customer's number, byte for byte.
+use crate::made::after;
 use crate::small::{IMAGE, PAYMENTS, REPLIES, run};
-use loader::load;
-use requests::{BatchReader, BytesSource};
 use runner::{BatchRefusal, RunFault};
 use std::test::Fail;
 use tpcc_rows::id::{DistrictId, RequestNumber, WarehouseId};
 use tpcc_rows::key::RowKey;
 use tpcc_rows::row::Row;
-use transactions::execute;
 
 #[test]
 fn three_payments(rt: HostRuntime) -> Result<(), Fail> {
@@ -91,16 +89,7 @@ fn the_numbers_of_requests_end(rt: HostRuntime) -> Result<(), Fail> {
 
 #[test]
 fn the_rows_after_three_payments(rt: HostRuntime) -> Result<(), Fail> {
-    let (catalog, mut store) = load(rt.alloc(), &mut BytesSource::new(IMAGE, 64))?;
-    let mut reader = BatchReader::new(rt.alloc(), PAYMENTS)?;
-    let batch = reader.next_batch(rt.alloc())?.ok_or("a batch")?;
-    let mut next = 1u64;
-    for request in batch.requests.as_slice() {
-        let number = RequestNumber::new(next).ok_or("a number")?;
-        let (_, delta) = execute(rt.alloc(), &catalog, request, number, batch.moment, &store)?;
-        store.apply(&delta)?;
-        next = next.saturating_add(1);
-    }
+    let (_, store) = after(rt.alloc(), IMAGE, PAYMENTS)?;
     let one = WarehouseId::new(1).ok_or("a warehouse")?;
     let warehouse = store.warehouse(one).ok_or("its row")?;
     assert_eq!(rt; warehouse.ytd.amount(), 30_001_100);

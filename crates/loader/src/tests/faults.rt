@@ -5,7 +5,7 @@ use std::alloc::{AllocError, Global};
 use std::test::Fail;
 
 /// Records in place of the one at a place, and the fault of the image.
-const FAULTS: [(usize, &str, LoadError); 69] = [
+const FAULTS: [(usize, &str, LoadError); 103] = [
     // Another kind.
     (1, "w,1,W1,1000,30000000", LoadError::BadRecord(2)),
     (1, "X", LoadError::BadRecord(2)),
@@ -34,6 +34,28 @@ const FAULTS: [(usize, &str, LoadError); 69] = [
         LoadError::BadRecord(15),
     ),
     (14, "H", LoadError::BadRecord(15)),
+    (15, "I,1,ITEM1,100", LoadError::BadRecord(16)),
+    (15, "I,1,ITEM1,100,PLAIN,", LoadError::BadRecord(16)),
+    (
+        16,
+        "S,1,1,11,0,0,0,PLAIN,1,2,3,4,5,6,7,8,9",
+        LoadError::BadRecord(17),
+    ),
+    (
+        16,
+        "S,1,1,11,0,0,0,PLAIN,1,2,3,4,5,6,7,8,9,10,11",
+        LoadError::BadRecord(17),
+    ),
+    (17, "O,1,1,1,1,0,-,1", LoadError::BadRecord(18)),
+    (17, "O,1,1,1,1,0,-,1,1,", LoadError::BadRecord(18)),
+    (18, "N,1,1", LoadError::BadRecord(19)),
+    (18, "N,1,1,1,", LoadError::BadRecord(19)),
+    (19, "L,1,1,1,1,1,1,-,1,100", LoadError::BadRecord(20)),
+    (
+        19,
+        "L,1,1,1,1,1,1,-,1,100,DIST01,",
+        LoadError::BadRecord(20),
+    ),
     // The number of fields comes before the fields, and among these the first from the left decides.
     (1, "W,101,W1,1000", LoadError::BadRecord(2)),
     (1, "W,1,W1,10000,x", LoadError::LimitReached(2)),
@@ -57,6 +79,11 @@ const FAULTS: [(usize, &str, LoadError); 69] = [
         "H,5,1,1,1,1,1,0,0,\nH,5,10,1,1,2,1,7,100,",
         LoadError::Duplicate(16),
     ),
+    (19, "I,1,,0,", LoadError::Duplicate(20)),
+    (19, "S,1,1,0,0,0,0,,,,,,,,,,,", LoadError::Duplicate(20)),
+    (19, "O,1,1,1,10,0,1,15,0", LoadError::Duplicate(20)),
+    (19, "N,1,1,1", LoadError::Duplicate(20)),
+    (18, "L,1,1,1,1,2,2,0,2,2,", LoadError::Duplicate(20)),
     (12, "W,1,W2,10000,0", LoadError::LimitReached(13)),
     (12, "W,1,W2,0", LoadError::BadRecord(13)),
     // The first record at fault decides.
@@ -73,34 +100,51 @@ const FAULTS: [(usize, &str, LoadError); 69] = [
     (0, "\u{FEFF}\u{FEFF}eve-tpcc,1", LoadError::BadRecord(1)),
     (0, "E,0", LoadError::BadRecord(1)),
     // The end record.
-    (15, "E,13", LoadError::BadRecord(16)),
-    (15, "E,15", LoadError::BadRecord(16)),
-    (15, "E,014", LoadError::BadRecord(16)),
-    (15, "E,", LoadError::BadRecord(16)),
-    (15, "E", LoadError::BadRecord(16)),
-    (15, "E,14,", LoadError::BadRecord(16)),
-    (15, "E,-14", LoadError::BadRecord(16)),
+    (20, "E,18", LoadError::BadRecord(21)),
+    (20, "E,20", LoadError::BadRecord(21)),
+    (20, "E,019", LoadError::BadRecord(21)),
+    (20, "E,", LoadError::BadRecord(21)),
+    (20, "E", LoadError::BadRecord(21)),
+    (20, "E,19,", LoadError::BadRecord(21)),
+    (20, "E,-19", LoadError::BadRecord(21)),
     (
-        15,
+        20,
         "E,1234567890123456789012345678901234567890",
-        LoadError::BadRecord(16),
+        LoadError::BadRecord(21),
     ),
-    (15, "e,14", LoadError::BadRecord(16)),
-    (15, "E,14\nE,14", LoadError::BadRecord(17)),
-    (15, "E,14\nE,15", LoadError::BadRecord(17)),
-    (15, "E,14\n\nx", LoadError::BadRecord(17)),
+    (20, "e,19", LoadError::BadRecord(21)),
+    (20, "E,19\nE,19", LoadError::BadRecord(22)),
+    (20, "E,19\nE,20", LoadError::BadRecord(22)),
+    (20, "E,19\n\nx", LoadError::BadRecord(22)),
     (1, "E,0\nW,1,W1,1000,30000000", LoadError::BadRecord(3)),
     // An unclosed quote runs to the end of the input.
-    (15, "E,\"14", LoadError::BadRecord(16)),
+    (20, "E,\"19", LoadError::BadRecord(21)),
     // No end record. It is asked for before the parents.
-    (15, "", LoadError::Truncated),
-    (15, "W,2,W2,0,0", LoadError::Truncated),
-    // Parents: ten districts, a district's warehouse, a customer's district, a payment's customer and district.
+    (20, "", LoadError::Truncated),
+    (20, "W,2,W2,0,0", LoadError::Truncated),
+    // Parents: ten districts, a district's warehouse, a customer's district, a stock's warehouse and item, an order's
+    // district and customer, a new order's order, a line's order of so many lines and its stock, a payment's customer
+    // and district.
     (11, "C,1,1,2,,,,GC,0,0,0,0,0,", LoadError::MissingParent),
     (12, "W,2,W2,0,0", LoadError::MissingParent),
     (12, "D,2,1,D1,0,0,1", LoadError::MissingParent),
     (12, "C,2,1,1,,,,GC,0,0,0,0,0,", LoadError::MissingParent),
     (12, "H,6,1,1,1,2,1,7,100,", LoadError::MissingParent),
+    (15, "I,2,ITEM2,100,PLAIN", LoadError::MissingParent),
+    (13, "S,2,1,0,0,0,0,,,,,,,,,,,", LoadError::MissingParent),
+    (13, "S,1,2,0,0,0,0,,,,,,,,,,,", LoadError::MissingParent),
+    (17, "O,1,1,1,2,0,-,1,1", LoadError::MissingParent),
+    (17, "O,1,2,1,1,0,-,1,1", LoadError::MissingParent),
+    (17, "O,2,1,1,1,0,-,1,1", LoadError::MissingParent),
+    (18, "N,1,1,2", LoadError::MissingParent),
+    (18, "N,1,2,1", LoadError::MissingParent),
+    (18, "N,2,1,1", LoadError::MissingParent),
+    (19, "L,1,1,2,1,1,1,-,1,100,DIST01", LoadError::MissingParent),
+    (19, "L,1,2,1,1,1,1,-,1,100,DIST01", LoadError::MissingParent),
+    (19, "L,2,1,1,1,1,1,-,1,100,DIST01", LoadError::MissingParent),
+    (19, "L,1,1,1,2,1,1,-,1,100,DIST01", LoadError::MissingParent),
+    (19, "L,1,1,1,1,2,1,-,1,100,DIST01", LoadError::MissingParent),
+    (19, "L,1,1,1,1,1,2,-,1,100,DIST01", LoadError::MissingParent),
     (14, "H,5,2,1,1,2,1,7,100,", LoadError::MissingParent),
     (14, "H,5,10,2,1,2,1,7,100,", LoadError::MissingParent),
     (14, "H,5,10,1,2,2,1,7,100,", LoadError::MissingParent),
@@ -111,13 +155,17 @@ const FAULTS: [(usize, &str, LoadError); 69] = [
     (1, "W,1,W1,1000,29999999", LoadError::Inconsistent(1)),
     (1, "W,1,W1,1000,-30000000", LoadError::Inconsistent(1)),
     (11, "D,1,10,D10,500,2999999,1", LoadError::Inconsistent(1)),
-    (2, "D,1,1,D1,500,3000000,2", LoadError::Inconsistent(2)),
+    (2, "D,1,1,D1,500,3000000,1", LoadError::Inconsistent(2)),
+    (2, "D,1,1,D1,500,3000000,3", LoadError::Inconsistent(2)),
+    (3, "D,1,2,D2,500,3000000,2", LoadError::Inconsistent(2)),
     (
         11,
         "D,1,10,D10,500,3000000,9999999",
         LoadError::Inconsistent(2),
     ),
-    (2, "D,1,1,D1,500,3000001,2", LoadError::Inconsistent(1)),
+    (2, "D,1,1,D1,500,3000001,1", LoadError::Inconsistent(1)),
+    (13, "O,1,1,2,1,0,-,1,1", LoadError::MissingParent),
+    (17, "O,1,1,1,1,0,-,2,1", LoadError::Inconsistent(4)),
 ];
 
 #[test]
@@ -135,7 +183,8 @@ fn two_warehouses(alloc: Global, first: &[u8], second: &[u8]) -> Result<Vec<u8>,
     text.extend_from_slice(first)?;
     text.extend_from_slice(b"\nW,100,W100,0,")?;
     text.extend_from_slice(second)?;
-    for record in IMAGE[2..12].iter() {
+    text.extend_from_slice(b"\nD,1,1,D1,500,3000000,1\nD,100,1,D1,500,3000000,1")?;
+    for record in IMAGE[3..12].iter() {
         text.push(b'\n')?;
         text.extend_from_slice(record.as_bytes())?;
         text.extend_from_slice(b"\nD,100,")?;

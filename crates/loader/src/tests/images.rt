@@ -10,10 +10,10 @@ use tpcc_rows::row::Row;
 
 #[test]
 fn cards_and_rows(rt: HostRuntime) -> Result<(), Fail> {
-    let text = text_with(rt.alloc(), 16, b"")?;
+    let text = text_with(rt.alloc(), 21, b"")?;
     let (catalog, rows) = load(rt.alloc(), &mut BytesSource::new(text.as_slice(), 7))?;
-    assert_eq!(rt; catalog.len(), 13);
-    assert_eq!(rt; rows.len(), 14);
+    assert_eq!(rt; catalog.len(), 15);
+    assert_eq!(rt; rows.len(), 18);
     let warehouse = WarehouseId::new(1).ok_or("a warehouse's number")?;
     let district = DistrictId::new(10).ok_or("a district's number")?;
     let card = catalog.warehouse(warehouse).ok_or("the warehouse's card")?;
@@ -79,12 +79,12 @@ const SPELLINGS: [(usize, &[u8]); 9] = [
     // A byte order mark at the start, and empty lines, which are no records.
     (0, b"\xEF\xBB\xBFeve-tpcc,1"),
     (0, b"\n\r\n\neve-tpcc,1"),
-    (15, b"E,14\n\n\r\n\r"),
+    (20, b"E,19\n\n\r\n\r"),
     // Quotes.
     (0, b"\"eve-tpcc\",\"1\""),
     (1, b"\"W\",\"1\",\"W1\",\"1000\",\"30000000\""),
     (1, b"W,1,\"W,\"\"1\"\"\",1000,30000000"),
-    (15, b"\"E\",\"14\""),
+    (20, b"\"E\",\"19\""),
     // Texts may be empty.
     (1, b"W,1,,1000,30000000"),
     (12, b"C,1,1,1,,,,GC,1000,-1000,1000,1,0,"),
@@ -110,7 +110,7 @@ fn line_ends(rt: HostRuntime) -> Result<(), Fail> {
             text.extend_from_slice(record.as_bytes())?;
             assert_eq!(rt;
                 fault_of(rt.alloc(), text.as_slice()).is_none(),
-                record == "E,14"
+                record == "E,19"
             );
             text.extend_from_slice(end.as_bytes())?;
         }
@@ -122,11 +122,11 @@ fn line_ends(rt: HostRuntime) -> Result<(), Fail> {
 #[test]
 fn any_order(rt: HostRuntime) -> Result<(), Fail> {
     let mut text = b"eve-tpcc,1\n".to_vec(rt.alloc())?;
-    for record in IMAGE[1..15].iter().rev() {
+    for record in IMAGE[1..20].iter().rev() {
         text.extend_from_slice(record.as_bytes())?;
         text.push(b'\n')?;
     }
-    text.extend_from_slice(b"E,14\n")?;
+    text.extend_from_slice(b"E,19\n")?;
     assert_eq!(rt; fault_of(rt.alloc(), text.as_slice()), None);
     Ok(())
 }

@@ -7,7 +7,7 @@ use std::test::Fail;
 /// Each call of the source fails in turn.
 #[test]
 fn failing_reads(rt: HostRuntime) -> Result<(), Fail> {
-    let text = text_with(rt.alloc(), 16, b"")?;
+    let text = text_with(rt.alloc(), 21, b"")?;
     let calls = text.len().div_ceil(50) as u64;
     for at in 0..=calls {
         let mut source = FailAt::new(BytesSource::new(text.as_slice(), 50), at);

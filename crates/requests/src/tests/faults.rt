@@ -1,4 +1,4 @@
-//! Faults of batches: each that a record of a batch or of a payment can have.
+//! Faults of batches, and each that the first record of a batch can have.
 use super::batches::read_all;
 use crate::ReadError;
 use std::alloc::{AllocError, Global};
@@ -6,9 +6,10 @@ use std::process::Abort;
 use std::test::Fail;
 
 /// Texts with a fault, and how many batches come before it.
-const FAULTS: [(&[u8], usize, ReadError); 22] = [
+const FAULTS: [(&[u8], usize, ReadError); 24] = [
     // Where a batch begins only `B` is wanted, within one only requests.
     (b"P,1,1,1,1,I,1,100\n", 0, ReadError::UnknownKind(1)),
+    (b"N,1,1,1,1,1,1\n", 0, ReadError::UnknownKind(1)),
     (b"x\n", 0, ReadError::UnknownKind(1)),
     (b"b,0,commit,0\n", 0, ReadError::UnknownKind(1)),
     (b"\"\"\n", 0, ReadError::UnknownKind(1)),
@@ -23,6 +24,7 @@ const FAULTS: [(&[u8], usize, ReadError); 22] = [
         0,
         ReadError::UnknownKind(2),
     ),
+    (b"B,0,commit,1\nn,1,1,1\n", 0, ReadError::UnknownKind(2)),
     (
         b"B,0,commit,0\n\"x,1\nB,0,commit,0\n",
         1,
@@ -80,18 +82,16 @@ fn faults(rt: HostRuntime) {
 }
 
 /// No number, whatever the range.
-const NO_NUMBERS: [&str; 11] = [
+pub(super) const NO_NUMBERS: [&str; 11] = [
     "", "-5", "-0", "01", "00", "+1", " 1", "1 ", "1.0", "x", "0x1",
 ];
 
-const MANY_DIGITS: &str = "1234567890123456789012345678901234567890";
+pub(super) const MANY_DIGITS: &str = "1234567890123456789012345678901234567890";
 
 const HEAD: [&str; 4] = ["B", "0", "commit", "0"];
 
-const PAYMENT: [&str; 8] = ["P", "1", "2", "3", "4", "I", "5", "100"];
-
 /// A record with the field at a place replaced, at the end of the text.
-fn push_record(
+pub(super) fn push_record(
     text: &mut Vec<u8>,
     record: &[&str],
     place: usize,
@@ -117,18 +117,6 @@ fn of_head(
 ) -> Result<Option<ReadError>, AllocError> {
     let mut text = Vec::new(alloc);
     push_record(&mut text, &HEAD, place, value)?;
-    Ok(read_all(rt, alloc, text.as_slice()).1)
-}
-
-/// What a batch of one payment gives with the payment's field at a place replaced.
-fn of_payment(
-    rt: &impl Abort,
-    alloc: Global,
-    place: usize,
-    value: &str,
-) -> Result<Option<ReadError>, AllocError> {
-    let mut text = b"B,0,commit,1\n".to_vec(alloc)?;
-    push_record(&mut text, &PAYMENT, place, value)?;
     Ok(read_all(rt, alloc, text.as_slice()).1)
 }
 
@@ -162,43 +150,6 @@ fn heads(rt: HostRuntime) -> Result<(), Fail> {
         Some(ReadError::WrongCount(2))
     );
     assert_eq!(rt; of_head(&rt, rt.alloc(), 2, "rerun")?, None);
-    Ok(())
-}
-
-/// A place of a payment's record, the least number there and the one below it, the greatest and the one above it.
-const RANGES: [(usize, &str, &str, &str, &str); 6] = [
-    (1, "1", "0", "100", "101"),
-    (2, "1", "0", "10", "11"),
-    (3, "1", "0", "100", "101"),
-    (4, "1", "0", "10", "11"),
-    (6, "1", "0", "3000", "3001"),
-    (7, "100", "99", "500000", "500001"),
-];
-
-#[test]
-fn payments(rt: HostRuntime) -> Result<(), Fail> {
-    for (place, least, below, greatest, above) in RANGES {
-        let outside = Some(ReadError::OutOfRange(2));
-        assert_eq!(rt; of_payment(&rt, rt.alloc(), place, least)?, None);
-        assert_eq!(rt; of_payment(&rt, rt.alloc(), place, greatest)?, None);
-        assert_eq!(rt; of_payment(&rt, rt.alloc(), place, below)?, outside);
-        assert_eq!(rt; of_payment(&rt, rt.alloc(), place, above)?, outside);
-        assert_eq!(rt; of_payment(&rt, rt.alloc(), place, MANY_DIGITS)?, outside);
-        for value in NO_NUMBERS {
-            let bad = Some(ReadError::BadField(2));
-            assert_eq!(rt;
-                of_payment(&rt, rt.alloc(), place, value)?,
-                bad,
-                "{place}: {value}"
-            );
-        }
-    }
-    for value in ["", "i", "I ", "X"] {
-        assert_eq!(rt;
-            of_payment(&rt, rt.alloc(), 5, value)?,
-            Some(ReadError::BadField(2))
-        );
-    }
     Ok(())
 }
 

@@ -50,6 +50,8 @@ fn values(rt: HostRuntime) -> Result<(), Fail> {
     assert!(rt; fields::request_number(&one, 0).is_ok());
     assert!(rt; fields::rate(&one, 0).is_ok());
     assert!(rt; fields::item(&one, 0).is_ok());
+    assert!(rt; fields::requested_item(&one, 0).is_ok());
+    assert!(rt; fields::ordered_quantity(&one, 0).is_ok());
     assert!(rt; fields::order(&one, 0).is_ok());
     assert!(rt; fields::next_order(&one, 0).is_ok());
     assert!(rt; fields::line_number(&one, 0).is_ok());
@@ -57,6 +59,7 @@ fn values(rt: HostRuntime) -> Result<(), Fail> {
     assert!(rt; fields::amount(&one, 0).is_ok());
     assert!(rt; fields::price(&one, 0).is_ok());
     assert!(rt; fields::line_quantity(&one, 0).is_ok());
+    assert!(rt; fields::threshold(&of(rt.alloc(), "10")?, 0).is_ok());
     assert!(rt; fields::stock_quantity(&of(rt.alloc(), "-9999")?, 0).is_ok());
     Ok(())
 }

@@ -7,12 +7,13 @@ use tpcc_rows::memory::Memory;
 use tpcc_rows::number::Cents;
 use tpcc_rows::text::Text;
 
-const TEXT: &[u8] = b"B,7,commit,2\nP,1,2,3,4,I,5,100\nP,1,2,3,4,I,6,100\nB,8,rerun,0\n";
+const TEXT: &[u8] =
+    b"B,7,commit,5\nP,1,2,3,4,L,NAME,100\nN,1,1,1,1,1,1,2,1,1,3,1,1,4,1,1,5,1,1\nO,1,1,I,1\nD,1,1\nS,1,1,10\nB,8,rerun,0\n";
 
 #[test]
 fn whole_input(rt: HostRuntime) {
     let mut source = BytesSource::new(TEXT, 20);
-    match slurp(rt.alloc(), &mut source, 100) {
+    match slurp(rt.alloc(), &mut source, 200) {
         Ok(text) => assert_eq!(rt; text.as_slice(), TEXT),
         Err(e) => assert_eq!(rt; e, ReadError::Memory),
     }
@@ -23,7 +24,7 @@ fn batches(rt: HostRuntime) {
     let Ok(mut reader) = BatchReader::new(rt.alloc(), TEXT) else {
         return;
     };
-    for (seconds, count) in [(7, 2), (8, 0)] {
+    for (seconds, count) in [(7, 5), (8, 0)] {
         match reader.next_batch(rt.alloc()) {
             Ok(Some(batch)) => {
                 assert_eq!(rt; batch.moment.seconds(), seconds);

@@ -4,7 +4,7 @@ use Rattle.catalog.specs.CardMap.{AreKeyed}
 use Rattle.catalog.proofs.CardKeys.{card_key_cmp_total, exact_cards}
 use Rattle.catalog.proofs.Keyed.{keyed-insert}
 use Rattle.catalog.proofs.builder.CatalogBuilder.insert.Goals as goal
-use Rattle.tpcc_rows.proofs.Maps.{one_put}
+use Rattle.tpcc_rows.proofs.Maps.{get_value, one_put}
 
 pub invariant_of-self-2 : goal.invariant_of-self-2
 invariant_of-self-2 c =
@@ -16,3 +16,6 @@ returns-clause-ok c = one_put card_key_cmp_total exact_cards c.self.inside.cards
 
 pub invariant_of-self : goal.invariant_of-self
 invariant_of-self c = subst (λ es. AreKeyed (map.from_entries es)) (sym c.in_err-insert.ensures.err) c.self.invariant
+
+pub returns-clause-old : goal.returns-clause-old
+returns-clause-old c = c.in_ok-insert.ensures.old ∙ sym (get_value card_key_cmp_total exact_cards c.self.inside.cards.entries c.args.key) ∙ ap (λ m. map.get m c.args.key) c.self.view_is

@@ -9,4 +9,4 @@ pub returns-clause-all : goal.returns-clause-all
 returns-clause-all c = c.iter.ensures.rest ∙ sym (entries-map_of card_key_cmp_total exact_cards c.self.inside.cards.entries c.iter.ensures.ordered) ∙ ap (λ m. map.entries m) c.self.view_is
 
 pub returns-clause-keyed : goal.returns-clause-keyed
-returns-clause-keyed c = subst AreKeyed c.self.view_is c.self.invariant
+returns-clause-keyed c = subst AreKeyed c.self.view_is c.self.invariant.0

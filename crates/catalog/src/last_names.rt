@@ -1,0 +1,138 @@
+//! The customers by last name (TPC-C clauses 2.5.2.2 and 2.6.2.2).
+ghost use Rattle.std.specs.Prelude.{◌≡◌, ◌+◌, ◌≤◌, IfOk, List, filter, length, map as mapped};
+ghost use Rattle.std.specs.BTreeMap.{IsOrdered};
+ghost use Rattle.std.specs.FinMap as map;
+ghost use Rattle.catalog.specs.CardMap.{AreKeyed, card_key_cmp};
+ghost use Rattle.catalog.specs.declared.card.CustomerCard.{CustomerCard};
+ghost use Rattle.catalog.specs.LastNames.{customer_cards, customers_among, is_holder, middle_of};
+ghost use Rattle.catalog.specs.NameOrder.{AreInOrder, StandsAt, name_cmp, name_of, named, named_cmp};
+
+use crate::card::{Card, CardKey, CustomerCard};
+use std::alloc::Global;
+use std::cmp::Ordering;
+use std::collections::BTreeMap;
+use std::marker::Model;
+use tpcc_rows::id::{CustomerId, DistrictId, WarehouseId};
+use tpcc_rows::memory::Memory;
+use tpcc_rows::text::Text;
+
+/// What a customer is found by, and its number.
+#[derive(Drop)]
+pub(crate) struct NamedCustomer {
+    warehouse: WarehouseId,
+    district: DistrictId,
+    last: Text<16>,
+    first: Text<16>,
+    customer: CustomerId,
+}
+
+impl NamedCustomer {
+    fn new(card: &CustomerCard) -> NamedCustomer
+        ensures { result ≡ named card.now }
+    {
+        NamedCustomer {
+            warehouse: card.warehouse,
+            district: card.district,
+            last: card.last.copied(),
+            first: card.first.copied(),
+            customer: card.customer,
+        }
+    }
+
+    // By C_W_ID, C_D_ID and C_LAST.
+    fn cmp_name(&self, warehouse: WarehouseId, district: DistrictId, last: &Text<16>) -> Ordering
+        ensures { result ≡ name_cmp (name_of self.now) (warehouse, district, last.now) }
+    {
+        let place = self
+            .warehouse
+            .cmp(&warehouse)
+            .then(self.district.cmp(&district));
+        place.then_with(|| self.last.as_bytes().cmp(last.as_bytes()))
+    }
+
+    // And then by C_FIRST and C_ID.
+    fn cmp(&self, other: &NamedCustomer) -> Ordering
+        ensures { result ≡ named_cmp self.now other.now }
+    {
+        self.cmp_name(other.warehouse, other.district, &other.last)
+            .then_with(|| self.first.as_bytes().cmp(other.first.as_bytes()))
+            .then(self.customer.cmp(&other.customer))
+    }
+}
+
+fn named_customers(
+    alloc: Global,
+    cards: &BTreeMap<CardKey, Card>,
+) -> Result<Vec<NamedCustomer>, Memory>
+    ensures all { IfOk result (λ customers. customers.items ≡ mapped named (customers_among cards.now.entries)) }
+    ensures ordered { IsOrdered card_key_cmp cards.now }
+{
+    let mut customers = Vec::new(alloc);
+    for (_, card) in cards.iter() {
+        if let Some(customer) = card.as_customer() {
+            customers.push(NamedCustomer::new(customer))?;
+        }
+    }
+    Ok(customers)
+}
+
+/// The customers in the order of warehouse, district, C_LAST, C_FIRST and C_ID.
+#[derive(Drop)]
+pub(crate) struct LastNames {
+    customers: Vec<NamedCustomer>,
+}
+
+impl Model for LastNames {
+    ghost use Rattle.std.specs.Prelude.{List};
+    ghost use Rattle.catalog.specs.declared.last_names.NamedCustomer.{NamedCustomer};
+
+    ghost Value = { List NamedCustomer };
+
+    ghost view = { λ x. x.customers.items };
+}
+
+impl LastNames {
+    /// Those of these cards.
+    pub(crate) fn new(alloc: Global, cards: &BTreeMap<CardKey, Card>) -> Result<LastNames, Memory>
+        requires { AreKeyed (map.from_entries cards.now.entries) }
+        ensures { IfOk result (AreInOrder (customer_cards (map.from_entries cards.now.entries))) }
+    {
+        let mut customers = named_customers(alloc, cards)?;
+        customers.sort_unstable_by(|a, b| a.cmp(b));
+        Ok(LastNames { customers })
+    }
+
+    /// Where the customers of the district with this last name begin, and how many they are.
+    fn holders(
+        &self,
+        warehouse: WarehouseId,
+        district: DistrictId,
+        last: &Text<16>,
+    ) -> (usize, usize)
+        ensures within { result.0 + result.1 ≤ length self.now }
+        ensures place { (cards : List CustomerCard) → AreInOrder cards self.now → StandsAt self.now (warehouse, district, last.now) result.0 result.1 }
+    {
+        let start = self
+            .customers
+            .partition_point(|c| c.cmp_name(warehouse, district, last).is_lt());
+        let from_start = &self.customers[start..];
+        let count = from_start.partition_point(|c| c.cmp_name(warehouse, district, last).is_eq());
+        (start, count)
+    }
+
+    /// The customer of the district whom the last name means, where any has it.
+    pub(crate) fn middle(
+        &self,
+        warehouse: WarehouseId,
+        district: DistrictId,
+        last: &Text<16>,
+    ) -> Option<CustomerId>
+        ensures { (cards : List CustomerCard) → AreInOrder cards self.now → result ≡ middle_of (filter (is_holder warehouse district last.now) cards) }
+    {
+        let (start, count) = self.holders(warehouse, district, last);
+        if count == 0 {
+            return None;
+        }
+        Some(self.customers[start + (count - 1) / 2].customer)
+    }
+}

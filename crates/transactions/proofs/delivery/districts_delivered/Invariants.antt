@@ -1,0 +1,8 @@
+use Rattle.std.proofs.Common.{◌≡◌, drop}
+use Rattle.tpcc_model.specs.Deliveries.{districts_delivered}
+use Rattle.tpcc_rows.specs.Limits.{ten}
+use Rattle.transactions.proofs.delivery.districts_delivered.Given as goal
+
+-- the districts that are left lead to where all of them lead
+abbrev pub invariant-loop-index : goal.invariant-loop-index
+invariant-loop-index l = districts_delivered l.store l.p l.moment (drop l.index ten) l.changes ≡ districts_delivered l.store l.p l.moment ten l.fn.changes

@@ -1,0 +1,7 @@
+use Rattle.std.proofs.Common.{◌≡◌, ◌≤◌, length}
+use Rattle.tpcc_model.specs.OrderStatuses.{shown_lines}
+use Rattle.transactions.proofs.order_status.shown_lines.Given as goal
+
+-- the lines so far
+abbrev pub invariant-loop-index : goal.invariant-loop-index
+invariant-loop-index l = (l.lines ≡ shown_lines l.store l.p l.order l.index) × (length l.lines ≤ l.index)

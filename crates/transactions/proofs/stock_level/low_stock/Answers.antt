@@ -1,0 +1,23 @@
+use Rattle.std.proofs.Common.{◌≡◌, ◌≤◌, ◌-◌, arith}
+use Rattle.tpcc_model.specs.StockLevels.{first_recent}
+use Rattle.transactions.proofs.LowItemFacts.{none_held, orders_held}
+use Rattle.transactions.proofs.stock_level.low_stock.Goals as goal
+
+pub loop-order-init : goal.loop-order-init
+loop-order-init c =
+    let next = c.number.ensures.value in
+    let left = c.saturating_sub.ensures in
+    let first = c.max-first.ensures in
+    let none : c.max-first.result - first_recent c.args.next ≡ 0 = omega (arith, next, left, first) in
+    (none_held _ _ _ _ none c.new-items.result c.new-items.ensures.empty, (let len = c.new-items.ensures.len in omega (arith, len)))
+
+pub loop-order-preserved : goal.loop-order-preserved
+loop-order-preserved c =
+    let next = c.number.ensures.value in
+    let left = c.saturating_sub.ensures in
+    let first = c.max-first.ensures in
+    let low = c.loop-order.auto.order in
+    let from : first_recent c.args.next ≤ c.loop-order.order = omega (arith, next, left, first, low) in
+    let one = c.in_ok-hold_lines.ensures.len in
+    let so_far = c.loop-order.invariant.1 in
+    (orders_held _ _ _ _ _ c.order_id.ensures from c.hold_lines.new.items (c.in_ok-hold_lines.ensures.held _ c.loop-order.invariant.0), omega (arith, from, one, so_far))
