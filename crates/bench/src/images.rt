@@ -47,6 +47,28 @@ pub fn image(
     Ok(text)
 }
 
+/// The image with the items and the stocks of another one.
+pub fn with_stocks(alloc: Global, image: &[u8], other: &[u8]) -> Result<Vec<u8>, AllocError> {
+    let mut text = Vec::new(alloc);
+    let mut count = 0u64;
+    for line in image.split_inclusive(|byte| *byte == b'\n') {
+        if !line.starts_with(b"E,") {
+            text.extend_from_slice(line)?;
+            count = count.wrapping_add(1);
+        }
+    }
+    for line in other.split_inclusive(|byte| *byte == b'\n') {
+        if line.starts_with(b"I,") || line.starts_with(b"S,") {
+            text.extend_from_slice(line)?;
+            count = count.wrapping_add(1);
+        }
+    }
+    // The first record doesn't count.
+    let end = format!(in alloc; "E,{}\n", count.saturating_sub(1))?;
+    text.extend_from_slice(end.as_bytes())?;
+    Ok(text)
+}
+
 fn add_customer(
     alloc: Global,
     text: &mut Vec<u8>,

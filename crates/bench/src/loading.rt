@@ -63,6 +63,22 @@ fn write_records(alloc: Global, records: &[ByteRecord]) -> Option<Vec<u8>> {
     }
 }
 
+/// Writes records, each by a writer of its own, and puts what they wrote together.
+fn write_apart(alloc: Global, records: &[ByteRecord]) -> Option<Vec<u8>> {
+    let mut text = Vec::new(alloc);
+    for record in records {
+        let mut writer = WriterBuilder::new()
+            .flexible(true)
+            .from_writer(Vec::new(alloc));
+        writer.write_byte_record(record).ok()?;
+        let Ok(line) = writer.into_inner() else {
+            return None;
+        };
+        text.extend_from_slice(line.as_slice()).ok()?;
+    }
+    Some(text)
+}
+
 fn read_alone(rt: &(impl Clock + AllocGlobal), text: &[u8]) -> io::Result<Duration> {
     let start = Instant::now(rt)?;
     let _fields = fields_in(rt.alloc(), text);
@@ -83,6 +99,21 @@ fn write_alone(rt: &(impl Clock + AllocGlobal), records: &[ByteRecord]) -> io::R
     let time = start.elapsed(rt)?;
     written.ok_or(invalid())?;
     Ok(time)
+}
+
+fn write_one_by_one(
+    rt: &(impl Clock + AllocGlobal),
+    records: &[ByteRecord],
+    text: &[u8],
+) -> io::Result<Duration> {
+    let start = Instant::now(rt)?;
+    let written = write_apart(rt.alloc(), records);
+    let time = start.elapsed(rt)?;
+    if written.ok_or(invalid())?.as_slice() == text {
+        Ok(time)
+    } else {
+        Err(invalid())
+    }
 }
 
 /// The image of one warehouse with so many customers in each district and so many items.
@@ -133,12 +164,15 @@ fn measure_storing<R: Clock + Eprint + AllocGlobal>(
 ) -> io::Result<()> {
     let records = records_in(rt.alloc(), text)?;
     let mut alone = write_alone(rt, records.as_slice())?;
+    let mut apart = write_one_by_one(rt, records.as_slice(), text)?;
     let mut stored = load_and_store(rt, text)?;
     for _ in 0..4 {
         alone = alone.min(write_alone(rt, records.as_slice())?);
+        apart = apart.min(write_one_by_one(rt, records.as_slice(), text)?);
         stored = stored.min(load_and_store(rt, text)?);
     }
     print_ratio(rt, what, stored, "csv alone", alone);
+    print_ratio(rt, "a csv writer a record", apart, "csv alone", alone);
     Ok(())
 }
 
@@ -157,6 +191,11 @@ pub fn measure<R: Clock + Eprint + AllocGlobal>(rt: &R) -> io::Result<()> {
     let third = made_image(rt.alloc(), 1000, 33_333)?;
     measure_loading(rt, "load of make 1 1000 33333", &third)?;
     let whole = made_image(rt.alloc(), 3000, 100_000)?;
-    measure_loading(rt, "load of make 1 3000 100000", &whole)?;
+    measure_loading(rt, "load of make 1 3000 100000", &whole)
+}
+
+/// Storing the image of `make 1 3000 100000`, the best of five.
+pub fn measure_store<R: Clock + Eprint + AllocGlobal>(rt: &R) -> io::Result<()> {
+    let whole = made_image(rt.alloc(), 3000, 100_000)?;
     measure_storing(rt, "store_image of make 1 3000 100000", &whole)
 }

@@ -3,15 +3,17 @@ use crate::loading::made_image;
 use crate::timing::{print_ratio, print_share};
 use catalog::Catalog;
 use loader::load;
+use merkle::Tree;
 use requests::request::Batch;
 use requests::{BatchReader, BytesSink, BytesSource, Reply, write_reply};
+use rollback::PointedStore;
 use runner::run_text;
 use std::alloc::{AllocError, Global};
 use std::io;
 use std::rt::Clock;
+use std::thread::Threads;
 use std::time::{Duration, Instant};
 use tpcc_rows::id::RequestNumber;
-use tpcc_rows::plain::RowStore;
 use transactions::execute;
 
 const BATCHES: u32 = 3;
@@ -71,6 +73,7 @@ struct Stages {
     reading: Duration,
     executing: Duration,
     applying: Duration,
+    hashing: Duration,
     writing: Duration,
 }
 
@@ -79,15 +82,16 @@ impl Stages {
         reading: Duration::ZERO,
         executing: Duration::ZERO,
         applying: Duration::ZERO,
+        hashing: Duration::ZERO,
         writing: Duration::ZERO,
     };
 }
 
 /// Executes a batch from this request number on.
-fn serve<R: Clock + AllocGlobal>(
+fn serve<R: Clock + AllocGlobal + Threads + Sync>(
     rt: &R,
     catalog: &Catalog,
-    store: &mut RowStore,
+    store: &mut PointedStore,
     batch: &Batch,
     first: u64,
     stages: &mut Stages,
@@ -107,6 +111,10 @@ fn serve<R: Clock + AllocGlobal>(
         replies.push((id, reply))?;
         number = number.saturating_add(1);
     }
+    let start = Instant::now(rt)?;
+    let tree = Tree::build(rt, rt.alloc(), store);
+    stages.hashing = stages.hashing.saturating_add(start.elapsed(rt)?);
+    tree.map_err(|_| invalid())?;
     let mut text = Vec::new(rt.alloc());
     let start = Instant::now(rt)?;
     for (id, reply) in replies.iter() {
@@ -116,7 +124,11 @@ fn serve<R: Clock + AllocGlobal>(
     Ok(())
 }
 
-fn stages_of<R: Clock + AllocGlobal>(rt: &R, image: &[u8], text: &[u8]) -> io::Result<Stages> {
+fn stages_of<R: Clock + AllocGlobal + Threads + Sync>(
+    rt: &R,
+    image: &[u8],
+    text: &[u8],
+) -> io::Result<Stages> {
     if text.len() >= 1 << 32 {
         return Err(invalid());
     }
@@ -136,10 +148,15 @@ fn stages_of<R: Clock + AllocGlobal>(rt: &R, image: &[u8], text: &[u8]) -> io::R
     Ok(stages)
 }
 
-fn run(rt: &(impl Clock + AllocGlobal), image: &[u8], text: &[u8]) -> io::Result<Duration> {
+fn run<R: Clock + AllocGlobal + Threads + Sync>(
+    rt: &R,
+    image: &[u8],
+    text: &[u8],
+) -> io::Result<Duration> {
     let mut sink = BytesSink::new(rt.alloc(), 65_536);
     let start = Instant::now(rt)?;
     let ran = run_text(
+        rt,
         rt.alloc(),
         &mut BytesSource::new(image, 65_536),
         &mut BytesSource::new(text, 65_536),
@@ -151,7 +168,7 @@ fn run(rt: &(impl Clock + AllocGlobal), image: &[u8], text: &[u8]) -> io::Result
 }
 
 /// Batches of 1,000 requests through the engine, less what the same run takes with no batch, and the stages' shares.
-pub fn measure<R: Clock + Eprint + AllocGlobal>(rt: &R) -> io::Result<()> {
+pub fn measure<R: Clock + Eprint + AllocGlobal + Threads + Sync>(rt: &R) -> io::Result<()> {
     let image = made_image(rt.alloc(), 3000, 100_000)?;
     let text = mix(rt.alloc())?;
     let empty = run(rt, &image, b"")?;
@@ -169,10 +186,12 @@ pub fn measure<R: Clock + Eprint + AllocGlobal>(rt: &R) -> io::Result<()> {
         .reading
         .saturating_add(stages.executing)
         .saturating_add(stages.applying)
+        .saturating_add(stages.hashing)
         .saturating_add(stages.writing);
     print_share(rt, "reading", stages.reading, whole);
     print_share(rt, "executing", stages.executing, whole);
     print_share(rt, "applying", stages.applying, whole);
+    print_share(rt, "building trees", stages.hashing, whole);
     print_share(rt, "writing", stages.writing, whole);
     Ok(())
 }

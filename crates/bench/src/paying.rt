@@ -8,6 +8,7 @@ use runner::run_text;
 use std::alloc::Global;
 use std::io;
 use std::rt::Clock;
+use std::thread::Threads;
 use std::time::{Duration, Instant};
 use tpcc_rows::id::{CustomerId, RequestNumber};
 use tpcc_rows::number::Cents;
@@ -57,10 +58,15 @@ fn ends_alone(rt: &(impl Clock + AllocGlobal), text: &[u8]) -> io::Result<Durati
     start.elapsed(rt)
 }
 
-fn whole(rt: &(impl Clock + AllocGlobal), image: &[u8], text: &[u8]) -> io::Result<Duration> {
+fn whole<R: Clock + AllocGlobal + Threads + Sync>(
+    rt: &R,
+    image: &[u8],
+    text: &[u8],
+) -> io::Result<Duration> {
     let mut sink = BytesSink::new(rt.alloc(), 65_536);
     let start = Instant::now(rt)?;
     let ran = run_text(
+        rt,
         rt.alloc(),
         &mut BytesSource::new(image, 65_536),
         &mut BytesSource::new(text, 65_536),
@@ -74,7 +80,7 @@ fn whole(rt: &(impl Clock + AllocGlobal), image: &[u8], text: &[u8]) -> io::Resu
 }
 
 /// Payments through the engine, less what the same run takes with no batch, the best of five.
-pub fn measure(rt: &(impl Clock + Eprint + AllocGlobal)) -> io::Result<()> {
+pub fn measure<R: Clock + Eprint + AllocGlobal + Threads + Sync>(rt: &R) -> io::Result<()> {
     let image = image(rt.alloc(), 1, 3000, Population::Standard)?;
     let text = payments(rt.alloc(), BATCHES, SIZE)?;
     let mut alone = ends_alone(rt, text.as_slice())?;

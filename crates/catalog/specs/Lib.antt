@@ -4,3 +4,4 @@ pub mod LastNames
 pub mod Lookups
 pub mod NameOrder
 pub mod StockCards
+pub mod CardBytes

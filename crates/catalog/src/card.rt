@@ -1,5 +1,5 @@
 //! The cards and their keys (TPC-C clause 1.3; the split into fixed and moving columns by clause 1.4).
-ghost use Rattle.std.specs.Prelude.{◌≡◌, ◌==◌, ◌-◌, None, Some, if◌then◌else◌, option_copied, vec_len};
+ghost use Rattle.std.specs.Prelude.{◌≡◌, ◌==◌, ◌-◌, None, Some, if◌then◌else◌, length, option_copied, vec_len};
 ghost use Rattle.catalog.specs.CardKinds.{as_customer, as_district, as_item, as_stock, as_warehouse, card_key};
 ghost use Rattle.catalog.specs.StockCards.{district_info};
 
@@ -97,6 +97,14 @@ impl DistrictInfos {
         } else {
             None
         }
+    }
+
+    /// The texts of the districts from 1 to 10.
+    pub fn as_slice(&self) -> &[Text<24>]
+        ensures value { result.now ≡ self.now }
+        ensures ten { length result.now ≡ 10 }
+    {
+        self.infos.as_slice()
     }
 }
 

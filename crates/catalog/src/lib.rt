@@ -5,6 +5,7 @@
 pub mod builder;
 pub mod card;
 pub mod cards;
+mod digest;
 mod last_names;
 
 pub use builder::{CatalogBuilder, CatalogError};

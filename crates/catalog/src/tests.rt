@@ -1,4 +1,6 @@
 //! A catalog of one card of each kind, and one of customers.
+mod digests;
+
 use crate::{
     Card, CardKey, Catalog, CatalogError, Credit, CustomerCard, DistrictCard, ItemCard,
     WarehouseCard,

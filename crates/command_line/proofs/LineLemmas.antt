@@ -5,7 +5,7 @@ use Rattle.std.specs.List.{find}
 use Rattle.clap.specs.Faults.{check_fault, defaults_fault, entered_fault, fault_of, level_fault, other_fault, settle_fault, walk_fault}
 use Rattle.clap.specs.Simple.{App, built, built_leaf, entered, inherited, marked_built, names_of, rows_at, Shape, subcommand_of, with_leaf_noted}
 use Rattle.clap.specs.Walk.{answers_to, finished, Held, idle, Names, nothing_held, option, positional, Row, settled, subcommand_met, Text, Waiting, walk, walk_from}
-use Rattle.command_line.specs.CommandLine.{IsComplete, IsMet, make_app, program_app, run_app}
+use Rattle.command_line.specs.CommandLine.{check_app, IsComplete, IsMet, make_app, program_app, run_app}
 use Rattle.command_line.proofs.ValueLemmas.{find-All, level-has_values, or_else-first, or_else-second}
 use Rattle.command_line.proofs.SubcommandLemmas.{StopsAtOwn-walk}
 
@@ -21,14 +21,14 @@ IfSome-option_map f P (Some x) has = has
 
 -- one of the program's own subcommands, which `help` is not
 abbrev IsOwn : Text → Type 0
-IsOwn name = (name ≡ codes "run") ⊎ (name ≡ codes "make")
+IsOwn name = (name ≡ codes "run") ⊎ (name ≡ codes "check") ⊎ (name ≡ codes "make")
 
 -- `help` is answered in place of being entered
 own : (waiting : Waiting) (word : Text) (held : Held) → IfSome (subcommand_met names waiting word) (λ name. other_fault program.top (Some name) word held ≡ [] → IsOwn name)
 own idle word held =
     let P : Text → Type 0 = λ name. other_fault program.top (Some name) word held ≡ [] → IsOwn name in
     IfSome-option_map (λ label. label.0) P (find (answers_to word) names)
-    (find-All (answers_to word) (λ label. P label.0) names (λ none. inl refl, (λ none. inr refl, (λ none. cc, tt))))
+    (find-All (answers_to word) (λ label. P label.0) names (λ none. inl refl, (λ none. inr (inl refl), (λ none. inr (inr refl), (λ none. cc, tt)))))
 own (option id) word held = tt
 own positional word held = tt
 
@@ -41,6 +41,11 @@ run_met words none =
     let given = level-has_values (built_in run_app) words refl none in
     (refl, (given.0 refl, (given.1.0 refl, tt)))
 
+check_met : (words : List Text) → level_fault (built_in check_app) [] nothing_held words false [] ≡ [] → IsMet check_app (rows_at (built_in check_app) words)
+check_met words none =
+    let given = level-has_values (built_in check_app) words refl none in
+    (refl, (given.0 refl, tt))
+
 make_met : (words : List Text) → level_fault (built_in make_app) [] nothing_held words false [] ≡ [] → IsMet make_app (rows_at (built_in make_app) words)
 make_met words none =
     let given = level-has_values (built_in make_app) words refl none in
@@ -51,7 +56,8 @@ entered-complete name words is none =
     let P : Text → Type 0 = λ text. entered_fault program (Some (text, words)) ≡ [] → IsSomeAnd (entered program (Some (text, words))) IsComplete in
     elim is [
       | inl run ↦ subst P (sym run) (λ passed. inl (run_met words passed)) none
-      | inr make ↦ subst P (sym make) (λ passed. inr (make_met words passed)) none
+      | inr (inl check) ↦ subst P (sym check) (λ passed. inr (inl (check_met words passed))) none
+      | inr (inr make) ↦ subst P (sym make) (λ passed. inr (inr (make_met words passed))) none
     ]
 
 stop-complete : (stop : Option (Text × List Text)) (rows : List Row) → IfSome stop (λ p. IsOwn p.0) → entered_fault program stop ≡ []

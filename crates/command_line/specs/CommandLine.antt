@@ -20,7 +20,7 @@ use Rattle.clap.specs.declared.error.kind.ErrorKind.{ErrorKind}
 use Rattle.clap.specs.declared.error.kind.ErrorKind.TheVariants.{DisplayHelp, OutOfMemory}
 use Rattle.clap.specs.declared.parser.matches.ArgMatches.{ArgMatches}
 use Rattle.command_line.specs.declared.line.Line.{Line}
-use Rattle.command_line.specs.declared.line.Line.TheVariants.{Make, Run}
+use Rattle.command_line.specs.declared.line.Line.TheVariants.{Check, Make, Run}
 use Rattle.command_line.specs.declared.line.LineFault.{LineFault}
 use Rattle.command_line.specs.declared.line.LineFault.TheVariants.{Memory, Refused}
 
@@ -54,6 +54,10 @@ items_rule = number_rule (codes "I") 1 100000
 abbrev pub run_app : App
 run_app = with_rule (with_rule (new_app (codes "run")) image_rule) batches_rule
 
+-- check IMAGE
+abbrev pub check_app : App
+check_app = with_rule (new_app (codes "check")) image_rule
+
 -- make W C I
 abbrev pub make_app : App
 make_app = with_rule (with_rule (with_rule (new_app (codes "make")) warehouses_rule) customers_rule)
@@ -65,7 +69,9 @@ bare_app = on_top (λ shape. record shape { subcommand_required = true }) (new_a
 
 -- the program
 abbrev pub program_app : App
-program_app = with_subcommand (with_subcommand bare_app run_app.top) make_app.top
+program_app =
+    with_subcommand (with_subcommand (with_subcommand bare_app run_app.top) check_app.top)
+    make_app.top
 
 -- an argument of this form, of its own command alone
 abbrev pub IsArgument : Rule → Arg → Type 0
@@ -110,13 +116,14 @@ IsMet app met = (met.0 ≡ app.top.name) × AllByRecursion (HasValue met.1) app.
 
 -- the subcommand that was met is one of the program's, with a value for each of its arguments
 abbrev pub IsComplete : Text × List Row → Type 0
-IsComplete met = IsMet run_app met ⊎ IsMet make_app met
+IsComplete met = IsMet run_app met ⊎ IsMet check_app met ⊎ IsMet make_app met
 
 -- the line is that of the subcommand that was met, by its name and its rows
 abbrev pub IsLineOf : Line → Text × List Row → Type 0
 IsLineOf (Run image batches) met =
     (met.0 ≡ codes "run") × HasText met.1 (codes "IMAGE") image
     × HasText met.1 (codes "BATCHES") batches
+IsLineOf (Check image) met = (met.0 ≡ codes "check") × HasText met.1 (codes "IMAGE") image
 IsLineOf (Make warehouses customers items) met =
     (met.0 ≡ codes "make") × HasNumber met.1 (codes "W") warehouses
     × HasNumber met.1 (codes "C") customers × HasNumber met.1 (codes "I") items
@@ -124,6 +131,7 @@ IsLineOf (Make warehouses customers items) met =
 -- the numbers of the line are within their bounds
 abbrev pub IsWithinBounds : Line → Type 0
 IsWithinBounds (Run image batches) = ⊤
+IsWithinBounds (Check image) = ⊤
 IsWithinBounds (Make warehouses customers items) =
     IsInRange 1 100 warehouses × IsInRange 1 3000 customers × IsInRange 1 100000 items
 

@@ -1,8 +1,8 @@
 //! The command that `clap` reads the words by: a function for each argument and each subcommand.
 ghost use Rattle.std.specs.Prelude.{IfOk};
 ghost use Rattle.command_line.specs.CommandLine.{IsArgument, IsCommand, bare_app, batches_rule};
-ghost use Rattle.command_line.specs.CommandLine.{customers_rule, image_rule, items_rule, make_app};
-ghost use Rattle.command_line.specs.CommandLine.{program_app, run_app, warehouses_rule};
+ghost use Rattle.command_line.specs.CommandLine.{check_app, customers_rule, image_rule, items_rule};
+ghost use Rattle.command_line.specs.CommandLine.{make_app, program_app, run_app, warehouses_rule};
 
 use clap::{Arg, Command, value_parser};
 use std::alloc::{AllocError, Global};
@@ -59,6 +59,14 @@ fn run<'a>(alloc: Global) -> Result<Command<'a>, AllocError>
         .arg(batches(alloc))
 }
 
+fn check<'a>(alloc: Global) -> Result<Command<'a>, AllocError>
+    ensures { IfOk result (IsCommand check_app) }
+{
+    Command::new(alloc, "check")
+        .about("Checks the image of a database")
+        .arg(image(alloc))
+}
+
 fn make<'a>(alloc: Global) -> Result<Command<'a>, AllocError>
     ensures { IfOk result (IsCommand make_app) }
 {
@@ -86,6 +94,10 @@ pub fn program<'a>(alloc: Global) -> Result<Command<'a>, AllocError>
     ensures { IfOk result (IsCommand program_app) }
 {
     let run = run(alloc)?;
+    let check = check(alloc)?;
     let make = make(alloc)?;
-    bare(alloc)?.subcommand(run)?.subcommand(make)
+    bare(alloc)?
+        .subcommand(run)?
+        .subcommand(check)?
+        .subcommand(make)
 }

@@ -20,6 +20,11 @@ pub enum Line {
         /// The path of the batches.
         batches: String,
     },
+    /// To check the image of a database.
+    Check {
+        /// The path of the image.
+        image: String,
+    },
     /// To make the database of these sizes.
     Make {
         /// The number of warehouses.

@@ -3,8 +3,8 @@ ghost use Rattle.std.specs.Prelude.{◌≡◌, [], IfErr, IfOk, IsSome, IsSomeAn
 ghost use Rattle.std.specs.Prelude.{string_bytes};
 ghost use Rattle.clap.specs.Words.{fault_of, first_of, subcommand_of, subcommand_rows_of};
 ghost use Rattle.command_line.specs.CommandLine.{HasText, IsComplete, IsFaultOf, IsLineOf, IsMet};
-ghost use Rattle.command_line.specs.CommandLine.{IsWithinBounds, make_app, program_app, rows_in};
-ghost use Rattle.command_line.specs.CommandLine.{run_app};
+ghost use Rattle.command_line.specs.CommandLine.{IsWithinBounds, check_app, make_app, program_app};
+ghost use Rattle.command_line.specs.CommandLine.{rows_in, run_app};
 
 use crate::command::program;
 use crate::line::{Line, LineFault};
@@ -41,6 +41,15 @@ fn run_in(alloc: Global, matches: &ArgMatches) -> Result<Line, AllocError>
     Ok(Line::Run { image, batches })
 }
 
+fn check_in(alloc: Global, matches: &ArgMatches) -> Result<Line, AllocError>
+    requires { IsMet check_app (codes "check", rows_in matches.now) }
+    ensures line { IfOk result (λ line. IsLineOf line (codes "check", rows_in matches.now)) }
+    ensures bounds { IfOk result IsWithinBounds }
+{
+    let image = text_of(alloc, matches, "IMAGE")?;
+    Ok(Line::Check { image })
+}
+
 fn make_in(matches: &ArgMatches) -> Line
     requires { IsMet make_app (codes "make", rows_in matches.now) }
     ensures line { IsLineOf result (codes "make", rows_in matches.now) }
@@ -62,6 +71,7 @@ pub fn line_in(alloc: Global, matches: &ArgMatches) -> Result<Line, AllocError>
 {
     match matches.subcommand() {
         Some(("run", run)) => run_in(alloc, run),
+        Some(("check", check)) => check_in(alloc, check),
         Some(("make", make)) => Ok(make_in(make)),
         _ => unreachable!(),
     }

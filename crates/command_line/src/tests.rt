@@ -44,6 +44,16 @@ fn takes_a_run(rt: HostRuntime) -> Result<(), Fail> {
 }
 
 #[test]
+fn takes_a_check(rt: HostRuntime) -> Result<(), Fail> {
+    let words = words(rt.alloc(), "eve-tpcc check image.csv")?;
+    let Line::Check { image } = line_of(rt.alloc(), words)? else {
+        return Err(Fail::new("another line"));
+    };
+    assert_eq!(rt; image.as_str(), "image.csv");
+    Ok(())
+}
+
+#[test]
 fn takes_a_make(rt: HostRuntime) -> Result<(), Fail> {
     for (line, sizes) in [
         ("eve-tpcc make 1 45 100", (1, 45, 100)),
@@ -75,6 +85,9 @@ fn refuses_other_words(rt: HostRuntime) -> Result<(), Fail> {
         ("eve-tpcc run a", ErrorKind::MissingRequiredArgument),
         ("eve-tpcc run a b c", ErrorKind::UnknownArgument),
         ("eve-tpcc run a b --workers 2", ErrorKind::UnknownArgument),
+        ("eve-tpcc check", ErrorKind::MissingRequiredArgument),
+        ("eve-tpcc check a b", ErrorKind::UnknownArgument),
+        ("eve-tpcc check --all a", ErrorKind::UnknownArgument),
         ("eve-tpcc make", ErrorKind::MissingRequiredArgument),
         ("eve-tpcc make 1 1", ErrorKind::MissingRequiredArgument),
         ("eve-tpcc make 1 1 1 1", ErrorKind::UnknownArgument),
@@ -108,6 +121,9 @@ fn helps(rt: HostRuntime) -> Result<(), Fail> {
         "eve-tpcc help run",
         "eve-tpcc run --help",
         "eve-tpcc run a -h",
+        "eve-tpcc help check",
+        "eve-tpcc check --help",
+        "eve-tpcc check a -h",
         "eve-tpcc help make",
         "eve-tpcc make --help",
         "eve-tpcc make 1 -h",
@@ -127,6 +143,18 @@ Usage: eve-tpcc run <IMAGE> <BATCHES>
 Arguments:
   <IMAGE>    The file of the database's image
   <BATCHES>  The file of the batches
+
+Options:
+  -h, --help  Print help
+";
+
+const CHECK_HELP: &str = "\
+Checks the image of a database
+
+Usage: eve-tpcc check <IMAGE>
+
+Arguments:
+  <IMAGE>  The file of the database's image
 
 Options:
   -h, --help  Print help
@@ -159,6 +187,7 @@ Options:
 fn names_the_program_whatever_it_was_started_as(rt: HostRuntime) -> Result<(), Fail> {
     for (line, text) in [
         ("out/eve_tpcc run --help", RUN_HELP),
+        ("out/eve_tpcc check --help", CHECK_HELP),
         ("out/eve_tpcc run a", NO_BATCHES),
         ("out/eve_tpcc make --help", MAKE_HELP),
     ] {

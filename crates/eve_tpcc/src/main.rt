@@ -6,9 +6,10 @@ ghost use Rattle.tpcc_rows.specs.Limits.{IsBetween};
 
 use command_line::{Line, LineFault, line_of, line_status};
 use requests::ends::Counting;
-use runner::{RunFault, fault_line, make_text, run_text};
+use runner::{RunFault, check_text, fault_line, make_text, run_text};
 use std::process::ExitCode;
 use std::rt::{Env, Files};
+use std::thread::Threads;
 use std::{env, fs, io, str};
 
 fn cannot_open(rt: &impl Eprint, path: &str) -> ExitCode {
@@ -26,7 +27,11 @@ fn report<R: Eprint + AllocGlobal>(rt: &R, fault: &RunFault) -> ExitCode {
     ExitCode::FAILURE
 }
 
-fn run<R: Files + Print + Eprint + AllocGlobal>(rt: &R, image: &str, batches: &str) -> ExitCode
+fn run<R: Files + Print + Eprint + AllocGlobal + Threads + Sync>(
+    rt: &R,
+    image: &str,
+    batches: &str,
+) -> ExitCode
 where
     R::File: Drop,
 {
@@ -40,12 +45,28 @@ where
     let mut batches_source = Counting::new(batches_file);
     let mut output = Counting::new(io::writer(rt));
     match run_text(
+        rt,
         rt.alloc(),
         &mut image_source,
         &mut batches_source,
         &mut output,
     ) {
         Ok(_) => ExitCode::SUCCESS,
+        Err(fault) => report(rt, &fault),
+    }
+}
+
+fn check<R: Files + Print + Eprint + AllocGlobal + Threads + Sync>(rt: &R, image: &str) -> ExitCode
+where
+    R::File: Drop,
+{
+    let Ok(image_file) = fs::open(rt, image) else {
+        return cannot_open(rt, image);
+    };
+    let mut image_source = Counting::new(image_file);
+    let mut output = Counting::new(io::writer(rt));
+    match check_text(rt, rt.alloc(), &mut image_source, &mut output) {
+        Ok(()) => ExitCode::SUCCESS,
         Err(fault) => report(rt, &fault),
     }
 }
@@ -77,6 +98,7 @@ fn main(rt: HostRuntime) -> ExitCode {
     };
     match line_of(rt.alloc(), words) {
         Ok(Line::Run { image, batches }) => run(&rt, image.as_str(), batches.as_str()),
+        Ok(Line::Check { image }) => check(&rt, image.as_str()),
         Ok(
             Line::Make {
                 warehouses,

@@ -5,6 +5,7 @@ pub mod Filled
 pub mod RecordLimits
 pub mod ImageLaws
 pub mod StoredTexts
+pub mod RowKeys
 pub mod BookLemmas
 pub mod DistrictLemmas
 pub mod Sound

@@ -33,11 +33,12 @@ text_said-more start one two ss ts e1 e2 =
     e2 ∙ ap (λ (t : List ℕ). t ++ text_said ts) e1 ∙ append_assoc start (text_said ss) (text_said ts) ∙ ap (λ (t : List ℕ). start ++ t) (sym (text_said-append ss ts))
 
 -- the texts of the four parts, after what was written before
-pub tables-whole : (db : Database) (start one two three four : List ℕ) → one ≡ start ++ text_said (part_said part.BeforeItems db.rows (entries db.cards))
+pub tables-whole : (db : Database) (start one two three four : List ℕ) (alone : List ImageRecord) → one ≡ start ++ text_said (part_said part.BeforeItems db.rows (entries db.cards))
     → two ≡ one ++ text_said (part_said part.Items db.rows (entries db.cards)) → three ≡ two ++ text_said (part_said part.Stocks db.rows (entries db.cards))
-    → four ≡ three ++ text_said (filter_map row_said (entries db.rows)) → four ≡ start ++ text_said (image_said db)
+    → four ≡ three ++ text_said alone → alone ≡ filter_map row_said (entries db.rows) → four ≡ start ++ text_said (image_said db)
 unfolding image_said
-tables-whole db start one two three four e1 e2 e3 e4 = text_said-more start three four _ _ (text_said-more start two three _ _ (text_said-more start one two _ _ e1 e2) e3) e4
+tables-whole db start one two three four alone e1 e2 e3 e4 said =
+    text_said-more start three four _ _ (text_said-more start two three _ _ (text_said-more start one two _ _ e1 e2) e3) (e4 ∙ ap (λ ss. three ++ text_said ss) said)
 
 -- one entry more is at most one record more
 cons-fewer : {A : Type 0} (o : Option A) (xs : List A) → length (cons_option o xs) ≤ suc (length xs)

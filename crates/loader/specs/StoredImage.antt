@@ -1,5 +1,7 @@
 -- The image of a database.
-use Rattle.std.specs.Prelude.{Bool, true, false, ℕ, List, [], ◌∷◌, ◌++◌, map, length, filter_map, Option, Some, None, option_map}
+use Rattle.std.specs.Prelude.{◌≡◌, ◌&&◌, ◌||◌, Bool, true, false, ℕ, List, [], ◌∷◌, ◌++◌, map, length, filter_map, Option, Some, None, option_map}
+use Rattle.std.specs.Option.{option_and_then}
+use Rattle.std.specs.BTreeSet.{BTreeSet, contains}
 use Rattle.std.specs.FinMap as finmap
 use Rattle.std.specs.FinMap.Entries.{where_key}
 use Rattle.catalog.specs.CardMap.{card_key_cmp}
@@ -10,12 +12,13 @@ use Rattle.catalog.specs.declared.card.CardKey.TheVariants as card_key
 use Rattle.requests.specs.Fields.{Fields}
 use Rattle.requests.specs.Spelling.{text_of_records}
 use Rattle.tpcc_model.specs.Database.{Database}
-use Rattle.tpcc_rows.specs.RowMap.{Rows}
+use Rattle.tpcc_rows.specs.RowMap.{Rows, row_key_cmp}
 use Rattle.tpcc_rows.specs.Rows.{customer_row, district_row, stock_row, warehouse_row}
 use Rattle.tpcc_rows.specs.declared.key.RowKey.{RowKey}
 use Rattle.tpcc_rows.specs.declared.key.RowKey.TheVariants as key
 use Rattle.tpcc_rows.specs.declared.row.Row.{Row}
 use Rattle.tpcc_rows.specs.declared.row.Row.TheVariants as row
+use Rattle.loader.specs.Tables.{has_row}
 use Rattle.loader.specs.StoredRecords.{written_end, written_first, written_record}
 use Rattle.loader.specs.declared.image_record.ImageRecord.{ImageRecord}
 use Rattle.loader.specs.declared.image_record.ImageRecord.TheVariants as said
@@ -37,6 +40,22 @@ row_said (key.NewOrder w d o, _) = Some (said.NewOrder w d o)
 row_said (key.OrderLine w d o number, row.OrderLine r) = Some (said.OrderLine w d o number r)
 row_said (key.History number, row.History r) = Some (said.History number r)
 row_said _ = None
+
+-- whether the row of this key goes with no card
+abbrev pub stands_alone : RowKey → Bool
+stands_alone (key.Order w d o) = true
+stands_alone (key.NewOrder w d o) = true
+stands_alone (key.OrderLine w d o number) = true
+stands_alone (key.History number) = true
+stands_alone _ = false
+
+-- the new set has the keys of the old one, and those of these rows that go with no card
+abbrev pub HasAlsoAlone : BTreeSet RowKey → Rows → BTreeSet RowKey → Type 0
+HasAlsoAlone old rows new = (k : RowKey) → contains row_key_cmp new k ≡ (contains row_key_cmp old k || (stands_alone k && has_row rows k))
+
+-- what is said of the row at a key that goes with no card
+abbrev pub said_at : Rows → RowKey → Option ImageRecord
+said_at rows k = option_and_then (λ r. row_said (k, r)) (finmap.get rows k)
 
 -- whether the cards with this key are of this part
 abbrev pub stands_in : CardPart → CardKey → Bool

@@ -5,6 +5,7 @@ use Rattle.catalog.specs.CardMap.{Cards}
 use Rattle.catalog.specs.declared.card.Card.TheVariants as card
 use Rattle.catalog.specs.declared.card.CardKey.{CardKey}
 use Rattle.catalog.specs.declared.card.CardKey.TheVariants as card_key
+use Rattle.rollback.specs.Pointed.{Pointed}
 use Rattle.tpcc_model.specs.Database.{Database}
 use Rattle.tpcc_rows.specs.RowMap.{Rows}
 use Rattle.tpcc_rows.specs.declared.key.RowKey.{RowKey}
@@ -17,9 +18,13 @@ use Rattle.loader.specs.declared.tables.Tables.{Tables}
 abbrev pub database_of : Tables → Database
 database_of tables = record { cards = tables.cards; rows = tables.rows }
 
--- the database of these parts
-abbrev pub loaded : Cards × Rows → Database
-loaded parts = record { cards = parts.0; rows = parts.1 }
+-- the database of these cards and rows
+abbrev pub database : Cards → Rows → Database
+database cards rows = record { cards = cards; rows = rows }
+
+-- the database of a catalog and a store
+abbrev pub loaded : Cards × Pointed → Database
+loaded parts = database parts.0 parts.1.rows
 
 abbrev pub no_tables : Database
 no_tables = record { cards = map.empty; rows = map.empty }

@@ -8,7 +8,7 @@ ghost use Rattle.tpcc_rows.specs.Rows.{order_row};
 ghost use Rattle.tpcc_rows.specs.declared.key.RowKey.TheVariants as row_key;
 ghost use Rattle.requests.specs.Fields.{IsWithin};
 ghost use Rattle.loader.specs.Checks.{AreSums, AreWithin, card_has_parents, checked, has_line, parents_there, row_has_parents, sum_at, ytd_agrees, ytds_agree};
-ghost use Rattle.loader.specs.Tables.{has_card, has_row, loaded};
+ghost use Rattle.loader.specs.Tables.{database, has_card, has_row};
 
 use crate::books::books_of;
 use crate::districts::{line_counts_agree, next_orders_agree, spans_agree};
@@ -127,7 +127,7 @@ fn has_line(
 
 /// Whether the cards and the rows are there that a row goes with, besides the card of its own key.
 fn row_has_parents(catalog: &Catalog, rows: &RowStore, key: &RowKey, row: &Row) -> bool
-    ensures { result ≡ row_has_parents (loaded (catalog.now, rows.now)) (key.now, row.now) }
+    ensures { result ≡ row_has_parents (database catalog.now rows.now) (key.now, row.now) }
 {
     match (key, row) {
         (
@@ -176,7 +176,7 @@ fn row_has_parents(catalog: &Catalog, rows: &RowStore, key: &RowKey, row: &Row) 
 /// Whether all parents are there.
 #[tactic(auto, unfolding(crate::specs::Checks::parents_there))]
 fn parents_there(catalog: &Catalog, rows: &RowStore) -> bool
-    ensures { result ≡ parents_there (loaded (catalog.now, rows.now)) }
+    ensures { result ≡ parents_there (database catalog.now rows.now) }
 {
     for (card_key, card) in catalog.cards() {
         if !card_has_parents(catalog, card_key, card) {
@@ -252,8 +252,8 @@ fn ytds_agree(rows: &RowStore) -> bool
 
 /// Whether the tables are sound, whose values are within their limits.
 pub(crate) fn check(catalog: &Catalog, rows: &RowStore) -> Result<(), LoadError>
-    ensures ok { OnOk result (checked (loaded (catalog.now, rows.now)) ≡ Ok (loaded (catalog.now, rows.now))) }
-    ensures err { IfErr result (λ e. checked (loaded (catalog.now, rows.now)) ≡ Err e) }
+    ensures ok { OnOk result (checked (database catalog.now rows.now) ≡ Ok (database catalog.now rows.now)) }
+    ensures err { IfErr result (λ e. checked (database catalog.now rows.now) ≡ Err e) }
 {
     if !parents_there(catalog, rows) {
         return Err(LoadError::MissingParent);

@@ -1,6 +1,7 @@
 //! A database from the bytes of an image.
 ghost use Rattle.std.specs.Prelude.{◌≡◌, ◌≢◌, ◌⊎◌, ◌+◌, ◌<◌, ◌≤◌, ◌^◌, length, Ok, Err, IfOk, IfErr, IfSome, IsErrOf, OnOk};
 ghost use Rattle.tpcc_model.specs.Soundness.{IsSound};
+ghost use Rattle.rollback.specs.Marks.{AreClean};
 ghost use Rattle.loader.specs.Faults.{IsOfReading, IsOfText, StopsBy};
 ghost use Rattle.loader.specs.Image.{image, most_bytes};
 ghost use Rattle.loader.specs.Tables.{loaded};
@@ -8,20 +9,22 @@ ghost use Rattle.loader.specs.Tables.{loaded};
 use crate::checks::check;
 use crate::fault::LoadError;
 use crate::reading::read_tables;
+use crate::tables::on_pages;
 use catalog::Catalog;
 use requests::ends::Source;
 use requests::fault::ReadError;
 use requests::whole::slurp;
+use rollback::PointedStore;
 use std::alloc::Global;
-use tpcc_rows::plain::RowStore;
 
 /// The most bytes of an image.
 const MOST_BYTES: usize = 4_294_967_295;
 
 /// The database of a text.
-fn load_text(alloc: Global, text: &[u8]) -> Result<(Catalog, RowStore), LoadError>
+fn load_text(alloc: Global, text: &[u8]) -> Result<(Catalog, PointedStore), LoadError>
     requires { length text.now ≤ most_bytes }
     ensures ok { IfOk result (λ db. image text.now ≡ Ok (loaded db)) }
+    ensures clean { IfOk result (λ db. AreClean db.1.dirty) }
     ensures sound { IfOk result (λ db. IsSound (loaded db)) }
     ensures err { IfErr result (λ e. StopsBy e (image text.now)) }
     ensures kinds { IfErr result IsOfText }
@@ -29,15 +32,17 @@ fn load_text(alloc: Global, text: &[u8]) -> Result<(Catalog, RowStore), LoadErro
     let tables = read_tables(alloc, text)?;
     let catalog = tables.cards.finish(alloc)?;
     check(&catalog, &tables.rows)?;
-    Ok((catalog, tables.rows))
+    let rows = on_pages(alloc, tables.rows)?;
+    Ok((catalog, rows))
 }
 
 /// The database of the bytes that a source has left, of at most 4,294,967,295 bytes. The first record at fault is
 /// answered before a missing end record, that before a missing parent, and that before the least condition that
 /// doesn't hold.
-pub fn load<S: Source>(alloc: Global, source: &mut S) -> Result<(Catalog, RowStore), LoadError>
+pub fn load<S: Source>(alloc: Global, source: &mut S) -> Result<(Catalog, PointedStore), LoadError>
     requires { S.failed source.old < 2 ^ 63 }
     ensures ok { IfOk result (λ db. IfSome (S.left source.old) (λ bytes. image bytes ≡ Ok (loaded db))) }
+    ensures clean { IfOk result (λ db. AreClean db.1.dirty) }
     ensures within { OnOk result (IfSome (S.left source.old) (λ bytes. length bytes ≤ most_bytes)) }
     ensures sound { IfOk result (λ db. IsSound (loaded db)) }
     ensures err { IfErr result (λ e.

@@ -14,6 +14,7 @@ mod made_records;
 pub mod making;
 mod reading;
 mod record_fault;
+mod row_keys;
 pub mod store;
 mod stored_record;
 mod tables;
@@ -22,6 +23,3 @@ pub use fault::LoadError;
 pub use image::load;
 pub use making::make;
 pub use store::store_image;
-
-#[cfg(test)]
-mod tests;

@@ -2,19 +2,20 @@
 ghost use Rattle.std.specs.Prelude.{◌≡◌, ◌+◌, ◌≤◌, IfOk, OnOk, false};
 ghost use Rattle.catalog.specs.declared.card.CardKey.TheVariants as card_key;
 ghost use Rattle.tpcc_model.specs.Soundness.{IsSound};
+ghost use Rattle.rollback.specs.Marks.{AreClean};
 ghost use Rattle.tpcc_rows.specs.Limits.{IsBetween};
 ghost use Rattle.loader.specs.Made.{AreBefore, made, made_customer, made_district, made_item, made_stock, made_warehouse, with_each, with_records};
 ghost use Rattle.loader.specs.Tables.{database_of, is_taken, loaded, with_record};
 
 use crate::image_record::ImageRecord;
 use crate::made_records::{made_customer, made_district, made_item, made_stock, made_warehouse};
-use crate::tables::Tables;
+use crate::tables::{Tables, on_pages};
 use catalog::Catalog;
 use catalog::builder::CatalogError;
+use rollback::PointedStore;
 use std::alloc::Global;
 use tpcc_rows::id::{CustomerId, DistrictId, ItemId, WarehouseId};
 use tpcc_rows::memory::Memory;
-use tpcc_rows::plain::RowStore;
 
 /// Takes in what a record says, whose key hasn't come before.
 fn add(tables: &mut Tables, said: ImageRecord) -> Result<(), Memory>
@@ -181,11 +182,12 @@ pub fn make(
     warehouses: u8,
     customers: u16,
     items: u32,
-) -> Result<(Catalog, RowStore), Memory>
+) -> Result<(Catalog, PointedStore), Memory>
     requires warehouses { IsBetween 1 100 warehouses }
     requires customers { IsBetween 1 3000 customers }
     requires items { IsBetween 1 100000 items }
     ensures value { IfOk result (λ db. loaded db ≡ made warehouses customers items) }
+    ensures clean { IfOk result (λ db. AreClean db.1.dirty) }
     ensures sound { IfOk result (λ db. IsSound (loaded db)) }
 {
     let mut tables = Tables::new(alloc);
@@ -195,5 +197,6 @@ pub fn make(
     add_stocks(alloc, &mut tables, warehouses, items)?;
     add_items(&mut tables, items)?;
     let catalog = tables.cards.finish(alloc)?;
-    Ok((catalog, tables.rows))
+    let rows = on_pages(alloc, tables.rows)?;
+    Ok((catalog, rows))
 }

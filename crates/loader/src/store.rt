@@ -3,18 +3,21 @@ ghost use Rattle.std.specs.Prelude.{◌≡◌, ◌++◌, filter_map, length, map
 ghost use Rattle.std.specs.FinMap as finmap;
 ghost use Rattle.requests.specs.Spelling.{text_of_records};
 ghost use Rattle.requests.specs.Writer.{IsWriting, written};
-ghost use Rattle.loader.specs.StoredImage.{image_said, image_text, part_said, row_said, stands_in};
+ghost use Rattle.loader.specs.StoredImage.{image_said, image_text, part_said, said_at, stands_in};
 ghost use Rattle.loader.specs.StoredRecords.{written_record};
 ghost use Rattle.loader.specs.Tables.{loaded};
 
-use crate::stored_record::{card_record, end_record, first_record, row_record};
+use crate::row_keys::keys_in_order;
+use crate::stored_record::{card_record, end_record, first_record, record_at};
 use catalog::Catalog;
 use catalog::card::CardKey;
 use csv::{ByteRecord, Writer};
 use requests::record_writer::{record_writer, write_record, written_text};
+use rollback::PointedStore;
 use std::alloc::Global;
+use std::collections::BTreeSet;
+use tpcc_rows::key::RowKey;
 use tpcc_rows::memory::Memory;
-use tpcc_rows::plain::RowStore;
 
 /// The cards by their place in an image: the items stand before the stocks, where in the order of keys they stand
 /// behind them.
@@ -44,14 +47,14 @@ fn write_cards(
     writer: &mut Writer<Vec<u8>>,
     fields: &mut ByteRecord,
     catalog: &Catalog,
-    rows: &RowStore,
+    rows: &PointedStore,
     part: CardPart,
 ) -> Result<u64, Memory>
     requires { IsWriting writer.old }
     ensures writing { OnOk result (IsWriting writer.new) }
     ensures text { OnOk result (written writer.new ≡ written writer.old
-        ++ text_of_records (map written_record (part_said part rows.now (finmap.entries catalog.now)))) }
-    ensures count { IfOk result (λ n. n ≡ length (part_said part rows.now (finmap.entries catalog.now))) }
+        ++ text_of_records (map written_record (part_said part rows.now.rows (finmap.entries catalog.now)))) }
+    ensures count { IfOk result (λ n. n ≡ length (part_said part rows.now.rows (finmap.entries catalog.now))) }
 {
     let mut count = 0;
     let _cards = catalog.len();
@@ -64,22 +67,23 @@ fn write_cards(
     Ok(count)
 }
 
-/// Writes the records of the rows that go with no card, and counts them.
+/// Writes the records of the rows at keys that go with no card, and counts them.
 fn write_rows(
     writer: &mut Writer<Vec<u8>>,
     fields: &mut ByteRecord,
-    rows: &RowStore,
+    rows: &PointedStore,
+    keys: &BTreeSet<RowKey>,
 ) -> Result<u64, Memory>
     requires { IsWriting writer.old }
     ensures writing { OnOk result (IsWriting writer.new) }
     ensures text { OnOk result (written writer.new ≡ written writer.old
-        ++ text_of_records (map written_record (filter_map row_said (finmap.entries rows.now)))) }
-    ensures count { IfOk result (λ n. n ≡ length (filter_map row_said (finmap.entries rows.now))) }
+        ++ text_of_records (map written_record (filter_map (said_at rows.now.rows) keys.now.keys))) }
+    ensures count { IfOk result (λ n. n ≡ length (filter_map (said_at rows.now.rows) keys.now.keys)) }
 {
     let mut count = 0;
-    let _rows = rows.len();
-    for (key, row) in rows.iter() {
-        if row_record(fields, key, row.row())? {
+    let _keys = keys.len();
+    for key in keys {
+        if record_at(fields, rows, key)? {
             write_record(writer, fields)?;
             count += 1;
         }
@@ -90,10 +94,11 @@ fn write_rows(
 /// Writes the records of a database, and counts them.
 #[tactic(auto, unfolding(crate::specs::StoredImage::image_said))]
 fn write_tables(
+    alloc: Global,
     writer: &mut Writer<Vec<u8>>,
     fields: &mut ByteRecord,
     catalog: &Catalog,
-    rows: &RowStore,
+    rows: &PointedStore,
 ) -> Result<u64, Memory>
     requires { IsWriting writer.old }
     ensures writing { OnOk result (IsWriting writer.new) }
@@ -101,24 +106,24 @@ fn write_tables(
         ++ text_of_records (map written_record (image_said (loaded (catalog.now, rows.now))))) }
     ensures count { IfOk result (λ n. n ≡ length (image_said (loaded (catalog.now, rows.now)))) }
 {
+    let keys = keys_in_order(alloc, rows)?;
     let _cards = catalog.len();
-    let _rows = rows.len();
     let before = write_cards(writer, fields, catalog, rows, CardPart::BeforeItems)?;
     let items = write_cards(writer, fields, catalog, rows, CardPart::Items)?;
     let stocks = write_cards(writer, fields, catalog, rows, CardPart::Stocks)?;
-    let others = write_rows(writer, fields, rows)?;
+    let others = write_rows(writer, fields, rows, &keys)?;
     Ok(before + items + stocks + others)
 }
 
 /// The image of a database.
-fn whole_text(alloc: Global, catalog: &Catalog, rows: &RowStore) -> Result<Vec<u8>, Memory>
+fn whole_text(alloc: Global, catalog: &Catalog, rows: &PointedStore) -> Result<Vec<u8>, Memory>
     ensures { IfOk result (λ text. text.items ≡ image_text (loaded (catalog.now, rows.now))) }
 {
     let mut writer = record_writer(alloc);
     let mut fields = ByteRecord::new(alloc);
     first_record(&mut fields)?;
     write_record(&mut writer, &fields)?;
-    let count = write_tables(&mut writer, &mut fields, catalog, rows)?;
+    let count = write_tables(alloc, &mut writer, &mut fields, catalog, rows)?;
     end_record(&mut fields, count)?;
     write_record(&mut writer, &fields)?;
     written_text(writer)
@@ -130,7 +135,7 @@ fn whole_text(alloc: Global, catalog: &Catalog, rows: &RowStore) -> Result<Vec<u
 pub fn store_image(
     alloc: Global,
     catalog: &Catalog,
-    rows: &RowStore,
+    rows: &PointedStore,
     out: &mut Vec<u8>,
 ) -> Result<(), Memory>
     ensures ok { OnOk result (out.new.items ≡ out.old.items ++ image_text (loaded (catalog.now, rows.now))) }

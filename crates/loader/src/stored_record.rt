@@ -5,16 +5,16 @@ ghost use Rattle.csv.specs.Records.{fields_of, partial_of};
 ghost use Rattle.requests.specs.Spelling.{AddsFields};
 ghost use Rattle.tpcc_rows.specs.Limits.{ten};
 ghost use Rattle.tpcc_rows.specs.Rows.{stock_row};
-ghost use Rattle.loader.specs.StoredImage.{card_said, row_said};
+ghost use Rattle.loader.specs.StoredImage.{card_said, row_said, said_at};
 ghost use Rattle.loader.specs.StoredRecords.{credit_text, written_customer, written_district, written_end, written_first, written_history, written_item, written_new_order, written_order, written_order_line, written_record, written_stock, written_warehouse};
 
 use catalog::card::{Card, Credit, CustomerCard, DistrictCard, ItemCard, StockCard, WarehouseCard};
 use csv::ByteRecord;
 use requests::record_text::{push, push_number, push_number_or_dash, push_signed};
+use rollback::PointedStore;
 use tpcc_rows::id::{DistrictId, ItemId, LineNumber, OrderId, RequestNumber, WarehouseId};
 use tpcc_rows::key::RowKey;
 use tpcc_rows::memory::Memory;
-use tpcc_rows::plain::RowStore;
 use tpcc_rows::row::{
     CustomerRow, DistrictRow, HistoryRow, OrderLineRow, OrderRow, Row, StockRow, WarehouseRow,
 };
@@ -220,8 +220,8 @@ fn write_history(
     push(fields, row.data.as_bytes())
 }
 
-fn stock_row(rows: &RowStore, warehouse: WarehouseId, item: ItemId) -> Option<&StockRow>
-    ensures { option_copied result ≡ stock_row rows.now warehouse item }
+fn stock_row(rows: &PointedStore, warehouse: WarehouseId, item: ItemId) -> Option<&StockRow>
+    ensures { option_copied result ≡ stock_row rows.now.rows warehouse item }
 {
     rows.get(&RowKey::Stock { warehouse, item })?.as_stock()
 }
@@ -229,10 +229,10 @@ fn stock_row(rows: &RowStore, warehouse: WarehouseId, item: ItemId) -> Option<&S
 /// The record of a card and its row. False where the row isn't there.
 pub(crate) fn card_record(
     fields: &mut ByteRecord,
-    rows: &RowStore,
+    rows: &PointedStore,
     card: &Card,
 ) -> Result<bool, Memory>
-    ensures { IfOk result (λ said. option_map written_record (card_said rows.now card.now)
+    ensures { IfOk result (λ said. option_map written_record (card_said rows.now.rows card.now)
         ≡ (if said then Some (fields_of fields.new) else None)) }
 {
     match card {
@@ -260,7 +260,7 @@ pub(crate) fn card_record(
 }
 
 /// The record of a row that goes with no card. False where the row goes with one.
-pub(crate) fn row_record(fields: &mut ByteRecord, key: &RowKey, row: &Row) -> Result<bool, Memory>
+fn row_record(fields: &mut ByteRecord, key: &RowKey, row: &Row) -> Result<bool, Memory>
     ensures { IfOk result (λ said. option_map written_record (row_said (key.now, row.now))
         ≡ (if said then Some (fields_of fields.new) else None)) }
 {
@@ -294,6 +294,21 @@ pub(crate) fn row_record(fields: &mut ByteRecord, key: &RowKey, row: &Row) -> Re
         _ => return Ok(false),
     }
     Ok(true)
+}
+
+/// The record of the row at a key that goes with no card. False where there is none.
+pub(crate) fn record_at(
+    fields: &mut ByteRecord,
+    rows: &PointedStore,
+    key: &RowKey,
+) -> Result<bool, Memory>
+    ensures { IfOk result (λ said. option_map written_record (said_at rows.now.rows key.now)
+        ≡ (if said then Some (fields_of fields.new) else None)) }
+{
+    match rows.get(key) {
+        Some(row) => row_record(fields, key, row),
+        None => Ok(false),
+    }
 }
 
 /// `eve-tpcc,1`

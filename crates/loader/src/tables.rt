@@ -1,16 +1,19 @@
 //! Cards and rows as they are filled.
-ghost use Rattle.std.specs.Prelude.{◌≡◌, IfErr, IsSome, None, OnOk, false, true};
+ghost use Rattle.std.specs.Prelude.{◌≡◌, IfErr, IfOk, IsSome, None, OnOk, false, true};
 ghost use Rattle.std.specs.FinMap as map;
 ghost use Rattle.catalog.specs.CardKinds.{card_key};
 ghost use Rattle.catalog.specs.declared.builder.CatalogError.TheVariants as catalog_error;
+ghost use Rattle.rollback.specs.Marks.{AreClean};
 ghost use Rattle.tpcc_rows.specs.RowKinds.{fits};
 ghost use Rattle.loader.specs.Tables.{database_of, is_taken, no_tables, with_record};
 
 use crate::image_record::ImageRecord;
 use catalog::builder::{CatalogBuilder, CatalogError};
 use catalog::card::Card;
+use rollback::PointedStore;
 use std::alloc::Global;
 use tpcc_rows::key::RowKey;
+use tpcc_rows::memory::Memory;
 use tpcc_rows::plain::RowStore;
 use tpcc_rows::row::Row;
 
@@ -19,6 +22,15 @@ use tpcc_rows::row::Row;
 pub(crate) struct Tables {
     pub(crate) cards: CatalogBuilder,
     pub(crate) rows: RowStore,
+}
+
+/// The rows on the pages of their leaves, of which none has changed.
+pub(crate) fn on_pages(alloc: Global, rows: RowStore) -> Result<PointedStore, Memory>
+    ensures rows { IfOk result (λ store. store.rows ≡ rows) }
+    ensures clean { IfOk result (λ store. AreClean store.dirty) }
+{
+    let store = pages::RowStore::from_plain(alloc, rows)?;
+    Ok(PointedStore::new(store))
 }
 
 impl Tables {

@@ -1,15 +1,16 @@
-//! A database is made and stored, and batches of all five transactions are run on its image, all over bytes in memory,
-//! for trying what comes where memory is refused: in this folder, `rt try --fail-alloc N` refuses the Nth growth. With
-//! ample memory it prints the replies and ends with status 0. Where the answer is that memory was refused, what the sink
-//! took is a beginning of the replies, and the status is 1 with no output. Anything else is printed as wrong.
+//! A database is made and stored, its image is checked, and batches of all five transactions are run on it, all over
+//! bytes in memory, for trying what comes where memory is refused: in this folder, `rt try --fail-alloc N` refuses the
+//! Nth growth. With ample memory it prints the line of the check and the text of the run, and ends with status 0. Where
+//! an answer is that memory was refused, what the sink took is a beginning of its text, and the status is 1 with no
+//! output. Anything else is printed as wrong.
 #![tactic(auto)]
 
 use loader::{LoadError, make, store_image};
 use requests::{BytesSink, BytesSource, ReadError};
-use runner::{BatchRefusal, RunFault, run_text};
+use runner::{BatchRefusal, RunFault, check_text, run_text};
 use std::alloc::Global;
 use std::process::ExitCode;
-use std::str;
+use std::thread::Threads;
 use tpcc_rows::memory::Memory;
 
 const BATCHES: &[u8] = b"B,100,commit,6
@@ -23,14 +24,31 @@ B,101,commit,1
 P,1,2,1,1,I,1,100
 ";
 
-const REPLIES: &[u8] = b"1,new-order,ok,1,1553,10,G,100,11,G,200,12,G,300,13,G,400,14,G,500
+/// The line of the check.
+const LINE: &str = "ok 1 26 ba7bdc56d856e2d02dee1b537231a423790137c3d0d04061bbcdd7a588f2d1d0\n";
+
+/// The text of the run.
+const TEXT: &str = "1,new-order,ok,1,1553,10,G,100,11,G,200,12,G,300,13,G,400,14,G,500
 2,payment,ok,1,-2000,GC
 3,order-status,ok,1,F9,OE,NAME1,-2000,1,100,-,1,1,1,100,-,2,1,1,200,-,3,1,1,300,-,4,1,1,400,-,5,1,1,500,-
 4,delivery,ok,1,-,-,-,-,-,-,-,-,-
 5,stock-level,ok,2
 6,payment,refused,2,Unknown key
+batch,1,sequential,9b5fd4983a60fe341d8c32e2474b27401e590f9bdd7c4e367670963d3243df78
 7,payment,ok,1,-600,GC
+batch,2,sequential,edf328309a7e38ae0fce86a3ae788c8d2d4835676dc5c93ad5560a77a094ee8e
 ";
+
+/// What comes of a call.
+#[derive(Drop)]
+enum Outcome {
+    /// The wanted text was written.
+    Done,
+    /// Memory was refused, and a beginning of the wanted text was written.
+    Refused,
+    /// Anything else.
+    Wrong,
+}
 
 /// The image of a database with a customer in each district and five items.
 fn made_image(alloc: Global) -> Result<Vec<u8>, Memory> {
@@ -41,7 +59,7 @@ fn made_image(alloc: Global) -> Result<Vec<u8>, Memory> {
 }
 
 /// Whether the fault says that memory was refused. The sink fails for want of memory alone.
-fn is_memory(fault: RunFault) -> bool {
+fn is_memory(fault: &RunFault) -> bool {
     matches!(
         fault,
         RunFault::Load(LoadError::Memory)
@@ -52,26 +70,47 @@ fn is_memory(fault: RunFault) -> bool {
     )
 }
 
-fn main(rt: HostRuntime) -> ExitCode {
-    let Ok(text) = made_image(rt.alloc()) else {
-        return ExitCode::FAILURE;
-    };
-    let mut image = BytesSource::new(text.as_slice(), 64);
+/// What came of a call that should have answered this and written this.
+fn outcome_of<T: PartialEq>(
+    answer: &Result<T, RunFault>,
+    wanted: &T,
+    written: &[u8],
+    text: &str,
+) -> Outcome {
+    match answer {
+        Ok(value) if value == wanted && written == text.as_bytes() => Outcome::Done,
+        Err(fault) if is_memory(fault) && text.as_bytes().starts_with(written) => Outcome::Refused,
+        _ => Outcome::Wrong,
+    }
+}
+
+fn checked<R: Threads + Sync + AllocGlobal>(rt: &R, image: &[u8]) -> Outcome {
+    let mut sink = BytesSink::new(rt.alloc(), 64);
+    let answer = check_text(rt, rt.alloc(), &mut BytesSource::new(image, 64), &mut sink);
+    outcome_of(&answer, &(), sink.bytes.as_slice(), LINE)
+}
+
+fn ran<R: Threads + Sync + AllocGlobal>(rt: &R, image: &[u8]) -> Outcome {
+    let mut image = BytesSource::new(image, 64);
     let mut batches = BytesSource::new(BATCHES, 64);
     let mut sink = BytesSink::new(rt.alloc(), 64);
-    let answer = run_text(rt.alloc(), &mut image, &mut batches, &mut sink);
-    let written = sink.bytes.as_slice();
-    match answer {
-        Ok(2) if written == REPLIES => {
-            if let Ok(text) = str::from_utf8(written) {
-                let _ = print!(&rt; "{text}");
-            }
+    let answer = run_text(rt, rt.alloc(), &mut image, &mut batches, &mut sink);
+    outcome_of(&answer, &2, sink.bytes.as_slice(), TEXT)
+}
+
+fn main(rt: HostRuntime) -> ExitCode {
+    let Ok(image) = made_image(rt.alloc()) else {
+        return ExitCode::FAILURE;
+    };
+    match (checked(&rt, image.as_slice()), ran(&rt, image.as_slice())) {
+        (Outcome::Done, Outcome::Done) => {
+            let _ = print!(&rt; "{LINE}{TEXT}");
             ExitCode::SUCCESS
         }
-        Err(fault) if is_memory(fault) && REPLIES.starts_with(written) => ExitCode::FAILURE,
-        _ => {
-            let _ = println!(&rt; "wrong: {answer:?}");
+        (Outcome::Wrong, _) | (_, Outcome::Wrong) => {
+            let _ = println!(&rt; "wrong");
             ExitCode::SUCCESS
         }
+        _ => ExitCode::FAILURE,
     }
 }

@@ -1,2 +1,4 @@
 pub mod RunLemmas
 pub mod WholeLemmas
+pub mod Numbers
+pub mod FieldLemmas

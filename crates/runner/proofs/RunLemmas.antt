@@ -16,6 +16,7 @@ use Rattle.requests.specs.declared.request.Request.{Request}
 use Rattle.requests.specs.Ends.{AppendsFront}
 use Rattle.requests.specs.declared.request.Batch.{Batch}
 use Rattle.requests.proofs.EndsLemmas.{appends_twice}
+use Rattle.runner.specs.Engines.{Running, next_of}
 use Rattle.runner.specs.Runs.{AllFit, Began, IsOfRecords, LeavesBatch, Left, NumbersFit, Taken}
 use Rattle.runner.specs.Text.{batch_text, text}
 use Rattle.runner.specs.declared.fault.BatchRefusal.TheVariants as refusal
@@ -31,9 +32,16 @@ then_kept (Some xs) (Some ys) None bytes a k = absurd k
 then_kept (Some xs) (Some ys) (Some zs) bytes a k = k ∙ a
 
 -- ---- more batches
+-- what a state leads to by batches
+abbrev pub running_on : Cards → State → List Batch → Running
+running_on cards state done = record { cards = cards; state = serial cards state done }
+
 pub serial-more : (cards : Cards) (state : State) (done : List Batch) (batch : Batch) → serial cards state (done ++ batch ∷ []) ≡ after_batch cards (serial cards state done) batch
 serial-more cards state [] batch = refl
 serial-more cards state (b ∷ done) batch = serial-more cards (after_batch cards state b) done batch
+
+pub running-more : (cards : Cards) (state : State) (done : List Batch) (batch : Batch) → next_of (running_on cards state done) batch ≡ running_on cards state (done ++ batch ∷ [])
+running-more cards state done batch = ap (λ (s : State). let r : Running = record { cards = cards; state = s } in r) (sym (serial-more cards state done batch))
 
 pub text-both : (cards : Cards) (state : State) (done more : List Batch) → text cards state (done ++ more) ≡ text cards state done ++ text cards (serial cards state done) more
 text-both cards state [] more = refl

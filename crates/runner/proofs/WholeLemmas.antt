@@ -1,6 +1,10 @@
 -- A run on the database of an image.
-use Rattle.std.proofs.Common.{◌≡◌, ℕ, List, Option, Some, None, Result, Ok, Err, IfOk, IfErr, IfSome}
+use Rattle.std.proofs.Common.{◌≡◌, ℕ, List, [], sym, append-nil, Option, Some, None, Result, Ok, Err, IfOk, IfErr, IfSome}
+use Rattle.std.specs.Io.KnownBytes.{Appends, Keeps}
 use Rattle.loader.specs.Image.{image}
+use Rattle.requests.specs.Ends.{AppendsFront}
+use Rattle.runner.proofs.RunLemmas.{then_kept}
+use Rattle.runner.specs.CheckTexts.{ChecksImage, LeavesCheck, opening_text}
 use Rattle.runner.specs.Runs.{Taken}
 use Rattle.runner.specs.WholeRuns.{IsOfDatabase, LeavesDatabase, LeavesRun, RanOn, RanWhole}
 use Rattle.runner.specs.declared.fault.RunFault.{RunFault}
@@ -29,3 +33,17 @@ left_run (Ok count) images batches db old new is kind left = tt
 left_run (Err e) None batches db old new is kind left = tt
 left_run (Err e) (Some bytes) None db old new is kind left = tt
 left_run (Err e) (Some bytes) (Some batch_bytes) db old new is kind left = left_by e bytes batch_bytes db old new is kind left
+
+-- ---- the line of an image
+pub checks_image : (images : Option (List ℕ)) (db : Database) (old new : Taken) → IfSome images (λ image_bytes. image image_bytes ≡ Ok db) → Appends old new (opening_text db)
+    → IfSome images (λ image_bytes. ChecksImage image_bytes old new)
+checks_image None db old new is written = tt
+checks_image (Some bytes) db old new is written = (db, is, written)
+
+pub leaves_check : (images : Option (List ℕ)) (db : Database) (old new : Taken) → IfSome images (λ image_bytes. image image_bytes ≡ Ok db) → AppendsFront old new (opening_text db)
+    → IfSome images (λ image_bytes. LeavesCheck run_fault.Write image_bytes old new)
+leaves_check None db old new is written = tt
+leaves_check (Some bytes) db old new is written = (db, is, written)
+
+pub appends_front : (old mid new : Taken) (text : List ℕ) → Appends old mid text → Keeps mid new → AppendsFront old new text
+appends_front old mid new text written kept = (text, [], sym (append-nil text), then_kept old mid new text written kept)

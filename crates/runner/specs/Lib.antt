@@ -1,5 +1,7 @@
 pub mod Text
+pub mod Engines
 pub mod Runs
 pub mod FaultText
 pub mod WholeRuns
 pub mod MadeTexts
+pub mod CheckTexts

@@ -17,12 +17,12 @@ use Rattle.tpcc_model.specs.Serial.{State, after_batch, serial}
 abbrev pub Taken : Type 0
 Taken = Option (List ℕ)
 
--- the numbers of a batch's requests stay within the limit, 10^15 - 1
+-- the numbers of a batch and of its requests stay within the limit, 10^15 - 1
 abbrev pub NumbersFit : State → Batch → Type 0
-NumbersFit state batch = state.next + length batch.requests ≤ 1000000000000000
+NumbersFit state batch = (state.sequence + 1 ≤ 999999999999999) × (state.next + length batch.requests ≤ 1000000000000000)
 
 abbrev pub NumbersExhaust : State → Batch → Type 0
-NumbersExhaust state batch = 1000000000000000 < state.next + length batch.requests
+NumbersExhaust state batch = (999999999999999 < state.sequence + 1) ⊎ (1000000000000000 < state.next + length batch.requests)
 
 abbrev pub AllFit : Cards → State → List Batch → Type 0
 AllFit cards state [] = Unit {0}

@@ -1,7 +1,10 @@
 -- The text that a run writes.
-use Rattle.std.specs.Prelude.{ℕ, ◌+◌, List, [], ◌∷◌, ◌++◌}
+use Rattle.std.specs.Prelude.{ℕ, ◌+◌, List, [], ◌∷◌, ◌++◌, codes, decimal}
+use Rattle.hex.specs.Hex.{encode_lower}
 use Rattle.catalog.specs.CardMap.{Cards}
+use Rattle.requests.specs.Fields.{Fields}
 use Rattle.requests.specs.Replies.{reply_text}
+use Rattle.requests.specs.Spelling.{text_of_record}
 use Rattle.requests.specs.declared.reply.Reply.{Reply}
 use Rattle.requests.specs.declared.request.Batch.{Batch}
 use Rattle.tpcc_model.specs.Serial.{State, after_batch, batch_replies}
@@ -11,10 +14,22 @@ abbrev pub replies_text : ℕ → List Reply → List ℕ
 replies_text number [] = []
 replies_text number (reply ∷ replies) = reply_text number reply ++ replies_text (number + 1) replies
 
-abbrev pub batch_text : Cards → State → Batch → List ℕ
-batch_text cards state batch = replies_text state.next (batch_replies cards state batch)
+-- a token in 64 lower case hexadecimal digits
+unfoldable pub token_digits : List ℕ → List ℕ
+token_digits token = encode_lower token
 
--- the records of the replies to batches, from this state on
+-- the record of a batch: its number, how it was executed, and its token
+abbrev pub batch_record_fields : ℕ → List ℕ → Fields
+batch_record_fields sequence token = codes "batch" ∷ decimal sequence ∷ codes "sequential" ∷ token_digits token ∷ []
+
+abbrev pub batch_record_text : ℕ → List ℕ → List ℕ
+batch_record_text sequence token = text_of_record (batch_record_fields sequence token)
+
+-- the records of the replies, and that of the batch
+abbrev pub batch_text : Cards → State → Batch → List ℕ
+batch_text cards state batch = replies_text state.next (batch_replies cards state batch) ++ batch_record_text (state.sequence + 1) (after_batch cards state batch).token
+
+-- the texts of batches, from this state on
 abbrev pub text : Cards → State → List Batch → List ℕ
 text cards state [] = []
 text cards state (batch ∷ batches) = batch_text cards state batch ++ text cards (after_batch cards state batch) batches

@@ -15,7 +15,7 @@ use Rattle.tpcc_model.specs.Serial.{opening}
 
 -- all batches were executed on the database and written, and no fault came behind them
 abbrev pub RanOn : Database → List ℕ → Taken → Taken → ℕ → Type 0
-RanOn db batch_bytes old new count = Ran db.cards (opening db.rows) (batches batch_bytes) old new count
+RanOn db batch_bytes old new count = Ran db.cards (opening db.cards db.rows) (batches batch_bytes) old new count
 
 -- the image gives a database, on which all batches were executed
 abbrev pub RanWhole : List ℕ → List ℕ → Taken → Taken → ℕ → Type 0
@@ -32,8 +32,8 @@ IsInputFault e batch_bytes = (e ≡ read_error.Memory) ⊎ (e ≡ read_error.Rea
 
 -- what a run on a database leaves that ended early
 abbrev pub LeavesDatabase : RunFault → Database → List ℕ → Taken → Taken → Type 0
-LeavesDatabase (run_fault.Read e) db batch_bytes old new = (IsInputFault e batch_bytes × Keeps old new) ⊎ Left (run_fault.Read e) db.cards (opening db.rows) (batches batch_bytes) old new
-LeavesDatabase fault db batch_bytes old new = Left fault db.cards (opening db.rows) (batches batch_bytes) old new
+LeavesDatabase (run_fault.Read e) db batch_bytes old new = (IsInputFault e batch_bytes × Keeps old new) ⊎ Left (run_fault.Read e) db.cards (opening db.cards db.rows) (batches batch_bytes) old new
+LeavesDatabase fault db batch_bytes old new = Left fault db.cards (opening db.cards db.rows) (batches batch_bytes) old new
 
 -- the faults of a run on a database
 abbrev pub IsOfDatabase : RunFault → Type 0

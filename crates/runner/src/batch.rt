@@ -5,10 +5,10 @@ ghost use Rattle.tpcc_model.specs.Steps.{replies, rows_after};
 use catalog::Catalog;
 use requests::reply::Reply;
 use requests::request::Batch;
+use rollback::PointedStore;
 use std::alloc::Global;
 use tpcc_rows::id::RequestNumber;
 use tpcc_rows::memory::Memory;
-use tpcc_rows::plain::RowStore;
 use transactions::execute;
 
 /// The last number of a request.
@@ -20,14 +20,14 @@ pub(crate) const LAST_NUMBER: u64 = 999_999_999_999_999;
 pub(crate) fn execute_batch(
     alloc: Global,
     catalog: &Catalog,
-    store: &mut RowStore,
+    store: &mut PointedStore,
     batch: &Batch,
     first: u64,
 ) -> Result<Vec<Reply>, Memory>
     requires low { 1 ≤ first }
     requires high { first + length batch.now.requests ≤ LAST_NUMBER + 1 }
-    ensures replies { IfOk result (λ v. v.items ≡ replies (record { cards = catalog.now; rows = store.old }) batch.now.moment first batch.now.requests) }
-    ensures rows { OnOk result (store.new ≡ rows_after (record { cards = catalog.now; rows = store.old }) batch.now.moment first batch.now.requests) }
+    ensures replies { IfOk result (λ v. v.items ≡ replies (record { cards = catalog.now; rows = store.old.rows }) batch.now.moment first batch.now.requests) }
+    ensures rows { OnOk result (store.new.rows ≡ rows_after (record { cards = catalog.now; rows = store.old.rows }) batch.now.moment first batch.now.requests) }
 {
     let mut replies = Vec::new(alloc);
     let mut next = first;

@@ -1,93 +1,146 @@
-//! Batch after batch: read, executed and written before the next is read.
-ghost use Rattle.std.specs.Prelude.{◌≡◌, ◌+◌, ◌<◌, ◌≤◌, ◌^◌, length, IfErr, IfOk, OnOk, if◌then◌else◌};
-ghost use Rattle.std.specs.Io.KnownBytes.{Appends};
-ghost use Rattle.requests.specs.Batches.{batches};
-ghost use Rattle.runner.specs.Runs.{IsOfBatches, LeavesBatch, Left, Ran, is_write};
-ghost use Rattle.runner.specs.Text.{batch_text};
+//! One thread that executes batch after batch.
+ghost use Rattle.std.specs.Prelude.{◌≡◌, ◌↔◌, IfOk, IsErrOf, OnOk};
+ghost use Rattle.runner.specs.Engines.{HasNumbers, IsRecordOf, next_of};
+ghost use Rattle.runner.specs.Runs.{NumbersExhaust, NumbersFit};
 ghost use Rattle.tpcc_model.specs.Serial.{opening};
-ghost use Rattle.tpcc_model.specs.Steps.{rows_after};
-ghost use Rattle.tpcc_rows.specs.Limits.{IsBetween};
 
 use crate::batch::{LAST_NUMBER, execute_batch};
-use crate::fault::{BatchRefusal, RunFault};
+use crate::fault::BatchRefusal;
 use crate::opening::next_number;
-use crate::text::replies_text;
 use catalog::Catalog;
-use requests::batch_reader::BatchReader;
-use requests::ends::Sink;
+use merkle::Tree;
+use requests::reply::Reply;
 use requests::request::Batch;
-use requests::whole::push_all;
+use rollback::PointedStore;
 use std::alloc::Global;
-use tpcc_rows::plain::RowStore;
+use std::marker::Model;
+use std::thread::Threads;
+use token::{TokenParts, reply_digest};
+use tpcc_rows::memory::Memory;
 
-/// Executes a batch, whose first request has this number, and writes its replies.
-fn serve_batch<S: Sink>(
-    alloc: Global,
-    catalog: &Catalog,
-    store: &mut RowStore,
-    batch: &Batch,
-    next: u64,
-    sink: &mut S,
-) -> Result<(), RunFault>
-    requires next { IsBetween 1 (LAST_NUMBER + 1) next }
-    requires count { S.failed sink.old < 2 ^ 63 }
-    ensures fits { OnOk result (next + length batch.now.requests ≤ LAST_NUMBER + 1) }
-    ensures rows { OnOk result (store.new ≡ rows_after (record { cards = catalog.now; rows = store.old }) batch.now.moment next batch.now.requests) }
-    ensures text { OnOk result (Appends (S.taken sink.old) (S.taken sink.new) (batch_text catalog.now (record { rows = store.old; next = next }) batch.now)) }
-    ensures err { IfErr result (λ e. LeavesBatch e catalog.now (record { rows = store.old; next = next }) batch.now (S.taken sink.old) (S.taken sink.new)) }
-    ensures failures { S.failed sink.new ≡ S.failed sink.old + (if is_write result then 1 else 0) }
-{
-    if batch.requests.len() as u64 > LAST_NUMBER + 1 - next {
-        return Err(RunFault::Exec(BatchRefusal::NumbersExhausted));
-    }
-    let Ok(replies) = execute_batch(alloc, catalog, store, batch, next) else {
-        return Err(RunFault::Exec(BatchRefusal::Memory));
-    };
-    let Ok(text) = replies_text(alloc, next, replies.as_slice()) else {
-        return Err(RunFault::Memory);
-    };
-    if push_all(sink, text.as_slice()).is_err() {
-        return Err(RunFault::Write);
-    }
-    Ok(())
+/// What a batch did: its number, the number of its first request, the replies in their order, and its token.
+#[derive(Drop)]
+pub(crate) struct Record {
+    pub(crate) sequence: u64,
+    pub(crate) first: u64,
+    pub(crate) replies: Vec<Reply>,
+    pub(crate) token: [u8; 32],
 }
 
-/// Reads the batches of a text in turn, executes each on what the ones before it left, and writes its replies before
-/// the next is read. The answer is the number of batches.
-pub(crate) fn run_batches<S: Sink>(
-    alloc: Global,
-    catalog: &Catalog,
-    mut store: RowStore,
-    text: &[u8],
-    sink: &mut S,
-) -> Result<u64, RunFault>
-    requires small { length text.now < 2 ^ 32 }
-    requires count { S.failed sink.old < 2 ^ 63 }
-    ensures ok { IfOk result (Ran catalog.now (opening store) (batches text.now) (S.taken sink.old) (S.taken sink.new)) }
-    ensures err { IfErr result (λ e. Left e catalog.now (opening store) (batches text.now) (S.taken sink.old) (S.taken sink.new)) }
-    ensures kinds { IfErr result IsOfBatches }
-    ensures failures { S.failed sink.new ≡ S.failed sink.old + (if is_write result then 1 else 0) }
-{
-    let mut reader = match BatchReader::new(alloc, text) {
-        Ok(reader) => reader,
-        Err(error) => return Err(RunFault::Read(error)),
-    };
-    let mut next = next_number(&store);
-    let mut done: u64 = 0;
-    'batches: loop {
-        let batch = match reader.next_batch(alloc) {
-            Ok(Some(batch)) => batch,
-            Ok(None) => break,
-            Err(error) => return Err(RunFault::Read(error)),
+/// A database between two batches: its cards and rows, the number of the next request, the number of the last batch, and
+/// its token. The catalog never changes, so its digest is kept.
+#[derive(Drop)]
+pub(crate) struct Engine {
+    catalog: Catalog,
+    catalog_digest: [u8; 32],
+    store: PointedStore,
+    next: u64,
+    sequence: u64,
+    token: [u8; 32],
+}
+
+impl Model for Engine {
+    ghost use Rattle.runner.specs.Engines.{IsEngine, Running, running_code};
+
+    ghost Value = { Running };
+
+    ghost coded = { running_code };
+
+    ghost view = { λ e. record {
+      cards = e.catalog;
+      state = record { rows = e.store.rows; next = e.next; sequence = e.sequence; token = e.token };
+    } };
+
+    ghost invariant = { λ e. IsEngine e.catalog e.catalog_digest e.next e.sequence };
+}
+
+impl Engine {
+    /// A database before any batch.
+    pub(crate) fn new<R: Threads + Sync>(
+        rt: &R,
+        alloc: Global,
+        catalog: Catalog,
+        store: PointedStore,
+    ) -> Result<Engine, Memory>
+        ensures cards { IfOk result (λ e. e.cards ≡ catalog) }
+        ensures state { IfOk result (λ e. e.state ≡ opening catalog store.rows) }
+    {
+        let catalog_digest = catalog.digest();
+        let next = next_number(&store);
+        let tree = Tree::build(rt, alloc, &store)?;
+        let parts = TokenParts {
+            sequence: 0,
+            prior: [0; 32],
+            catalog: catalog_digest,
+            root: tree.root(),
+            replies: reply_digest(next, &[]),
         };
-        if let Err(fault) = serve_batch(alloc, catalog, &mut store, &batch, next, sink) {
-            return Err(fault);
+        Ok(Engine {
+            catalog,
+            catalog_digest,
+            store,
+            next,
+            sequence: 0,
+            token: parts.token(),
+        })
+    }
+
+    pub(crate) fn catalog(&self) -> &Catalog
+        ensures { result.now ≡ self.now.cards }
+    {
+        &self.catalog
+    }
+
+    pub(crate) fn store(&self) -> &PointedStore
+        ensures { result.now.rows ≡ self.now.state.rows }
+    {
+        &self.store
+    }
+
+    /// The token of the last batch.
+    pub(crate) fn token(&self) -> [u8; 32]
+        ensures { result ≡ self.now.state.token }
+    {
+        self.token
+    }
+
+    /// Executes a batch, one request after the other. After a refusal for memory a beginning of the changes may be made.
+    pub(crate) fn execute<R: Threads + Sync>(
+        &mut self,
+        rt: &R,
+        alloc: Global,
+        batch: &Batch,
+    ) -> Result<Record, BatchRefusal>
+        ensures fits { OnOk result (NumbersFit self.old.state batch.now) }
+        ensures state { OnOk result (self.new ≡ next_of self.old batch.now) }
+        ensures record { IfOk result (λ r. IsRecordOf self.old batch.now r) }
+        ensures numbers { IfOk result HasNumbers }
+        ensures exhausted { IsErrOf result BatchRefusal.NumbersExhausted ↔ NumbersExhaust self.old.state batch.now }
+    {
+        if self.sequence == LAST_NUMBER {
+            return Err(BatchRefusal::NumbersExhausted);
         }
-        next += batch.requests.len() as u64;
-        done += 1;
+        if batch.requests.len() as u64 > LAST_NUMBER + 1 - self.next {
+            return Err(BatchRefusal::NumbersExhausted);
+        }
+        let first = self.next;
+        let replies = execute_batch(alloc, &self.catalog, &mut self.store, batch, first)?;
+        let tree = Tree::build(rt, alloc, &self.store)?;
+        let parts = TokenParts {
+            sequence: self.sequence + 1,
+            prior: self.token,
+            catalog: self.catalog_digest,
+            root: tree.root(),
+            replies: reply_digest(first, replies.as_slice()),
+        };
+        self.next += batch.requests.len() as u64;
+        self.sequence += 1;
+        self.token = parts.token();
+        Ok(Record {
+            sequence: self.sequence,
+            first,
+            replies,
+            token: self.token,
+        })
     }
-    if sink.flush().is_err() {
-        return Err(RunFault::Write);
-    }
-    Ok(done)
 }

@@ -20,6 +20,16 @@ pub enum BatchRefusal {
     NumbersExhausted,
 }
 
+impl From<Memory> for BatchRefusal {
+    ghost use Rattle.runner.specs.declared.fault.BatchRefusal.TheVariants as refused;
+
+    ghost from_gives = { λ _ refusal. refusal ≡ refused.Memory };
+
+    fn from(_: Memory) -> BatchRefusal {
+        BatchRefusal::Memory
+    }
+}
+
 impl BatchRefusal {
     /// The number by which the refusal is reported.
     pub fn code(self) -> u8

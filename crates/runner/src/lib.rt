@@ -2,13 +2,16 @@
 #![tactic(auto)]
 
 mod batch;
+mod check;
 mod engine;
 pub mod fault;
 mod make;
 mod opening;
 mod run;
+mod serving;
 mod text;
 
+pub use check::check_text;
 pub use fault::{BatchRefusal, RunFault, fault_line};
 pub use make::make_text;
 pub use run::run_text;

@@ -3,30 +3,32 @@ ghost use Rattle.std.specs.Prelude.{◌≡◌, ◌+◌, ◌<◌, ◌^◌, IfErr,
 ghost use Rattle.runner.specs.WholeRuns.{IsOfDatabase, LeavesDatabase, LeavesRun, RanOn, RanWhole, is_batches_read, is_image_read};
 ghost use Rattle.runner.specs.Runs.{is_write};
 
-use crate::engine::run_batches;
 use crate::fault::RunFault;
+use crate::serving::run_batches;
 use catalog::Catalog;
 use loader::load;
 use requests::ends::{Sink, Source};
 use requests::whole::slurp;
+use rollback::PointedStore;
 use std::alloc::Global;
-use tpcc_rows::plain::RowStore;
+use std::thread::Threads;
 
 /// The most bytes of batches.
 const MOST_BATCH_BYTES: usize = 1_073_741_824;
 
 /// Reads all bytes of batches, and runs them on a database.
-fn run_database<B: Source, S: Sink>(
+fn run_database<R: Threads + Sync, B: Source, S: Sink>(
+    rt: &R,
     alloc: Global,
-    catalog: &Catalog,
-    store: RowStore,
+    catalog: Catalog,
+    store: PointedStore,
     batches: &mut B,
     sink: &mut S,
 ) -> Result<u64, RunFault>
     requires batches { B.failed batches.old < 2 ^ 63 }
     requires sink { S.failed sink.old < 2 ^ 63 }
-    ensures ok { IfOk result (λ count. IfSome (B.left batches.old) (λ batch_bytes. RanOn (record { cards = catalog.now; rows = store }) batch_bytes (S.taken sink.old) (S.taken sink.new) count)) }
-    ensures err { IfErr result (λ e. IfSome (B.left batches.old) (λ batch_bytes. LeavesDatabase e (record { cards = catalog.now; rows = store }) batch_bytes (S.taken sink.old) (S.taken sink.new))) }
+    ensures ok { IfOk result (λ count. IfSome (B.left batches.old) (λ batch_bytes. RanOn (record { cards = catalog; rows = store.rows }) batch_bytes (S.taken sink.old) (S.taken sink.new) count)) }
+    ensures err { IfErr result (λ e. IfSome (B.left batches.old) (λ batch_bytes. LeavesDatabase e (record { cards = catalog; rows = store.rows }) batch_bytes (S.taken sink.old) (S.taken sink.new))) }
     ensures kinds { IfErr result IsOfDatabase }
     ensures batches_failures { B.failed batches.new ≡ B.failed batches.old + (if is_batches_read result then 1 else 0) }
     ensures sink_failures { S.failed sink.new ≡ S.failed sink.old + (if is_write result then 1 else 0) }
@@ -35,12 +37,13 @@ fn run_database<B: Source, S: Sink>(
         Ok(text) => text,
         Err(error) => return Err(RunFault::Read(error)),
     };
-    run_batches(alloc, catalog, store, text.as_slice(), sink)
+    run_batches(rt, alloc, catalog, store, text.as_slice(), sink)
 }
 
 /// Loads an image, reads all bytes of batches, and then reads, executes and writes batch after batch. The answer is the
 /// number of batches.
-pub fn run_text<I: Source, B: Source, S: Sink>(
+pub fn run_text<R: Threads + Sync, I: Source, B: Source, S: Sink>(
+    rt: &R,
     alloc: Global,
     image: &mut I,
     batches: &mut B,
@@ -61,5 +64,5 @@ pub fn run_text<I: Source, B: Source, S: Sink>(
         Ok(database) => database,
         Err(error) => return Err(RunFault::Load(error)),
     };
-    run_database(alloc, &catalog, store, batches, sink)
+    run_database(rt, alloc, catalog, store, batches, sink)
 }

@@ -1,5 +1,5 @@
 //! Images with the bytes that they are stored as, in the folder that the program is run in: each is loaded and stored
-//! again. And the images of two made databases, each made and stored.
+//! again. And the images of three made databases, each made and stored.
 #![tactic(auto)]
 
 ghost use Rattle.tpcc_rows.specs.Limits.{IsBetween};
@@ -92,6 +92,7 @@ fn main(rt: HostRuntime) -> ExitCode {
     }
     let one = is_in(&rt, made(rt.alloc(), 1, 45, 100), "m1.csv");
     let two = is_in(&rt, made(rt.alloc(), 2, 45, 100), "m2.csv");
-    let _ = println!(rt; "the made images are as they should be: {one} {two}");
+    let three = is_in(&rt, made(rt.alloc(), 1, 1, 101), "m3.csv");
+    let _ = println!(rt; "the made images are as they should be: {one} {two} {three}");
     ExitCode::SUCCESS
 }

@@ -6,6 +6,8 @@ pub mod NewOrders
 pub mod OrderStatuses
 pub mod Deliveries
 pub mod StockLevels
+pub mod Roots
+pub mod Tokens
 pub mod Steps
 pub mod Conditions
 pub mod Soundness

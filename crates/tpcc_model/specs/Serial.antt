@@ -1,45 +1,56 @@
 -- The answer that a run of batches is measured by: one request after the other, in batch order.
-use Rattle.std.specs.Prelude.{ℕ, ◌+◌, max, List, [], ◌∷◌, length, Option, Some, None}
-use Rattle.std.specs.List.{filter_map}
-use Rattle.std.specs.FinMap as map
+use Rattle.std.specs.Prelude.{ℕ, ◌+◌, List, [], ◌∷◌, length, Option, Some, None, unwrap_or}
 use Rattle.catalog.specs.CardMap.{Cards}
 use Rattle.requests.specs.declared.request.Batch.{Batch}
 use Rattle.requests.specs.declared.reply.Reply.{Reply}
+use Rattle.tpcc_rows.specs.Picks.{greatest, picked}
 use Rattle.tpcc_rows.specs.RowMap.{Rows}
 use Rattle.tpcc_rows.specs.declared.key.RowKey.{RowKey}
 use Rattle.tpcc_rows.specs.declared.key.RowKey.TheVariants as key
+use Rattle.tpcc_rows.specs.declared.row.Row.{Row}
 use Rattle.tpcc_model.specs.Steps.{replies, rows_after}
+use Rattle.tpcc_model.specs.Tokens.{batch_token, no_token}
 
--- the rows, and the number of the next request
+-- the rows, the number of the next request, the number of the last batch, and its token
 pub record State : Type 0 where
   pub rows : Rows
   pub next : ℕ
+  pub sequence : ℕ
+  pub token : List ℕ
 
 -- the number of a key of HISTORY
-abbrev pub history_number : RowKey → Option ℕ
-history_number (key.History n) = Some n
-history_number _ = None
-
-abbrev pub greatest_or_0 : List ℕ → ℕ
-greatest_or_0 [] = 0
-greatest_or_0 (n ∷ ns) = max n (greatest_or_0 ns)
+abbrev pub history_pick : RowKey → Row → Option ℕ
+history_pick (key.History n) _ = Some n
+history_pick _ _ = None
 
 -- one more than the greatest number of HISTORY, 1 where there is none
 unfoldable pub next_number : Rows → ℕ
-next_number rows = greatest_or_0 (filter_map (λ e. history_number e.0) (map.entries rows)) + 1
+next_number rows = unwrap_or (greatest (picked history_pick rows)) 0 + 1
 
-abbrev pub opening : Rows → State
-opening rows = record { rows = rows; next = next_number rows }
+-- the state of a database before any batch
+abbrev pub opening : Cards → Rows → State
+opening cards rows = record {
+  rows = rows;
+  next = next_number rows;
+  sequence = 0;
+  token = batch_token 0 no_token cards rows (next_number rows) [];
+}
 
 -- what the requests of a batch reply
 abbrev pub batch_replies : Cards → State → Batch → List Reply
 batch_replies cards state batch = replies (record { cards = cards; rows = state.rows }) batch.moment state.next batch.requests
 
+-- the rows that the requests of a batch leave
+abbrev pub batch_rows : Cards → State → Batch → Rows
+batch_rows cards state batch = rows_after (record { cards = cards; rows = state.rows }) batch.moment state.next batch.requests
+
 -- the state after a batch
 abbrev pub after_batch : Cards → State → Batch → State
 after_batch cards state batch = record {
-  rows = rows_after (record { cards = cards; rows = state.rows }) batch.moment state.next batch.requests;
+  rows = batch_rows cards state batch;
   next = state.next + length batch.requests;
+  sequence = state.sequence + 1;
+  token = batch_token (state.sequence + 1) state.token cards (batch_rows cards state batch) state.next (batch_replies cards state batch);
 }
 
 -- the state after batches

@@ -7,4 +7,8 @@ pub mod Changes
 pub mod Fitting
 pub mod KeyCodes
 pub mod Picks
+pub mod LeafPicks
 pub mod RowKindFacts
+pub mod Lengths
+pub mod Fields
+pub mod RowBytes

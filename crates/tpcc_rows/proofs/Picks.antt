@@ -11,17 +11,6 @@ use Rattle.tpcc_rows.specs.Picks.{picked, lesser, least, larger, greatest}
 use Rattle.tpcc_rows.proofs.Keys.{row_key_cmp_total, exact_keys}
 use Rattle.tpcc_rows.proofs.Singles.{found_first, found_later, second, ties_itself}
 
--- ---- a search through a list
--- the lesser of what is found so far and what is still to come
-abbrev pub lesser_of : Option ℕ → Option ℕ → Option ℕ
-lesser_of None later = later
-lesser_of (Some x) later = Some (lesser x later)
-
--- and the larger
-abbrev pub larger_of : Option ℕ → Option ℕ → Option ℕ
-larger_of None later = later
-larger_of (Some x) later = Some (larger x later)
-
 -- ---- what is found
 -- x is one of the list
 abbrev pub Has : {A : Type 0} → List A → A → Type 0

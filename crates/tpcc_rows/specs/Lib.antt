@@ -6,5 +6,9 @@ pub mod Rows
 pub mod Changing
 pub mod Totals
 pub mod Codes
+pub mod Leaves
+pub mod RowLimits
+pub mod Encodings
 pub mod Prices
 pub mod Picks
+pub mod LeafPicks

@@ -2,7 +2,9 @@
 //! rows, and the plain store of rows. A value that stands in a type here is within its limits.
 #![tactic(auto)]
 
+pub mod codes;
 pub mod delta;
+pub mod encoding;
 pub mod id;
 pub mod key;
 pub mod laws;
@@ -10,6 +12,7 @@ pub mod memory;
 pub mod number;
 pub mod plain;
 pub mod row;
+pub mod row_buf;
 mod searching;
 pub mod stored;
 #[cfg(test)]

@@ -1,6 +1,7 @@
 //! Rows in one map: the plain store, by which every other one is measured.
 ghost use Rattle.std.specs.Prelude.{◌≡◌, ◌<◌, ◌^◌, IfSome, OnOk, OnErr, length, option_copied, true};
 ghost use Rattle.std.specs.FinMap as map;
+ghost use Rattle.std.specs.List.{list_all};
 ghost use Rattle.serializability.specs.Changes.{changed};
 ghost use Rattle.tpcc_rows.specs.Changing.{IsMadeInPart, after, new_row_fits};
 ghost use Rattle.tpcc_rows.specs.Picks.{latest, oldest};
@@ -16,7 +17,7 @@ use crate::searching::{larger, lesser, new_pick, order_pick};
 use crate::stored::StoredRow;
 use std::alloc::Global;
 use std::collections::BTreeMap;
-use std::collections::btree_map::Iter;
+use std::collections::btree_map::{IntoIter, Iter};
 use std::marker::Model;
 
 /// A finite map from keys to rows, each row of its key's kind.
@@ -65,7 +66,8 @@ impl RowStore {
         Some(self.stored(key)?.row())
     }
 
-    fn put_stored(&mut self, key: RowKey, row: StoredRow) -> Result<(), Memory>
+    /// Puts a row that another store gave away.
+    pub fn put_stored(&mut self, key: RowKey, row: StoredRow) -> Result<(), Memory>
         requires { fits key row ≡ true }
         ensures ok { OnOk result (self.new ≡ map.insert self.old key row) }
         ensures err { OnErr result (self.new ≡ self.old) }
@@ -112,6 +114,15 @@ impl RowStore {
         ensures { result ≡ map.entries self.now }
     {
         self.rows.iter()
+    }
+
+    /// The rows in key order, given away.
+    pub fn into_rows(self) -> IntoIter<RowKey, StoredRow, Global>
+        ensures all { result ≡ map.entries self }
+        ensures kinds { list_all (λ row. fits row.0 row.1) (map.entries self) ≡ true }
+    {
+        let RowStore { rows, .. } = self;
+        rows.into_iter()
     }
 
     pub fn warehouse(&self, warehouse: WarehouseId) -> Option<&WarehouseRow>

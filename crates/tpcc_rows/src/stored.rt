@@ -22,7 +22,7 @@ impl Model for StoredRow {
 }
 
 impl StoredRow {
-    pub(crate) fn new(alloc: Global, row: Row) -> Result<StoredRow, Memory>
+    pub fn new(alloc: Global, row: Row) -> Result<StoredRow, Memory>
         ensures { IfOk result (λ stored. stored ≡ row) }
     {
         let row = Box::new(alloc, row)?;

@@ -1,4 +1,6 @@
 //! Each kind of value once, and a store with changes made.
+mod encodings;
+
 use crate::delta::Delta;
 use crate::id::{CustomerId, DistrictId, ItemId, LineNumber, OrderId, RequestNumber, WarehouseId};
 use crate::key::RowKey;

@@ -5,11 +5,11 @@ use crate::tests::{
 use catalog::Catalog;
 use requests::number::PaymentAmount;
 use requests::request::{CustomerChoice, Payment, Request};
+use rollback::PointedStore;
 use std::alloc::Global;
 use std::test::Fail;
 use tpcc_rows::key::RowKey;
 use tpcc_rows::number::Cents;
-use tpcc_rows::plain::RowStore;
 use tpcc_rows::row::{Row, WarehouseRow};
 use tpcc_rows::text::Text;
 
@@ -21,7 +21,7 @@ fn larger_catalog(alloc: Global) -> Result<Catalog, Fail> {
     Ok(Catalog::new(alloc, cards)?)
 }
 
-fn larger_store(alloc: Global) -> Result<RowStore, Fail> {
+fn larger_store(alloc: Global) -> Result<PointedStore, Fail> {
     let mut store = small_store(alloc, 1)?;
     let key = RowKey::Warehouse {
         warehouse: warehouse(1)?,

@@ -18,13 +18,13 @@ use crate::seen::{customer_seen, order_line_seen, order_seen};
 use catalog::Catalog;
 use requests::reply::{DeliveryReply, Refusal, Reply};
 use requests::request::{Delivery, RequestKind};
+use rollback::PointedStore;
 use std::alloc::Global;
 use tpcc_rows::delta::Delta;
 use tpcc_rows::id::{DistrictId, LineNumber, OrderId, WarehouseId};
 use tpcc_rows::key::RowKey;
 use tpcc_rows::memory::Memory;
 use tpcc_rows::number::Moment;
-use tpcc_rows::plain::RowStore;
 use tpcc_rows::row::{CustomerRow, OrderLineRow, OrderRow, Row};
 
 fn amount_of(line: Option<&OrderLineRow>) -> u32
@@ -39,14 +39,14 @@ fn amount_of(line: Option<&OrderLineRow>) -> u32
 
 /// The sum of OL_AMOUNT of the order's lines, as many as these.
 fn lines_amount(
-    store: &RowStore,
+    store: &PointedStore,
     changes: &Delta,
     p: &Delivery,
     district: DistrictId,
     order: OrderId,
     count: LineNumber,
 ) -> u32
-    ensures { result ≡ lines_amount (after store.now changes.now) p.now district order count }
+    ensures { result ≡ lines_amount (after store.now.rows changes.now) p.now district order count }
 {
     let mut amount = 0;
     for index in 0..usize::from(count.number()) {
@@ -74,7 +74,7 @@ fn credited(old: &CustomerRow, amount: u32) -> Result<CustomerRow, Refusal>
 
 /// One line, which gets the moment as its delivery date where it is there.
 fn line_dated(
-    store: &RowStore,
+    store: &PointedStore,
     p: &Delivery,
     moment: Moment,
     district: DistrictId,
@@ -82,7 +82,7 @@ fn line_dated(
     number: LineNumber,
     changes: &mut Delta,
 ) -> Result<(), Memory>
-    ensures { OnOk result (changes.new ≡ line_dated moment (key.OrderLine p.now.warehouse district order number) (order_line_row (after store.now changes.old) p.now.warehouse district order number) changes.old) }
+    ensures { OnOk result (changes.new ≡ line_dated moment (key.OrderLine p.now.warehouse district order number) (order_line_row (after store.now.rows changes.old) p.now.warehouse district order number) changes.old) }
 {
     let line = order_line_seen(store, changes, p.warehouse, district, order, number);
     if let Some(line) = line {
@@ -101,7 +101,7 @@ fn line_dated(
 
 /// The order's lines, as many as these, each on the rows as the earlier ones leave them.
 fn lines_dated(
-    store: &RowStore,
+    store: &PointedStore,
     p: &Delivery,
     moment: Moment,
     district: DistrictId,
@@ -109,7 +109,7 @@ fn lines_dated(
     count: LineNumber,
     changes: &mut Delta,
 ) -> Result<(), Memory>
-    ensures { OnOk result (changes.new ≡ lines_dated store.now p.now moment district order count changes.old) }
+    ensures { OnOk result (changes.new ≡ lines_dated store.now.rows p.now moment district order count changes.old) }
 {
     for index in 0..usize::from(count.number()) {
         let number = line_number(index + 1);
@@ -150,14 +150,14 @@ fn carried(
 
 #[tactic(auto, unfolding(tpcc_model::specs::Deliveries::order_delivered))]
 fn order_delivered(
-    store: &RowStore,
+    store: &PointedStore,
     p: &Delivery,
     moment: Moment,
     district: DistrictId,
     order: OrderId,
     changes: &mut Delta,
 ) -> Result<(), Fault>
-    ensures { AnswersBy (λ done. changes.new) (order_delivered store.now p.now moment district order changes.old) result }
+    ensures { AnswersBy (λ done. changes.new) (order_delivered store.now.rows p.now moment district order changes.old) result }
 {
     let row = order_seen(store, changes, p.warehouse, district, order);
     let row = *row.ok_or(Refusal::UnknownKey)?;
@@ -178,14 +178,14 @@ fn order_delivered(
 
 /// A district without a new order is skipped.
 fn oldest_delivered(
-    store: &RowStore,
+    store: &PointedStore,
     p: &Delivery,
     moment: Moment,
     district: DistrictId,
     oldest: Option<OrderId>,
     changes: &mut Delta,
 ) -> Result<(), Fault>
-    ensures { AnswersBy (λ done. changes.new) (oldest_delivered store.now p.now moment district oldest changes.old) result }
+    ensures { AnswersBy (λ done. changes.new) (oldest_delivered store.now.rows p.now moment district oldest changes.old) result }
 {
     match oldest {
         Some(order) => order_delivered(store, p, moment, district, order, changes),
@@ -194,8 +194,8 @@ fn oldest_delivered(
 }
 
 /// The oldest new order of each district.
-fn oldest_orders(store: &RowStore, warehouse: WarehouseId) -> [Option<OrderId>; 10]
-    ensures { result ≡ map (oldest store.now warehouse) ten }
+fn oldest_orders(store: &PointedStore, warehouse: WarehouseId) -> [Option<OrderId>; 10]
+    ensures { result ≡ map (oldest store.now.rows warehouse) ten }
 {
     let mut orders = [None; 10];
     for (index, district) in DistrictId::all().iter().enumerate() {
@@ -206,14 +206,14 @@ fn oldest_orders(store: &RowStore, warehouse: WarehouseId) -> [Option<OrderId>; 
 
 /// The districts in turn, each on the rows as the earlier ones leave them.
 fn districts_delivered(
-    store: &RowStore,
+    store: &PointedStore,
     p: &Delivery,
     moment: Moment,
     orders: &[Option<OrderId>; 10],
     changes: &mut Delta,
 ) -> Result<(), Fault>
-    requires { orders.now ≡ map (oldest store.now p.now.warehouse) ten }
-    ensures { AnswersBy (λ done. changes.new) (districts_delivered store.now p.now moment ten changes.old) result }
+    requires { orders.now ≡ map (oldest store.now.rows p.now.warehouse) ten }
+    ensures { AnswersBy (λ done. changes.new) (districts_delivered store.now.rows p.now moment ten changes.old) result }
 {
     for (index, district) in DistrictId::all().iter().enumerate() {
         oldest_delivered(store, p, moment, *district, orders[index], changes)?;
@@ -227,9 +227,9 @@ fn delivery(
     catalog: &Catalog,
     p: &Delivery,
     moment: Moment,
-    store: &RowStore,
+    store: &PointedStore,
 ) -> Result<(DeliveryReply, Delta), Fault>
-    ensures { AnswersBy delivered_of (delivery (record { cards = catalog.now; rows = store.now }) p.now moment) result }
+    ensures { AnswersBy delivered_of (delivery (record { cards = catalog.now; rows = store.now.rows }) p.now moment) result }
 {
     catalog.warehouse(p.warehouse).ok_or(Refusal::UnknownKey)?;
     let orders = oldest_orders(store, p.warehouse);
@@ -244,9 +244,9 @@ pub(crate) fn execute(
     catalog: &Catalog,
     p: &Delivery,
     moment: Moment,
-    store: &RowStore,
+    store: &PointedStore,
 ) -> Result<(Reply, Delta), Memory>
-    ensures { IfOk result (IsOutcome (delivery_outcome (delivery (record { cards = catalog.now; rows = store.now }) p.now moment))) }
+    ensures { IfOk result (IsOutcome (delivery_outcome (delivery (record { cards = catalog.now; rows = store.now.rows }) p.now moment))) }
 {
     match delivery(alloc, catalog, p, moment, store) {
         Ok((reply, changes)) => Ok((Reply::Delivery(reply), changes)),

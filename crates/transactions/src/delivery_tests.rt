@@ -6,12 +6,12 @@ use crate::tests::{
 };
 use catalog::Catalog;
 use requests::request::{Delivery, Request};
+use rollback::PointedStore;
 use std::alloc::Global;
 use std::test::Fail;
 use tpcc_rows::id::{LineNumber, OrderId};
 use tpcc_rows::key::RowKey;
 use tpcc_rows::number::{Carrier, Moment};
-use tpcc_rows::plain::RowStore;
 use tpcc_rows::row::Row;
 
 fn delivery(of_warehouse: u8, carrier: u8) -> Result<Request, Fail> {
@@ -25,7 +25,7 @@ fn delivery(of_warehouse: u8, carrier: u8) -> Result<Request, Fail> {
 fn order(
     alloc: Global,
     catalog: &Catalog,
-    store: &mut RowStore,
+    store: &mut PointedStore,
     of_district: u8,
     by: u16,
 ) -> Result<(), Fail> {
@@ -35,7 +35,7 @@ fn order(
 }
 
 /// C_BALANCE and C_DELIVERY_CNT of the customer.
-fn balance(store: &RowStore, of_district: u8, number: u16) -> Result<(i64, u32), Fail> {
+fn balance(store: &PointedStore, of_district: u8, number: u16) -> Result<(i64, u32), Fail> {
     let (warehouse, district) = (warehouse(1)?, district(of_district)?);
     let row = store.customer(warehouse, district, customer(number)?);
     let row = row.ok_or("a customer")?;
@@ -43,7 +43,7 @@ fn balance(store: &RowStore, of_district: u8, number: u16) -> Result<(i64, u32),
 }
 
 /// O_CARRIER_ID of the order.
-fn carrier(store: &RowStore, of_district: u8, order: u32) -> Result<Option<u8>, Fail> {
+fn carrier(store: &PointedStore, of_district: u8, order: u32) -> Result<Option<u8>, Fail> {
     let key = RowKey::Order {
         warehouse: warehouse(1)?,
         district: district(of_district)?,
@@ -54,7 +54,7 @@ fn carrier(store: &RowStore, of_district: u8, order: u32) -> Result<Option<u8>, 
 }
 
 /// OL_DELIVERY_D of the last line of the order.
-fn date(store: &RowStore, of_district: u8, order: u32) -> Result<Option<u64>, Fail> {
+fn date(store: &PointedStore, of_district: u8, order: u32) -> Result<Option<u64>, Fail> {
     let key = RowKey::OrderLine {
         warehouse: warehouse(1)?,
         district: district(of_district)?,

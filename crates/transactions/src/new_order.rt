@@ -18,13 +18,13 @@ use crate::seen::stock_seen;
 use catalog::{Catalog, CustomerCard, DistrictCard, WarehouseCard};
 use requests::reply::{LineReplies, LineReply, NewOrderReply, Refusal, Reply};
 use requests::request::{NewOrder, OrderedLine, RequestKind};
+use rollback::PointedStore;
 use std::alloc::Global;
 use tpcc_rows::delta::Delta;
 use tpcc_rows::id::{LineNumber, OrderId, WarehouseId};
 use tpcc_rows::key::RowKey;
 use tpcc_rows::memory::Memory;
 use tpcc_rows::number::{Cents, Moment};
-use tpcc_rows::plain::RowStore;
 use tpcc_rows::row::{DistrictRow, OrderRow, Row, StockRow};
 use tpcc_rows::total::total_cents;
 
@@ -110,7 +110,7 @@ fn line_done(
 
 /// All lines, each on the rows as the earlier ones leave them.
 fn lines_done(
-    store: &RowStore,
+    store: &PointedStore,
     p: &NewOrder,
     order: OrderId,
     lines: &[LineCards<'_>],
@@ -118,7 +118,7 @@ fn lines_done(
 ) -> Result<(), Fault>
     requires few { length lines.now ≤ 15 }
     requires none { so_far.old.lines ≡ [] }
-    ensures { AnswersBy (λ done. so_far_of so_far.new) (lines_done store.now p.now order 1 (map line_cards_of lines.now) (so_far_of so_far.old)) result }
+    ensures { AnswersBy (λ done. so_far_of so_far.new) (lines_done store.now.rows p.now order 1 (map line_cards_of lines.now) (so_far_of so_far.old)) result }
 {
     for (index, line) in lines.iter().enumerate() {
         let OrderedLine { item, supply, .. } = *line.ordered;
@@ -198,9 +198,9 @@ fn new_order(
     catalog: &Catalog,
     p: &NewOrder,
     moment: Moment,
-    store: &RowStore,
+    store: &PointedStore,
 ) -> Result<(NewOrderReply, Delta), Fault>
-    ensures { AnswersBy placed_order_of (new_order (record { cards = catalog.now; rows = store.now }) p.now moment) result }
+    ensures { AnswersBy placed_order_of (new_order (record { cards = catalog.now; rows = store.now.rows }) p.now moment) result }
 {
     let warehouse = catalog.warehouse(p.warehouse).ok_or(Refusal::UnknownKey)?;
     let district = catalog
@@ -234,9 +234,9 @@ pub(crate) fn execute(
     catalog: &Catalog,
     p: &NewOrder,
     moment: Moment,
-    store: &RowStore,
+    store: &PointedStore,
 ) -> Result<(Reply, Delta), Memory>
-    ensures { IfOk result (IsOutcome (new_order_outcome (new_order (record { cards = catalog.now; rows = store.now }) p.now moment))) }
+    ensures { IfOk result (IsOutcome (new_order_outcome (new_order (record { cards = catalog.now; rows = store.now.rows }) p.now moment))) }
 {
     match new_order(alloc, catalog, p, moment, store) {
         Ok((reply, changes)) => Ok((Reply::NewOrder(reply), changes)),

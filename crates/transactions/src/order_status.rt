@@ -11,16 +11,16 @@ use crate::new_order::line_number;
 use catalog::{Catalog, CustomerCard};
 use requests::reply::{OrderStatusReply, Refusal, Reply, ShownLine, ShownLines, ShownOrder};
 use requests::request::{OrderStatus, RequestKind};
+use rollback::PointedStore;
 use std::alloc::Global;
 use tpcc_rows::delta::Delta;
 use tpcc_rows::id::{CustomerId, LineNumber, OrderId};
 use tpcc_rows::key::RowKey;
 use tpcc_rows::memory::Memory;
-use tpcc_rows::plain::RowStore;
 use tpcc_rows::row::{CustomerRow, OrderLineRow, OrderRow};
 
-fn order<'a>(store: &'a RowStore, p: &OrderStatus, order: OrderId) -> Option<&'a OrderRow>
-    ensures { option_copied result ≡ order_row store.now p.now.warehouse p.now.district order }
+fn order<'a>(store: &'a PointedStore, p: &OrderStatus, order: OrderId) -> Option<&'a OrderRow>
+    ensures { option_copied result ≡ order_row store.now.rows p.now.warehouse p.now.district order }
 {
     let key = RowKey::Order {
         warehouse: p.warehouse,
@@ -31,12 +31,12 @@ fn order<'a>(store: &'a RowStore, p: &OrderStatus, order: OrderId) -> Option<&'a
 }
 
 fn order_line<'a>(
-    store: &'a RowStore,
+    store: &'a PointedStore,
     p: &OrderStatus,
     order: OrderId,
     number: LineNumber,
 ) -> Option<&'a OrderLineRow>
-    ensures { option_copied result ≡ order_line_row store.now p.now.warehouse p.now.district order number }
+    ensures { option_copied result ≡ order_line_row store.now.rows p.now.warehouse p.now.district order number }
 {
     let key = RowKey::OrderLine {
         warehouse: p.warehouse,
@@ -62,8 +62,13 @@ fn shown_line(line: &OrderLineRow) -> ShownLine
 
 /// The order's lines, in the order of their numbers.
 #[tactic(auto, unfolding(tpcc_model::specs::OrderStatuses::shown_lines))]
-fn shown_lines(store: &RowStore, p: &OrderStatus, order: OrderId, count: LineNumber) -> ShownLines
-    ensures { result ≡ shown_lines store.now p.now order count }
+fn shown_lines(
+    store: &PointedStore,
+    p: &OrderStatus,
+    order: OrderId,
+    count: LineNumber,
+) -> ShownLines
+    ensures { result ≡ shown_lines store.now.rows p.now order count }
 {
     let mut lines = ShownLines::new();
     for index in 0..usize::from(count.number()) {
@@ -75,8 +80,13 @@ fn shown_lines(store: &RowStore, p: &OrderStatus, order: OrderId, count: LineNum
 }
 
 #[tactic(auto, unfolding(tpcc_model::specs::OrderStatuses::shown_order))]
-fn shown_order(store: &RowStore, p: &OrderStatus, number: OrderId, order: &OrderRow) -> ShownOrder
-    ensures { result ≡ shown_order store.now p.now number order.now }
+fn shown_order(
+    store: &PointedStore,
+    p: &OrderStatus,
+    number: OrderId,
+    order: &OrderRow,
+) -> ShownOrder
+    ensures { result ≡ shown_order store.now.rows p.now number order.now }
 {
     ShownOrder {
         order: number,
@@ -88,8 +98,8 @@ fn shown_order(store: &RowStore, p: &OrderStatus, number: OrderId, order: &Order
 
 /// The customer's order with the greatest number.
 #[tactic(auto, unfolding(tpcc_model::specs::OrderStatuses::last_order))]
-fn last_order(store: &RowStore, p: &OrderStatus, customer: CustomerId) -> Option<ShownOrder>
-    ensures { result ≡ last_order store.now p.now customer }
+fn last_order(store: &PointedStore, p: &OrderStatus, customer: CustomerId) -> Option<ShownOrder>
+    ensures { result ≡ last_order store.now.rows p.now customer }
 {
     let number = store.last_order(p.warehouse, p.district, customer)?;
     let order = order(store, p, number)?;
@@ -98,13 +108,13 @@ fn last_order(store: &RowStore, p: &OrderStatus, customer: CustomerId) -> Option
 
 #[tactic(auto, unfolding(tpcc_model::specs::OrderStatuses::order_status_reply))]
 fn order_status_reply(
-    store: &RowStore,
+    store: &PointedStore,
     p: &OrderStatus,
     customer: CustomerId,
     card: &CustomerCard,
     row: &CustomerRow,
 ) -> OrderStatusReply
-    ensures { result ≡ order_status_reply store.now p.now customer card.now row.now }
+    ensures { result ≡ order_status_reply store.now.rows p.now customer card.now row.now }
 {
     OrderStatusReply {
         customer,
@@ -121,9 +131,9 @@ fn order_status_reply(
 fn order_status(
     catalog: &Catalog,
     p: &OrderStatus,
-    store: &RowStore,
+    store: &PointedStore,
 ) -> Result<OrderStatusReply, Refusal>
-    ensures { result ≡ order_status (record { cards = catalog.now; rows = store.now }) p.now }
+    ensures { result ≡ order_status (record { cards = catalog.now; rows = store.now.rows }) p.now }
 {
     let customer = chosen_customer(catalog, p.warehouse, p.district, &p.customer).ok_or(
         Refusal::UnknownKey,
@@ -142,9 +152,9 @@ pub(crate) fn execute(
     alloc: Global,
     catalog: &Catalog,
     p: &OrderStatus,
-    store: &RowStore,
+    store: &PointedStore,
 ) -> Result<(Reply, Delta), Memory>
-    ensures { IfOk result (IsOutcome (order_status_outcome (order_status (record { cards = catalog.now; rows = store.now }) p.now))) }
+    ensures { IfOk result (IsOutcome (order_status_outcome (order_status (record { cards = catalog.now; rows = store.now.rows }) p.now))) }
 {
     match order_status(catalog, p, store) {
         Ok(reply) => Ok((Reply::OrderStatus(reply), Delta::new(alloc))),

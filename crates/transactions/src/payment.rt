@@ -11,13 +11,13 @@ use catalog::{Catalog, Credit};
 use requests::number::PaymentAmount;
 use requests::reply::{PaymentReply, Refusal, Reply, ShownCredit};
 use requests::request::{Payment, RequestKind};
+use rollback::PointedStore;
 use std::alloc::Global;
 use tpcc_rows::delta::Delta;
 use tpcc_rows::id::{CustomerId, RequestNumber};
 use tpcc_rows::key::RowKey;
 use tpcc_rows::memory::Memory;
 use tpcc_rows::number::{Amount, Moment};
-use tpcc_rows::plain::RowStore;
 use tpcc_rows::row::{CustomerRow, DistrictRow, HistoryRow, Row, WarehouseRow};
 use tpcc_rows::text::Text;
 
@@ -146,9 +146,9 @@ fn payment(
     catalog: &Catalog,
     p: &Payment,
     moment: Moment,
-    store: &RowStore,
+    store: &PointedStore,
 ) -> Result<NewRows, Refusal>
-    ensures { result ≡ new_rows_of (payment (record { cards = catalog.now; rows = store.now }) p.now moment) }
+    ensures { result ≡ new_rows_of (payment (record { cards = catalog.now; rows = store.now.rows }) p.now moment) }
 {
     let warehouse_card = catalog.warehouse(p.warehouse).ok_or(Refusal::UnknownKey)?;
     let district_card = catalog
@@ -240,9 +240,9 @@ pub(crate) fn execute(
     p: &Payment,
     number: RequestNumber,
     moment: Moment,
-    store: &RowStore,
+    store: &PointedStore,
 ) -> Result<(Reply, Delta), Memory>
-    ensures { IfOk result (IsOutcome (payment_outcome p.now number (payment (record { cards = catalog.now; rows = store.now }) p.now moment))) }
+    ensures { IfOk result (IsOutcome (payment_outcome p.now number (payment (record { cards = catalog.now; rows = store.now.rows }) p.now moment))) }
 {
     match payment(catalog, p, moment, store) {
         Ok(rows) => {

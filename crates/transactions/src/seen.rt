@@ -4,15 +4,15 @@ ghost use Rattle.std.specs.FinMap as map;
 ghost use Rattle.tpcc_rows.specs.Changing.{after};
 ghost use Rattle.tpcc_rows.specs.Rows.{customer_row, order_line_row, order_row, stock_row};
 
+use rollback::PointedStore;
 use tpcc_rows::delta::Delta;
 use tpcc_rows::id::{CustomerId, DistrictId, ItemId, LineNumber, OrderId, WarehouseId};
 use tpcc_rows::key::RowKey;
-use tpcc_rows::plain::RowStore;
 use tpcc_rows::row::{CustomerRow, OrderLineRow, OrderRow, Row, StockRow};
 
 #[tactic(auto, using(tpcc_rows::proofs::Changes::seen))]
-fn row_seen<'a>(store: &'a RowStore, changes: &'a Delta, key: &RowKey) -> Option<&'a Row>
-    ensures { option_copied result ≡ map.get (after store.now changes.now) key.now }
+fn row_seen<'a>(store: &'a PointedStore, changes: &'a Delta, key: &RowKey) -> Option<&'a Row>
+    ensures { option_copied result ≡ map.get (after store.now.rows changes.now) key.now }
 {
     match changes.get(key) {
         Some(change) => change.as_ref(),
@@ -21,24 +21,24 @@ fn row_seen<'a>(store: &'a RowStore, changes: &'a Delta, key: &RowKey) -> Option
 }
 
 pub(crate) fn stock_seen<'a>(
-    store: &'a RowStore,
+    store: &'a PointedStore,
     changes: &'a Delta,
     warehouse: WarehouseId,
     item: ItemId,
 ) -> Option<&'a StockRow>
-    ensures { option_copied result ≡ stock_row (after store.now changes.now) warehouse item }
+    ensures { option_copied result ≡ stock_row (after store.now.rows changes.now) warehouse item }
 {
     row_seen(store, changes, &RowKey::Stock { warehouse, item })?.as_stock()
 }
 
 pub(crate) fn customer_seen<'a>(
-    store: &'a RowStore,
+    store: &'a PointedStore,
     changes: &'a Delta,
     warehouse: WarehouseId,
     district: DistrictId,
     customer: CustomerId,
 ) -> Option<&'a CustomerRow>
-    ensures { option_copied result ≡ customer_row (after store.now changes.now) warehouse district customer }
+    ensures { option_copied result ≡ customer_row (after store.now.rows changes.now) warehouse district customer }
 {
     let key = RowKey::Customer {
         warehouse,
@@ -49,13 +49,13 @@ pub(crate) fn customer_seen<'a>(
 }
 
 pub(crate) fn order_seen<'a>(
-    store: &'a RowStore,
+    store: &'a PointedStore,
     changes: &'a Delta,
     warehouse: WarehouseId,
     district: DistrictId,
     order: OrderId,
 ) -> Option<&'a OrderRow>
-    ensures { option_copied result ≡ order_row (after store.now changes.now) warehouse district order }
+    ensures { option_copied result ≡ order_row (after store.now.rows changes.now) warehouse district order }
 {
     let key = RowKey::Order {
         warehouse,
@@ -66,14 +66,14 @@ pub(crate) fn order_seen<'a>(
 }
 
 pub(crate) fn order_line_seen<'a>(
-    store: &'a RowStore,
+    store: &'a PointedStore,
     changes: &'a Delta,
     warehouse: WarehouseId,
     district: DistrictId,
     order: OrderId,
     number: LineNumber,
 ) -> Option<&'a OrderLineRow>
-    ensures { option_copied result ≡ order_line_row (after store.now changes.now) warehouse district order number }
+    ensures { option_copied result ≡ order_line_row (after store.now.rows changes.now) warehouse district order number }
 {
     let key = RowKey::OrderLine {
         warehouse,

@@ -15,25 +15,25 @@ use crate::new_order::line_number;
 use catalog::Catalog;
 use requests::reply::{Refusal, Reply, StockLevelReply};
 use requests::request::{RequestKind, StockLevel};
+use rollback::PointedStore;
 use std::alloc::{AllocError, Global};
 use std::collections::BTreeSet;
 use tpcc_rows::delta::Delta;
 use tpcc_rows::id::{ItemId, LineNumber, OrderId, WarehouseId};
 use tpcc_rows::key::RowKey;
 use tpcc_rows::memory::Memory;
-use tpcc_rows::plain::RowStore;
 use tpcc_rows::row::{OrderLineRow, StockRow};
 
-fn stock(store: &RowStore, warehouse: WarehouseId, item: ItemId) -> Option<&StockRow>
-    ensures { option_copied result ≡ stock_row store.now warehouse item }
+fn stock(store: &PointedStore, warehouse: WarehouseId, item: ItemId) -> Option<&StockRow>
+    ensures { option_copied result ≡ stock_row store.now.rows warehouse item }
 {
     store.get(&RowKey::Stock { warehouse, item })?.as_stock()
 }
 
 /// Whether the item's stock in the warehouse is low.
 #[tactic(auto, unfolding(tpcc_model::specs::StockLevels::is_low))]
-fn is_low(catalog: &Catalog, store: &RowStore, p: &StockLevel, item: ItemId) -> bool
-    ensures { result ≡ is_low (record { cards = catalog.now; rows = store.now }) p.now item }
+fn is_low(catalog: &Catalog, store: &PointedStore, p: &StockLevel, item: ItemId) -> bool
+    ensures { result ≡ is_low (record { cards = catalog.now; rows = store.now.rows }) p.now item }
 {
     match (
         catalog.stock(p.warehouse, item),
@@ -45,12 +45,12 @@ fn is_low(catalog: &Catalog, store: &RowStore, p: &StockLevel, item: ItemId) -> 
 }
 
 fn order_line<'a>(
-    store: &'a RowStore,
+    store: &'a PointedStore,
     p: &StockLevel,
     order: OrderId,
     number: LineNumber,
 ) -> Option<&'a OrderLineRow>
-    ensures { option_copied result ≡ order_line_row store.now p.now.warehouse p.now.district order number }
+    ensures { option_copied result ≡ order_line_row store.now.rows p.now.warehouse p.now.district order number }
 {
     let key = RowKey::OrderLine {
         warehouse: p.warehouse,
@@ -80,12 +80,12 @@ fn order_id(number: u32) -> OrderId
 /// Holds the item of the line too, where it is low.
 fn hold_line(
     catalog: &Catalog,
-    store: &RowStore,
+    store: &PointedStore,
     p: &StockLevel,
     line: Option<&OrderLineRow>,
     items: &mut BTreeSet<ItemId>,
 ) -> Result<(), AllocError>
-    ensures held { (xs : List ℕ) → IsHeld items.old xs → OnOk result (IsHeld items.new (with_line (record { cards = catalog.now; rows = store.now }) p.now (option_copied line.entry) xs)) }
+    ensures held { (xs : List ℕ) → IsHeld items.old xs → OnOk result (IsHeld items.new (with_line (record { cards = catalog.now; rows = store.now.rows }) p.now (option_copied line.entry) xs)) }
     ensures len { length items.new.keys ≤ length items.old.keys + 1 }
 {
     match line {
@@ -97,12 +97,12 @@ fn hold_line(
 /// Holds the low items of the order's lines too.
 fn hold_lines(
     catalog: &Catalog,
-    store: &RowStore,
+    store: &PointedStore,
     p: &StockLevel,
     order: OrderId,
     items: &mut BTreeSet<ItemId>,
 ) -> Result<(), AllocError>
-    ensures held { (xs : List ℕ) → IsHeld items.old xs → OnOk result (IsHeld items.new (with_lines (record { cards = catalog.now; rows = store.now }) p.now order 15 xs)) }
+    ensures held { (xs : List ℕ) → IsHeld items.old xs → OnOk result (IsHeld items.new (with_lines (record { cards = catalog.now; rows = store.now.rows }) p.now order 15 xs)) }
     ensures len { length items.new.keys ≤ length items.old.keys + 15 }
 {
     for index in 0..15 {
@@ -116,11 +116,11 @@ fn hold_lines(
 fn low_stock(
     alloc: Global,
     catalog: &Catalog,
-    store: &RowStore,
+    store: &PointedStore,
     p: &StockLevel,
     next: OrderId,
 ) -> Result<u32, AllocError>
-    ensures { IfOk result (λ n. n ≡ distinct_count nat_eq (low_items (record { cards = catalog.now; rows = store.now }) p.now (first_recent next) (next - first_recent next))) }
+    ensures { IfOk result (λ n. n ≡ distinct_count nat_eq (low_items (record { cards = catalog.now; rows = store.now.rows }) p.now (first_recent next) (next - first_recent next))) }
 {
     let first = next.number().saturating_sub(20).max(1);
     let mut items = BTreeSet::new(alloc);
@@ -135,9 +135,9 @@ fn stock_level(
     alloc: Global,
     catalog: &Catalog,
     p: &StockLevel,
-    store: &RowStore,
+    store: &PointedStore,
 ) -> Result<StockLevelReply, Fault>
-    ensures { AnswersBy (λ counted. counted) (stock_level (record { cards = catalog.now; rows = store.now }) p.now) result }
+    ensures { AnswersBy (λ counted. counted) (stock_level (record { cards = catalog.now; rows = store.now.rows }) p.now) result }
 {
     catalog
         .district(p.warehouse, p.district)
@@ -154,9 +154,9 @@ pub(crate) fn execute(
     alloc: Global,
     catalog: &Catalog,
     p: &StockLevel,
-    store: &RowStore,
+    store: &PointedStore,
 ) -> Result<(Reply, Delta), Memory>
-    ensures { IfOk result (IsOutcome (stock_level_outcome (stock_level (record { cards = catalog.now; rows = store.now }) p.now))) }
+    ensures { IfOk result (IsOutcome (stock_level_outcome (stock_level (record { cards = catalog.now; rows = store.now.rows }) p.now))) }
 {
     match stock_level(alloc, catalog, p, store) {
         Ok(reply) => Ok((Reply::StockLevel(reply), Delta::new(alloc))),

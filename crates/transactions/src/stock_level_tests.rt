@@ -5,9 +5,9 @@ use crate::tests::{
 use catalog::Catalog;
 use requests::number::Threshold;
 use requests::request::{Request, StockLevel};
+use rollback::PointedStore;
 use std::alloc::Global;
 use std::test::Fail;
-use tpcc_rows::plain::RowStore;
 
 fn stock_level(in_warehouse: u8, of_district: u8, threshold: u8) -> Result<Request, Fail> {
     Ok(Request::StockLevel(StockLevel {
@@ -27,7 +27,7 @@ const FROM_ELSEWHERE: [(u32, u8, u8); 5] = [(1, 2, 1), (2, 2, 1), (3, 2, 1), (4,
 fn order(
     alloc: Global,
     catalog: &Catalog,
-    store: &mut RowStore,
+    store: &mut PointedStore,
     of_district: u8,
     times: u8,
 ) -> Result<(), Fail> {

@@ -5,14 +5,15 @@ use catalog::{
     Card, Catalog, Credit, CustomerCard, DistrictCard, DistrictInfos, ItemCard, StockCard,
     WarehouseCard,
 };
+use pages::RowStore;
 use requests::request::{NewOrder, OrderedLine, OrderedLines, Request};
 use requests::{OrderedQuantity, write_reply};
+use rollback::PointedStore;
 use std::alloc::Global;
 use std::test::Fail;
 use tpcc_rows::id::{CustomerId, DistrictId, ItemId, OrderId, RequestNumber, WarehouseId};
 use tpcc_rows::key::RowKey;
 use tpcc_rows::number::{Cents, Count, Moment, Price, Rate, StockQuantity};
-use tpcc_rows::plain::RowStore;
 use tpcc_rows::row::{CustomerRow, DistrictRow, Row, StockRow};
 use tpcc_rows::text::Text;
 
@@ -119,7 +120,11 @@ fn count(value: u32) -> Result<Count, Fail> {
     Ok(Count::new(value).ok_or("a count")?)
 }
 
-fn put_district(store: &mut RowStore, district: DistrictId, next_order: u32) -> Result<(), Fail> {
+fn put_district(
+    store: &mut PointedStore,
+    district: DistrictId,
+    next_order: u32,
+) -> Result<(), Fail> {
     let key = RowKey::District {
         warehouse: warehouse(1)?,
         district,
@@ -134,7 +139,7 @@ fn put_district(store: &mut RowStore, district: DistrictId, next_order: u32) -> 
 
 /// The customer's row, with this balance.
 pub(crate) fn put_customer(
-    store: &mut RowStore,
+    store: &mut PointedStore,
     district: DistrictId,
     number: u16,
     balance: i64,
@@ -156,8 +161,8 @@ pub(crate) fn put_customer(
 }
 
 /// The rows of the districts, the customers and the stocks, where each D_NEXT_O_ID is this.
-pub(crate) fn small_store(alloc: Global, next_order: u32) -> Result<RowStore, Fail> {
-    let mut store = RowStore::new(alloc);
+pub(crate) fn small_store(alloc: Global, next_order: u32) -> Result<PointedStore, Fail> {
+    let mut store = PointedStore::new(RowStore::new(alloc)?);
     for district in DistrictId::all() {
         put_district(&mut store, district, next_order)?;
         put_customer(&mut store, district, 1, -1_000)?;
@@ -208,7 +213,7 @@ pub(crate) fn new_order(
 pub(crate) fn answer(
     alloc: Global,
     catalog: &Catalog,
-    store: &mut RowStore,
+    store: &mut PointedStore,
     number: u64,
     request: &Request,
 ) -> Result<Vec<u8>, Fail> {
@@ -225,7 +230,7 @@ pub(crate) fn answer(
 fn order_answer(
     alloc: Global,
     catalog: &Catalog,
-    store: &mut RowStore,
+    store: &mut PointedStore,
     number: u64,
     lines: &[(u32, u8, u8)],
 ) -> Result<Vec<u8>, Fail> {
@@ -295,7 +300,7 @@ const UNUSED_LAST: [(u32, u8, u8); 15] = [
     (999_999, 1, 1),
 ];
 
-fn stock(store: &RowStore, supply: u8, number: u32) -> Result<(i16, u32, u32, u32), Fail> {
+fn stock(store: &PointedStore, supply: u8, number: u32) -> Result<(i16, u32, u32, u32), Fail> {
     let key = RowKey::Stock {
         warehouse: warehouse(supply)?,
         item: item(number)?,
@@ -310,7 +315,7 @@ fn stock(store: &RowStore, supply: u8, number: u32) -> Result<(i16, u32, u32, u3
 }
 
 /// O_ALL_LOCAL of the first order.
-fn is_all_local(store: &RowStore) -> Result<bool, Fail> {
+fn is_all_local(store: &PointedStore) -> Result<bool, Fail> {
     let key = RowKey::Order {
         warehouse: warehouse(1)?,
         district: district(1)?,

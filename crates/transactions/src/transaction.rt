@@ -7,12 +7,12 @@ use crate::{delivery, new_order, order_status, payment, stock_level};
 use catalog::Catalog;
 use requests::reply::Reply;
 use requests::request::Request;
+use rollback::PointedStore;
 use std::alloc::Global;
 use tpcc_rows::delta::Delta;
 use tpcc_rows::id::RequestNumber;
 use tpcc_rows::memory::Memory;
 use tpcc_rows::number::Moment;
-use tpcc_rows::plain::RowStore;
 
 /// The reply to a request with its number, at a moment, and the rows that it changes. The database stays as it is.
 #[tactic(auto, unfolding(tpcc_model::specs::Steps::step))]
@@ -22,9 +22,9 @@ pub fn execute(
     request: &Request,
     number: RequestNumber,
     moment: Moment,
-    store: &RowStore,
+    store: &PointedStore,
 ) -> Result<(Reply, Delta), Memory>
-    ensures { IfOk result (IsOutcome (step (record { cards = catalog.now; rows = store.now }) request.now number moment)) }
+    ensures { IfOk result (IsOutcome (step (record { cards = catalog.now; rows = store.now.rows }) request.now number moment)) }
 {
     match request {
         Request::NewOrder(p) => new_order::execute(alloc, catalog, p, moment, store),

@@ -1,5 +1,5 @@
 //! Ends that fail, and ends that give or take a byte a call.
-use crate::small::{IMAGE, PAYMENTS, REPLIES};
+use crate::small::{IMAGE, PAYMENTS, PRINTED};
 use loader::LoadError;
 use requests::{BytesSink, BytesSource, FailAt, ReadError, Sink, Source};
 use runner::{RunFault, run_text};
@@ -13,24 +13,24 @@ fn a_byte_a_call(rt: HostRuntime) -> Result<(), Fail> {
     let mut batches = BytesSource::new(PAYMENTS, 1);
     let mut sink = BytesSink::new(rt.alloc(), 1);
     assert_eq!(rt;
-        run_text(rt.alloc(), &mut image, &mut batches, &mut sink)?,
+        run_text(&rt, rt.alloc(), &mut image, &mut batches, &mut sink)?,
         1
     );
-    assert_eq!(rt; sink.bytes.as_slice(), REPLIES);
+    assert_eq!(rt; sink.bytes.as_slice(), PRINTED);
     Ok(())
 }
 
 #[test]
 fn the_image_fails_at_each_call(rt: HostRuntime) -> Result<(), Fail> {
     let mut failed = 0u64;
-    for at in 0..50 {
+    for at in 0..12 {
         let mut image = FailAt::new(BytesSource::new(IMAGE, STEP), at);
         let mut batches = BytesSource::new(PAYMENTS, STEP);
         let mut sink = BytesSink::new(rt.alloc(), STEP);
-        match run_text(rt.alloc(), &mut image, &mut batches, &mut sink) {
+        match run_text(&rt, rt.alloc(), &mut image, &mut batches, &mut sink) {
             Ok(_) => {
                 assert_eq!(rt; image.failures(), 0);
-                assert_eq!(rt; sink.bytes.as_slice(), REPLIES);
+                assert_eq!(rt; sink.bytes.as_slice(), PRINTED);
             }
             Err(fault) => {
                 assert_eq!(rt; fault, RunFault::Load(LoadError::Read));
@@ -52,8 +52,8 @@ fn the_batches_fail_at_each_call(rt: HostRuntime) -> Result<(), Fail> {
         let mut image = BytesSource::new(IMAGE, STEP);
         let mut batches = FailAt::new(BytesSource::new(PAYMENTS, STEP), at);
         let mut sink = BytesSink::new(rt.alloc(), STEP);
-        match run_text(rt.alloc(), &mut image, &mut batches, &mut sink) {
-            Ok(_) => assert_eq!(rt; sink.bytes.as_slice(), REPLIES),
+        match run_text(&rt, rt.alloc(), &mut image, &mut batches, &mut sink) {
+            Ok(_) => assert_eq!(rt; sink.bytes.as_slice(), PRINTED),
             Err(fault) => {
                 assert_eq!(rt; fault, RunFault::Read(ReadError::Read));
                 assert_eq!(rt; batches.failures(), 1);
@@ -73,20 +73,20 @@ fn the_sink_fails_at_each_call(rt: HostRuntime) -> Result<(), Fail> {
         let mut image = BytesSource::new(IMAGE, STEP);
         let mut batches = BytesSource::new(PAYMENTS, STEP);
         let mut sink = FailAt::new(BytesSink::new(rt.alloc(), STEP), at);
-        let answer = run_text(rt.alloc(), &mut image, &mut batches, &mut sink);
+        let answer = run_text(&rt, rt.alloc(), &mut image, &mut batches, &mut sink);
         let written = sink.inner.bytes.as_slice();
         if answer.is_ok() {
-            assert_eq!(rt; written, REPLIES);
+            assert_eq!(rt; written, PRINTED);
         } else {
             assert_eq!(rt; answer, Err(RunFault::Write));
             assert_eq!(rt; sink.failures(), 1);
             // What was taken is a beginning of the text.
-            assert!(rt; written.len() <= REPLIES.len());
-            assert_eq!(rt; written, &REPLIES[..written.len()]);
+            assert!(rt; written.len() <= PRINTED.len());
+            assert_eq!(rt; written, &PRINTED[..written.len()]);
             failed = failed.saturating_add(1);
         }
     }
     // As many calls as the text has steps, and the flush.
-    assert_eq!(rt; failed, (REPLIES.len() as u64).div_ceil(STEP as u64) + 1);
+    assert_eq!(rt; failed, (PRINTED.len() as u64).div_ceil(STEP as u64) + 1);
     Ok(())
 }

@@ -1,5 +1,5 @@
 //! The lines of faults, and what was written before them.
-use crate::small::{IMAGE, PAYMENTS, REPLIES, run};
+use crate::small::{IMAGE, PAYMENTS, PRINTED, run};
 use loader::LoadError;
 use requests::ReadError;
 use runner::{BatchRefusal, RunFault, fault_line};
@@ -62,7 +62,7 @@ fn lines(rt: HostRuntime) -> Result<(), Fail> {
 
 #[test]
 fn an_amount_out_of_range(rt: HostRuntime) {
-    let (answer, text) = run(rt.alloc(), IMAGE, b"B,7,commit,1\nP,1,1,1,1,I,1,99\n");
+    let (answer, text) = run(&rt, IMAGE, b"B,7,commit,1\nP,1,1,1,1,I,1,99\n");
     assert_eq!(rt; answer, Err(RunFault::Read(ReadError::OutOfRange(2))));
     assert_eq!(rt; text.len(), 0);
 }
@@ -71,15 +71,15 @@ fn an_amount_out_of_range(rt: HostRuntime) {
 fn a_fault_leaves_the_text_of_earlier_batches(rt: HostRuntime) -> Result<(), Fail> {
     let mut batches = PAYMENTS.to_vec(rt.alloc())?;
     batches.extend_from_slice(b"B,5,commit,2\nP,1,1,1,1,I,1,1000\n")?;
-    let (answer, text) = run(rt.alloc(), IMAGE, batches.as_slice());
+    let (answer, text) = run(&rt, IMAGE, batches.as_slice());
     assert_eq!(rt; answer, Err(RunFault::Read(ReadError::WrongCount(7))));
-    assert_eq!(rt; text.as_slice(), REPLIES);
+    assert_eq!(rt; text.as_slice(), PRINTED);
     Ok(())
 }
 
 #[test]
 fn a_false_image(rt: HostRuntime) {
-    let (answer, text) = run(rt.alloc(), b"eve-tpcc,1\nE,1\n", PAYMENTS);
+    let (answer, text) = run(&rt, b"eve-tpcc,1\nE,1\n", PAYMENTS);
     assert_eq!(rt; answer, Err(RunFault::Load(LoadError::BadRecord(2))));
     assert_eq!(rt; text.len(), 0);
 }

@@ -20,7 +20,13 @@ E,663
 
 /// Edits of the made image, batches, and what they print.
 const IMAGES: [(Edit, &str, &str); 9] = [
-    (USED_UP, ORDER, "1,new-order,refused,3,Limit reached\n"),
+    (
+        USED_UP,
+        ORDER,
+        "1,new-order,refused,3,Limit reached
+batch,1,sequential,12af840e546c3100cdf7c14600851078ca6e372b4842631fadf08dd9ec34da03
+",
+    ),
     (
         &[
             (
@@ -30,7 +36,9 @@ const IMAGES: [(Edit, &str, &str); 9] = [
             ("E,661\n", "E,660\n"),
         ],
         ORDER,
-        "1,new-order,refused,2,Unknown key\n",
+        "1,new-order,refused,2,Unknown key
+batch,1,sequential,d53904a2efe2d6a5c4d5a491319c12df2b22e763d532a71ec43f30722a05e423
+",
     ),
     (
         &[("W,1,W1,1000,30000000\n", "W,1,W1,1000,30000001\n")],
@@ -95,7 +103,7 @@ fn images(rt: HostRuntime) -> Result<(), Fail> {
     let made = made_image(rt.alloc(), 1)?;
     for (edit, batches, wanted) in IMAGES {
         let image = edited(rt.alloc(), made.as_slice(), edit)?;
-        let text = printed(rt.alloc(), image.as_slice(), batches.as_bytes())?;
+        let text = printed(&rt, image.as_slice(), batches.as_bytes())?;
         assert_eq!(rt; text.as_slice(), wanted.as_bytes(), "not {wanted}");
     }
     Ok(())

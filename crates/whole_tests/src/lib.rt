@@ -1,8 +1,12 @@
-//! Tests that cross crates: from the bytes of an image and of batches to the bytes of the replies.
+//! Tests that cross crates: from the bytes of an image and of batches to the bytes that are written.
 #![tactic(auto)]
 
 #[cfg(test)]
 mod all_kinds;
+#[cfg(test)]
+mod batches;
+#[cfg(test)]
+mod checks;
 #[cfg(test)]
 mod ends;
 #[cfg(test)]

@@ -6,11 +6,12 @@ use catalog::Catalog;
 use loader::{load, store_image};
 use requests::request::Batch;
 use requests::{BatchReader, BytesSink, BytesSource};
+use rollback::PointedStore;
 use runner::{RunFault, fault_line, make_text};
 use std::alloc::{AllocError, Global};
 use std::test::Fail;
+use std::thread::Threads;
 use tpcc_rows::id::RequestNumber;
-use tpcc_rows::plain::RowStore;
 use transactions::execute;
 
 /// Lines of an image, each with the lines that stand in its place.
@@ -43,11 +44,15 @@ pub fn edited(alloc: Global, image: &[u8], edit: Edit) -> Result<Vec<u8>, AllocE
     Ok(text)
 }
 
-/// What a run of these batches prints: the replies, and the line of its fault.
-pub fn printed(alloc: Global, image: &[u8], batches: &[u8]) -> Result<Vec<u8>, Fail> {
-    let (answer, mut text) = run(alloc, image, batches);
+/// What a run of these batches prints: its text, and the line of its fault.
+pub fn printed<R: Threads + Sync + AllocGlobal>(
+    rt: &R,
+    image: &[u8],
+    batches: &[u8],
+) -> Result<Vec<u8>, Fail> {
+    let (answer, mut text) = run(rt, image, batches);
     if let Err(fault) = answer {
-        fault_line(alloc, &fault, &mut text)?;
+        fault_line(rt.alloc(), &fault, &mut text)?;
     }
     Ok(text)
 }
@@ -59,7 +64,7 @@ const MOST_BATCH_BYTES: usize = 1_073_741_824;
 fn execute_batch(
     alloc: Global,
     catalog: &Catalog,
-    store: &mut RowStore,
+    store: &mut PointedStore,
     batch: &Batch,
     first: u64,
 ) -> Result<u64, Fail> {
@@ -74,7 +79,7 @@ fn execute_batch(
 }
 
 /// The database of an image without history, after these batches.
-pub fn after(alloc: Global, image: &[u8], batches: &[u8]) -> Result<(Catalog, RowStore), Fail> {
+pub fn after(alloc: Global, image: &[u8], batches: &[u8]) -> Result<(Catalog, PointedStore), Fail> {
     if batches.len() > MOST_BATCH_BYTES {
         return Err("batches within the limit".into());
     }

@@ -1,6 +1,6 @@
 //! Payments by the customer's number, byte for byte.
 use crate::made::after;
-use crate::small::{IMAGE, PAYMENTS, REPLIES, run};
+use crate::small::{IMAGE, PAYMENTS, PRINTED, run};
 use runner::{BatchRefusal, RunFault};
 use std::test::Fail;
 use tpcc_rows::id::{DistrictId, RequestNumber, WarehouseId};
@@ -9,23 +9,25 @@ use tpcc_rows::row::Row;
 
 #[test]
 fn three_payments(rt: HostRuntime) -> Result<(), Fail> {
-    let (answer, text) = run(rt.alloc(), IMAGE, PAYMENTS);
+    let (answer, text) = run(&rt, IMAGE, PAYMENTS);
     assert_eq!(rt; answer?, 1);
-    assert_eq!(rt; text.as_slice(), REPLIES);
+    assert_eq!(rt; text.as_slice(), PRINTED);
     Ok(())
 }
 
 #[test]
 fn an_empty_batch(rt: HostRuntime) -> Result<(), Fail> {
-    let (answer, text) = run(rt.alloc(), IMAGE, b"B,0,commit,0\n");
+    let (answer, text) = run(&rt, IMAGE, b"B,0,commit,0\n");
     assert_eq!(rt; answer?, 1);
-    assert_eq!(rt; text.len(), 0);
+    let wanted: &[u8] =
+        b"batch,1,sequential,a6a6242c5ad8551d2d29c4fdbc72f84212e38782ca058b26ab1f0de903fac3fb\n";
+    assert_eq!(rt; text.as_slice(), wanted);
     Ok(())
 }
 
 #[test]
 fn no_batches(rt: HostRuntime) -> Result<(), Fail> {
-    let (answer, text) = run(rt.alloc(), IMAGE, b"");
+    let (answer, text) = run(&rt, IMAGE, b"");
     assert_eq!(rt; answer?, 0);
     assert_eq!(rt; text.len(), 0);
     Ok(())
@@ -35,10 +37,14 @@ fn no_batches(rt: HostRuntime) -> Result<(), Fail> {
 fn numbers_go_on_from_batch_to_batch(rt: HostRuntime) -> Result<(), Fail> {
     let batches: &[u8] =
         b"B,7,commit,1\nP,1,1,1,1,I,1,1000\nB,8,rerun,2\nP,1,1,1,1,I,1,100\nP,9,1,1,1,I,1,100\n";
-    let (answer, text) = run(rt.alloc(), IMAGE, batches);
+    let (answer, text) = run(&rt, IMAGE, batches);
     assert_eq!(rt; answer?, 2);
-    let wanted: &[u8] =
-        b"1,payment,ok,1,-2000,GC\n2,payment,ok,1,-2100,GC\n3,payment,refused,2,Unknown key\n";
+    let wanted: &[u8] = b"1,payment,ok,1,-2000,GC
+batch,1,sequential,26dd872b74606cb15e3edcb6015d1999b5fd2723a015e159ff5b7b794eaecc97
+2,payment,ok,1,-2100,GC
+3,payment,refused,2,Unknown key
+batch,2,sequential,53c03af8678e9a043340a8b5300f0716b528baa9ca68c5490651cb0cd93a1956
+";
     assert_eq!(rt; text.as_slice(), wanted);
     Ok(())
 }
@@ -60,12 +66,12 @@ D,1,10,D10,500,0,1
 C,1,1,1,NAME1,OE,F9,GC,1000,-1000,1000,1,0,
 E,12
 ";
-    let (answer, text) = run(rt.alloc(), image, b"B,0,commit,1\nP,1,2,1,1,I,1,100\n");
+    let (answer, text) = run(&rt, image, b"B,0,commit,1\nP,1,2,1,1,I,1,100\n");
     assert_eq!(rt; answer?, 1);
-    assert_eq!(rt;
-        text.as_slice(),
-        b"1,payment,refused,3,Limit reached\n".as_slice()
-    );
+    let wanted: &[u8] = b"1,payment,refused,3,Limit reached
+batch,1,sequential,f401e903db5d035d6c2545077f016a3e34b2507b36fd8b4714595eded59ef8a8
+";
+    assert_eq!(rt; text.as_slice(), wanted);
     Ok(())
 }
 
@@ -74,16 +80,18 @@ fn the_numbers_of_requests_end(rt: HostRuntime) -> Result<(), Fail> {
     let mut image = b"eve-tpcc,1\n".to_vec(rt.alloc())?;
     image.extend_from_slice(&IMAGE[11..IMAGE.len() - 5])?;
     image.extend_from_slice(b"H,999999999999999,1,1,1,1,1,0,1000,W1    D1\nE,14\n")?;
-    let (answer, text) = run(rt.alloc(), image.as_slice(), b"B,0,commit,0\n");
+    let wanted: &[u8] =
+        b"batch,1,sequential,b8eb8dd69b0475ff434d4dc51ab3bfaa9db28915b4955e1c71ff7c4d28112906\n";
+    let (answer, text) = run(&rt, image.as_slice(), b"B,0,commit,0\n");
     assert_eq!(rt; answer?, 1);
-    assert_eq!(rt; text.len(), 0);
+    assert_eq!(rt; text.as_slice(), wanted);
     let (answer, text) = run(
-        rt.alloc(),
+        &rt,
         image.as_slice(),
         b"B,0,commit,0\nB,0,commit,1\nP,1,1,1,1,I,1,100\n",
     );
     assert_eq!(rt; answer, Err(RunFault::Exec(BatchRefusal::NumbersExhausted)));
-    assert_eq!(rt; text.len(), 0);
+    assert_eq!(rt; text.as_slice(), wanted);
     Ok(())
 }
 

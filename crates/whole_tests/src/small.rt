@@ -1,7 +1,7 @@
 //! The small database that the tests run on: a warehouse, its ten districts, and two customers, one of bad credit.
 use requests::{BytesSink, BytesSource};
 use runner::{RunFault, run_text};
-use std::alloc::Global;
+use std::thread::Threads;
 
 pub const IMAGE: &[u8] = b"eve-tpcc,1
 W,1,W1,1000,30000000
@@ -26,16 +26,22 @@ P,1,2,1,1,I,10,100
 P,1,1,1,1,I,2,100
 ";
 
-pub const REPLIES: &[u8] = b"1,payment,ok,1,-2000,GC
+/// What a run of these payments prints.
+pub const PRINTED: &[u8] = b"1,payment,ok,1,-2000,GC
 2,payment,ok,10,-1100,BC,10 1 1 2 1 100|x
 3,payment,refused,2,Unknown key
+batch,1,sequential,5ab7e4d647cf0bf7ab850bed27d6dcd3d2543f4f3a41b7cbce78ed4b62c1bd4c
 ";
 
 /// What a run of these batches on this image answers, and what it wrote.
-pub fn run(alloc: Global, image: &[u8], batches: &[u8]) -> (Result<u64, RunFault>, Vec<u8>) {
+pub fn run<R: Threads + Sync + AllocGlobal>(
+    rt: &R,
+    image: &[u8],
+    batches: &[u8],
+) -> (Result<u64, RunFault>, Vec<u8>) {
     let mut image = BytesSource::new(image, 4096);
     let mut batches = BytesSource::new(batches, 4096);
-    let mut sink = BytesSink::new(alloc, 4096);
-    let answer = run_text(alloc, &mut image, &mut batches, &mut sink);
+    let mut sink = BytesSink::new(rt.alloc(), 4096);
+    let answer = run_text(rt, rt.alloc(), &mut image, &mut batches, &mut sink);
     (answer, sink.bytes)
 }

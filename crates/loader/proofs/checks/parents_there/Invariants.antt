@@ -2,7 +2,7 @@ use Rattle.std.proofs.Common.{◌≡◌, true}
 use Rattle.std.specs.List.{list_all}
 use Rattle.std.specs.FinMap as map
 use Rattle.loader.specs.Checks.{card_has_parents, row_has_parents}
-use Rattle.loader.specs.Tables.{loaded}
+use Rattle.loader.specs.Tables.{database}
 use Rattle.loader.proofs.checks.parents_there.Given as goal
 
 -- what is left decides
@@ -11,4 +11,4 @@ invariant-loop-card_key l = list_all (card_has_parents l.catalog) l.card_key-ite
 
 abbrev pub invariant-loop-row_key : goal.invariant-loop-row_key
 invariant-loop-row_key l = (list_all (card_has_parents l.catalog) (map.entries l.catalog) ≡ true)
-    × (list_all (row_has_parents (loaded (l.catalog, l.rows))) l.row_key-iterator ≡ list_all (row_has_parents (loaded (l.catalog, l.rows))) (map.entries l.rows))
+    × (list_all (row_has_parents (database l.catalog l.rows)) l.row_key-iterator ≡ list_all (row_has_parents (database l.catalog l.rows)) (map.entries l.rows))

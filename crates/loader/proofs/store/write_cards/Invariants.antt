@@ -9,7 +9,7 @@ use Rattle.loader.proofs.store.write_cards.Given as goal
 -- what is written and what is left
 abbrev pub invariant-loop-key : goal.invariant-loop-key
 invariant-loop-key l = IsWriting l.writer
-    × (written l.writer ++ text_of_records (map written_record (part_said l.part l.rows l.key-iterator))
-    ≡ written l.fn.writer ++ text_of_records (map written_record (part_said l.part l.rows (finmap.entries l.catalog))))
-    × (l.count + length (part_said l.part l.rows l.key-iterator) ≡ length (part_said l.part l.rows (finmap.entries l.catalog)))
+    × (written l.writer ++ text_of_records (map written_record (part_said l.part l.rows.rows l.key-iterator))
+    ≡ written l.fn.writer ++ text_of_records (map written_record (part_said l.part l.rows.rows (finmap.entries l.catalog))))
+    × (l.count + length (part_said l.part l.rows.rows l.key-iterator) ≡ length (part_said l.part l.rows.rows (finmap.entries l.catalog)))
     × (l.count + length l.key-iterator < 2 ^ 63)

@@ -6,5 +6,5 @@ use Rattle.runner.proofs.batch.execute_batch.Given as goal
 abbrev pub invariant-loop-request : goal.invariant-loop-request
 invariant-loop-request l =
     (l.next ≡ l.first + l.request-index)
-    × (l.replies.items ++ replies (record { cards = l.catalog; rows = l.store }) l.batch.moment l.next (drop l.request-index l.request-items) ≡ replies (record { cards = l.catalog; rows = l.fn.store }) l.batch.moment l.first l.request-items)
-    × (rows_after (record { cards = l.catalog; rows = l.store }) l.batch.moment l.next (drop l.request-index l.request-items) ≡ rows_after (record { cards = l.catalog; rows = l.fn.store }) l.batch.moment l.first l.request-items)
+    × (l.replies.items ++ replies (record { cards = l.catalog; rows = l.store.rows }) l.batch.moment l.next (drop l.request-index l.request-items) ≡ replies (record { cards = l.catalog; rows = l.fn.store.rows }) l.batch.moment l.first l.request-items)
+    × (rows_after (record { cards = l.catalog; rows = l.store.rows }) l.batch.moment l.next (drop l.request-index l.request-items) ≡ rows_after (record { cards = l.catalog; rows = l.fn.store.rows }) l.batch.moment l.first l.request-items)

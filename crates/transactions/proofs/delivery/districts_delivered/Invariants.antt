@@ -5,4 +5,4 @@ use Rattle.transactions.proofs.delivery.districts_delivered.Given as goal
 
 -- the districts that are left lead to where all of them lead
 abbrev pub invariant-loop-index : goal.invariant-loop-index
-invariant-loop-index l = districts_delivered l.store l.p l.moment (drop l.index ten) l.changes ≡ districts_delivered l.store l.p l.moment ten l.fn.changes
+invariant-loop-index l = districts_delivered l.store.rows l.p l.moment (drop l.index ten) l.changes ≡ districts_delivered l.store.rows l.p l.moment ten l.fn.changes

@@ -5,4 +5,4 @@ use Rattle.transactions.proofs.delivery.lines_amount.Given as goal
 
 -- the lines so far are added up
 abbrev pub invariant-loop-index : goal.invariant-loop-index
-invariant-loop-index l = (l.amount ≡ lines_amount (after l.store l.changes) l.p l.district l.order l.index) × (l.amount ≤ 999999 * l.index)
+invariant-loop-index l = (l.amount ≡ lines_amount (after l.store.rows l.changes) l.p l.district l.order l.index) × (l.amount ≤ 999999 * l.index)

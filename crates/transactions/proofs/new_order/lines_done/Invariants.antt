@@ -6,5 +6,5 @@ use Rattle.transactions.proofs.new_order.lines_done.Given as goal
 -- the lines that are left lead to where all of them lead
 abbrev pub invariant-loop-index : goal.invariant-loop-index
 invariant-loop-index l =
-    (lines_done l.store l.p l.order (l.index + 1) (map line_cards_of (drop l.index l.lines)) (so_far_of l.so_far) ≡ lines_done l.store l.p l.order 1 (map line_cards_of l.lines) (so_far_of l.fn.so_far))
+    (lines_done l.store.rows l.p l.order (l.index + 1) (map line_cards_of (drop l.index l.lines)) (so_far_of l.so_far) ≡ lines_done l.store.rows l.p l.order 1 (map line_cards_of l.lines) (so_far_of l.fn.so_far))
     × (length l.so_far.lines ≡ l.index)

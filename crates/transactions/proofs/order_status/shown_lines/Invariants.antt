@@ -4,4 +4,4 @@ use Rattle.transactions.proofs.order_status.shown_lines.Given as goal
 
 -- the lines so far
 abbrev pub invariant-loop-index : goal.invariant-loop-index
-invariant-loop-index l = (l.lines ≡ shown_lines l.store l.p l.order l.index) × (length l.lines ≤ l.index)
+invariant-loop-index l = (l.lines ≡ shown_lines l.store.rows l.p l.order l.index) × (length l.lines ≤ l.index)

@@ -1,0 +1,170 @@
+//! The tree of hashes against SHA-256 of the same bytes alone, and look-ups on pages against those in one map.
+use crate::images::{Population, image, with_stocks};
+use crate::loading::made_image;
+use crate::timing::{print_ratio, print_share};
+use loader::{load, make};
+use merkle::Tree;
+use requests::BytesSource;
+use rollback::PointedStore;
+use sha2::{Digest, Sha256};
+use std::alloc::Global;
+use std::io;
+use std::rt::Clock;
+use std::thread::Threads;
+use std::time::{Duration, Instant};
+use tpcc_rows::codes::LEAVES;
+use tpcc_rows::encoding::encode_row;
+use tpcc_rows::id::{ItemId, WarehouseId};
+use tpcc_rows::key::RowKey;
+use tpcc_rows::plain;
+use tpcc_rows::row::fits;
+use tpcc_rows::row_buf::RowBuf;
+
+fn invalid() -> io::Error {
+    io::ErrorKind::InvalidData.into()
+}
+
+/// The bytes of all rows, leaf by leaf.
+fn encoded(alloc: Global, store: &PointedStore) -> io::Result<Vec<u8>> {
+    let mut bytes = Vec::new(alloc);
+    let mut buffer = RowBuf::new();
+    for leaf in 0..LEAVES {
+        for (key, row) in store.page(leaf).iter() {
+            encode_row(key, row.row(), &mut buffer);
+            bytes.extend_from_slice(buffer.as_slice())?;
+        }
+    }
+    Ok(bytes)
+}
+
+fn hash_alone(rt: &impl Clock, bytes: &[u8]) -> io::Result<(Duration, u8)> {
+    let start = Instant::now(rt)?;
+    let digest = Sha256::digest(bytes);
+    Ok((start.elapsed(rt)?, digest[0]))
+}
+
+/// Encodes all rows, and counts their bytes.
+fn encode_alone(rt: &impl Clock, store: &PointedStore) -> io::Result<(Duration, u64)> {
+    let start = Instant::now(rt)?;
+    let mut buffer = RowBuf::new();
+    let mut count = 0u64;
+    for leaf in 0..LEAVES {
+        for (key, row) in store.page(leaf).iter() {
+            encode_row(key, row.row(), &mut buffer);
+            count = count.wrapping_add(buffer.as_slice().len() as u64);
+        }
+    }
+    Ok((start.elapsed(rt)?, count))
+}
+
+fn build<R: Clock + AllocGlobal + Threads + Sync>(
+    rt: &R,
+    store: &PointedStore,
+) -> io::Result<(Duration, u8)> {
+    let start = Instant::now(rt)?;
+    let tree = Tree::build(rt, rt.alloc(), store).map_err(|_| invalid())?;
+    Ok((start.elapsed(rt)?, tree.root()[0]))
+}
+
+/// The numbers of the items in an order without a pattern.
+fn scattered(turn: u32) -> u32 {
+    turn.wrapping_mul(48_271) % 100_000 + 1
+}
+
+fn stock_key(turn: u32) -> io::Result<RowKey> {
+    let warehouse = WarehouseId::new(1).ok_or(invalid())?;
+    let item = ItemId::new(scattered(turn)).ok_or(invalid())?;
+    Ok(RowKey::Stock { warehouse, item })
+}
+
+fn look_up_on_pages(rt: &impl Clock, store: &PointedStore) -> io::Result<(Duration, u64)> {
+    let start = Instant::now(rt)?;
+    let mut found = 0u64;
+    for turn in 0..100_000u32 {
+        if store.get(&stock_key(turn)?).is_some() {
+            found = found.wrapping_add(1);
+        }
+    }
+    Ok((start.elapsed(rt)?, found))
+}
+
+fn look_up_in_one_map(rt: &impl Clock, store: &plain::RowStore) -> io::Result<(Duration, u64)> {
+    let start = Instant::now(rt)?;
+    let mut found = 0u64;
+    for turn in 0..100_000u32 {
+        if store.get(&stock_key(turn)?).is_some() {
+            found = found.wrapping_add(1);
+        }
+    }
+    Ok((start.elapsed(rt)?, found))
+}
+
+/// The same rows in one map.
+fn in_one_map(alloc: Global, store: &PointedStore) -> io::Result<plain::RowStore> {
+    let mut rows = plain::RowStore::new(alloc);
+    for leaf in 0..LEAVES {
+        for (key, row) in store.page(leaf).iter() {
+            if fits(key, row.row()) {
+                rows.put(*key, row.row().copied()).map_err(|_| invalid())?;
+            }
+        }
+    }
+    Ok(rows)
+}
+
+fn measure_look_ups<R: Clock + Eprint + AllocGlobal>(
+    rt: &R,
+    store: &PointedStore,
+) -> io::Result<()> {
+    let rows = in_one_map(rt.alloc(), store)?;
+    let (mut paged, mut alone) = (
+        look_up_on_pages(rt, store)?.0,
+        look_up_in_one_map(rt, &rows)?.0,
+    );
+    for _ in 0..4 {
+        paged = paged.min(look_up_on_pages(rt, store)?.0);
+        alone = alone.min(look_up_in_one_map(rt, &rows)?.0);
+    }
+    print_ratio(
+        rt,
+        "100,000 look-ups on pages",
+        paged,
+        "those in one map",
+        alone,
+    );
+    Ok(())
+}
+
+fn measure_tree<R: Clock + Eprint + AllocGlobal + Threads + Sync>(
+    rt: &R,
+    what: &str,
+    store: &PointedStore,
+) -> io::Result<()> {
+    let bytes = encoded(rt.alloc(), store)?;
+    let mut alone = hash_alone(rt, &bytes)?.0;
+    let mut encode = encode_alone(rt, store)?.0;
+    let mut built = build(rt, store)?.0;
+    for _ in 0..4 {
+        alone = alone.min(hash_alone(rt, &bytes)?.0);
+        encode = encode.min(encode_alone(rt, store)?.0);
+        built = built.min(build(rt, store)?.0);
+    }
+    let _ = eprintln!(rt; "{what}: {} bytes of rows", bytes.len());
+    print_ratio(rt, "building the tree", built, "SHA-256 alone", alone);
+    print_share(rt, "encoding alone, of hashing", encode, alone);
+    Ok(())
+}
+
+/// A warehouse of full scale whose customers' data are of the standard's length, and the database of `make 1 3000
+/// 100000`: each the best of five. How much faster more processors are is seen by running it on one, two and four of
+/// them.
+pub fn measure<R: Clock + Eprint + AllocGlobal + Threads + Sync>(rt: &R) -> io::Result<()> {
+    let (_, made) = make(rt.alloc(), 1, 3000, 100_000).map_err(|_| invalid())?;
+    let customers = image(rt.alloc(), 1, 3000, Population::Standard)?;
+    let text = with_stocks(rt.alloc(), &customers, &made_image(rt.alloc(), 1, 100_000)?)?;
+    let loaded = load(rt.alloc(), &mut BytesSource::new(&text, 65_536));
+    let (_, standard) = loaded.map_err(|_| invalid())?;
+    measure_tree(rt, "a warehouse of full scale", &standard)?;
+    measure_tree(rt, "make 1 3000 100000", &made)?;
+    measure_look_ups(rt, &made)
+}

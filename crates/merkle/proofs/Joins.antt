@@ -1,0 +1,79 @@
+-- Joins in a list of nodes, and the node that each place holds.
+use Rattle.std.proofs.Common.{◌≡◌, ◌≢◌, inl, inr, ℕ, zero, suc, ◌+◌, ◌*◌, ◌<◌, ◌≤◌, List, [], ◌∷◌, ◌++◌, length, get_or, set, drop, refl, sym, ap, subst, ◌∙◌, arith}
+use Rattle.std.proofs.lemmas.List.{get_or-set_same, get_or-set_other}
+use Rattle.std.proofs.lemmas.Bool.Decides.{eqb_tells}
+use Rattle.std.proofs.Math.Seq.{drop-append_seam}
+use Rattle.merkle.specs.Nodes.{at, IsJoin, IsTree, IsOf}
+use Rattle.tpcc_model.specs.Roots.{joined, leaf_hash, node, root}
+use Rattle.tpcc_rows.specs.RowMap.{Rows}
+
+-- ---- one node set anew
+module _ (nodes : List (List ℕ)) (i : ℕ) (x : List ℕ) (positive : 1 ≤ i) (inside : i < 4096) (full : length nodes ≡ 8192) where
+  at-other : (j : ℕ) → j ≢ i → at (set nodes i x) j ≡ at nodes j
+  at-other j ne = get_or-set_other nodes i j x [] ne
+
+  other : (j : ℕ) → j ≢ i → 2 * j ≢ i → 2 * j + 1 ≢ i → IsJoin nodes j → IsJoin (set nodes i x) j
+  other j a b c h = record { join = at-other j a ∙ h.join ∙ ap (λ y. joined y (at nodes (2 * j + 1))) (sym (at-other (2 * j) b)) ∙ ap (joined (at (set nodes i x) (2 * j))) (sym (at-other (2 * j + 1) c)) }
+
+  same : x ≡ joined (at nodes (2 * i)) (at nodes (2 * i + 1)) → IsJoin (set nodes i x) i
+  same e = let here : i < length nodes = omega arith in record { join = get_or-set_same nodes i x [] here ∙ e ∙ ap (λ y. joined y (at nodes (2 * i + 1))) (sym (at-other (2 * i) (λ e. omega arith))) ∙ ap (joined (at (set nodes i x) (2 * i))) (sym (at-other (2 * i + 1) (λ e. omega arith))) }
+
+  -- joins from i + 1 on are joins from i on, once i is the hash of its children
+  pub joins-done : x ≡ joined (at nodes (2 * i)) (at nodes (2 * i + 1)) → ((j : ℕ) → i + 1 ≤ j → j < 4096 → IsJoin nodes j) → (j : ℕ) → i ≤ j → j < 4096 → IsJoin (set nodes i x) j
+  joins-done e h j low high = elim (eqb_tells j i) [
+    | inl t ↦ subst (λ k. IsJoin (set nodes i x) k) (sym t.1) (same e)
+    | inr t ↦ let ne : j ≢ i = t.1 in other j ne (λ e. omega arith) (λ e. omega arith) (h j (omega arith) high)
+  ]
+
+-- ---- heights
+-- a level of b nodes at this height has 4,096 leaves below
+abbrev pub IsWidth : ℕ → ℕ → Type 0
+IsWidth zero b = b ≡ 4096
+IsWidth (suc height) b = IsWidth height (2 * b)
+
+width_le : (height b : ℕ) → IsWidth height b → b ≤ 4096
+width_le zero b e = omega arith
+width_le (suc height) b e = let k = width_le height (2 * b) e in omega arith
+
+-- the place b + n holds the node of this height and number n
+at-node : (nodes : List (List ℕ)) → IsTree nodes → (height b : ℕ) → IsWidth height b → (n : ℕ) → n < b → at nodes (b + n) ≡ node (λ m. at nodes (4096 + m)) height n
+unfolding node
+at-node nodes tree zero b w n small = ap (λ c. at nodes (c + n)) w
+at-node nodes tree (suc height) b w n small =
+    let k = width_le height (2 * b) w in
+    let left : 2 * (b + n) ≡ 2 * b + 2 * n = omega arith in
+    let right : 2 * (b + n) + 1 ≡ 2 * b + (2 * n + 1) = omega arith in
+    (tree.joins (b + n) (omega arith) (omega arith)).join
+    ∙ ap (λ i. joined (at nodes i) (at nodes (2 * (b + n) + 1))) left ∙ ap (λ i. joined (at nodes (2 * b + 2 * n)) (at nodes i)) right
+    ∙ ap (λ y. joined y (at nodes (2 * b + (2 * n + 1)))) (at-node nodes tree height (2 * b) w (2 * n) (omega arith))
+    ∙ ap (joined (node (λ m. at nodes (4096 + m)) height (2 * n))) (at-node nodes tree height (2 * b) w (2 * n + 1) (omega arith))
+
+-- nodes over leaf hashes that agree are the same
+node-alike : (f g : ℕ → List ℕ) → ((n : ℕ) → n < 4096 → f n ≡ g n) → (height b : ℕ) → IsWidth height b → (n : ℕ) → n < b → node f height n ≡ node g height n
+unfolding node
+node-alike f g e zero b w n small = e n (omega arith)
+node-alike f g e (suc height) b w n small =
+    ap (λ y. joined y (node f height (2 * n + 1))) (node-alike f g e height (2 * b) w (2 * n) (omega arith))
+    ∙ ap (joined (node g height (2 * n))) (node-alike f g e height (2 * b) w (2 * n + 1) (omega arith))
+
+-- ---- leaves
+pub leaves_after : (above leaves : List (List ℕ)) → length above ≡ 4096 → drop 4096 (above ++ leaves) ≡ leaves
+leaves_after above leaves e = subst (λ k. drop k (above ++ leaves) ≡ leaves) e (drop-append_seam above leaves)
+
+at-drop : (k n : ℕ) (nodes : List (List ℕ)) → at (drop k nodes) n ≡ at nodes (k + n)
+at-drop zero n nodes = let e : n ≡ 0 + n = omega arith in ap (at nodes) e
+at-drop (suc k) n [] = refl
+at-drop (suc k) n (x ∷ nodes) = at-drop k n nodes ∙ (let e : suc (k + n) ≡ suc k + n = omega arith in ap (at (x ∷ nodes)) e)
+
+pub at-leaf : (nodes : List (List ℕ)) (n : ℕ) → at (drop 4096 nodes) n ≡ at nodes (4096 + n)
+at-leaf nodes n = at-drop 4096 n nodes
+
+-- the node at 1 is the root from scratch
+pub at-root : (nodes : List (List ℕ)) → IsTree nodes → (rows : Rows) → IsOf (drop 4096 nodes) rows → at nodes 1 ≡ root rows
+unfolding root
+at-root nodes tree rows h = at-node nodes tree 12 1 refl 0 (omega arith) ∙ node-alike (λ m. at nodes (4096 + m)) (leaf_hash rows) (λ n small. sym (at-leaf nodes n) ∙ h.each n small) 12 1 refl 0 (omega arith)
+
+pub at-default : (nodes : List (List ℕ)) (i : ℕ) (d : List ℕ) → i < length nodes → get_or nodes i d ≡ at nodes i
+at-default [] i d h = absurd (omega arith)
+at-default (x ∷ nodes) zero d h = refl
+at-default (x ∷ nodes) (suc i) d h = at-default nodes i d (omega arith)

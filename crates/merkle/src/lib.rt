@@ -1,0 +1,8 @@
+//! The tree of hashes over the rows: the hash of each leaf and of each node above, and the root.
+#![tactic(auto)]
+
+pub mod hashing;
+mod leaves;
+pub mod tree;
+
+pub use tree::Tree;

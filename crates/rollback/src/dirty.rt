@@ -1,0 +1,55 @@
+//! Sets of leaves.
+ghost use Rattle.std.specs.Prelude.{◌≡◌, ◌<◌};
+ghost use Rattle.rollback.specs.Marks.{AreClean, HasAlso, is_dirty};
+
+use std::marker::Model;
+use std::mem;
+use tpcc_rows::codes::LEAVES;
+
+/// A set of leaves.
+#[derive(Drop)]
+pub struct Dirty {
+    marks: [bool; LEAVES],
+}
+
+impl Model for Dirty {
+    ghost use Rattle.std.specs.Prelude.{List, Bool};
+
+    ghost Value = { List Bool };
+
+    ghost view = { λ s. s.marks };
+}
+
+impl Dirty {
+    /// No leaves.
+    pub(crate) fn new() -> Dirty
+        ensures { AreClean result }
+    {
+        Dirty {
+            marks: [false; LEAVES],
+        }
+    }
+
+    /// Whether the leaf is in the set.
+    pub fn has(&self, leaf: usize) -> bool
+        requires { leaf < 4096 }
+        ensures { result ≡ is_dirty self.now leaf }
+    {
+        self.marks[leaf]
+    }
+
+    pub(crate) fn add(&mut self, leaf: usize)
+        requires { leaf < 4096 }
+        ensures { HasAlso self.old leaf self.new }
+    {
+        self.marks[leaf] = true;
+    }
+
+    /// The set as it was; it is empty from now on.
+    pub(crate) fn take(&mut self) -> Dirty
+        ensures taken { result ≡ self.old }
+        ensures clean { AreClean self.new }
+    {
+        mem::replace(self, Dirty::new())
+    }
+}

@@ -1,9 +1,0 @@
-use Rattle.std.proofs.Common.{◌≡◌, ◌+◌, ◌++◌, drop}
-use Rattle.runner.specs.Text.{replies_text}
-use Rattle.runner.proofs.text.replies_text.Given as goal
-
--- the text so far, and that of the replies that are left
-abbrev pub invariant-loop-reply : goal.invariant-loop-reply
-invariant-loop-reply l =
-    (l.next ≡ l.first + l.reply-index)
-    × (l.text.items ++ replies_text l.next (drop l.reply-index l.replies) ≡ replies_text l.first l.replies)

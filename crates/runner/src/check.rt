@@ -1,0 +1,82 @@
+//! From the bytes of an image to the line that says what it holds.
+ghost use Rattle.std.specs.Prelude.{◌≡◌, ◌+◌, ◌<◌, ◌^◌, IfErr, IfOk, IfSome, OnOk, if◌then◌else◌};
+ghost use Rattle.std.specs.Io.KnownBytes.{Appends};
+ghost use Rattle.runner.specs.CheckTexts.{ChecksImage, LeavesCheck, check_text, warehouse_count};
+ghost use Rattle.runner.specs.Runs.{is_write};
+ghost use Rattle.runner.specs.WholeRuns.{is_image_read};
+
+use crate::engine::Engine;
+use crate::fault::{BatchRefusal, RunFault};
+use crate::text::digits_of;
+use catalog::Catalog;
+use catalog::card::CardKey;
+use itoa::Buffer;
+use loader::load;
+use requests::ends::{Sink, Source};
+use requests::whole::push_all;
+use std::alloc::Global;
+use std::thread::Threads;
+use tpcc_rows::memory::Memory;
+
+/// How many warehouses there are.
+fn warehouse_count(catalog: &Catalog) -> usize
+    ensures { result ≡ warehouse_count catalog.now }
+{
+    let mut count = 0;
+    let _cards = catalog.len();
+    for (key, _) in catalog.cards() {
+        if let CardKey::Warehouse { .. } = key {
+            count += 1;
+        }
+    }
+    count
+}
+
+/// The line of a database before any batch.
+fn line_of(alloc: Global, engine: &Engine) -> Result<Vec<u8>, Memory>
+    ensures { IfOk result (λ line. line.items ≡ check_text engine.now) }
+{
+    let mut line = Vec::new(alloc);
+    let mut buffer = Buffer::new();
+    line.extend_from_slice(b"ok ")?;
+    line.extend_from_slice(buffer.format(warehouse_count(engine.catalog())).as_bytes())?;
+    line.extend_from_slice(b" ")?;
+    line.extend_from_slice(buffer.format(engine.store().len()).as_bytes())?;
+    line.extend_from_slice(b" ")?;
+    line.extend_from_slice(&digits_of(&engine.token()))?;
+    line.extend_from_slice(b"\n")?;
+    Ok(line)
+}
+
+/// Loads an image, and writes a line with the numbers of its warehouses and of its rows, and its token.
+pub fn check_text<R: Threads + Sync, I: Source, S: Sink>(
+    rt: &R,
+    alloc: Global,
+    image: &mut I,
+    sink: &mut S,
+) -> Result<(), RunFault>
+    requires image { I.failed image.old < 2 ^ 63 }
+    requires sink { S.failed sink.old < 2 ^ 63 }
+    ensures ok { OnOk result (IfSome (I.left image.old) (λ bytes. ChecksImage bytes (S.taken sink.old) (S.taken sink.new))) }
+    ensures err { IfErr result (λ e. IfSome (I.left image.old) (λ bytes. LeavesCheck e bytes (S.taken sink.old) (S.taken sink.new))) }
+    ensures image_failures { I.failed image.new ≡ I.failed image.old + (if is_image_read result then 1 else 0) }
+    ensures sink_failures { S.failed sink.new ≡ S.failed sink.old + (if is_write result then 1 else 0) }
+{
+    let (catalog, store) = match load(alloc, image) {
+        Ok(database) => database,
+        Err(error) => return Err(RunFault::Load(error)),
+    };
+    let Ok(engine) = Engine::new(rt, alloc, catalog, store) else {
+        return Err(RunFault::Exec(BatchRefusal::Memory));
+    };
+    let Ok(line) = line_of(alloc, &engine) else {
+        return Err(RunFault::Memory);
+    };
+    if push_all(sink, line.as_slice()).is_err() {
+        return Err(RunFault::Write);
+    }
+    if sink.flush().is_err() {
+        return Err(RunFault::Write);
+    }
+    Ok(())
+}

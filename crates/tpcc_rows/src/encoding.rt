@@ -1,0 +1,149 @@
+//! The bytes of rows.
+ghost use Rattle.std.specs.Prelude.{◌≡◌, ◌≤◌, ◌+◌, ◌++◌, length};
+ghost use Rattle.tpcc_rows.specs.Encodings.{maybe_moment, row_body, row_bytes, sized};
+ghost use Rattle.tpcc_rows.specs.declared.row.Row.TheVariants.{Customer, District, History, Order, OrderLine, Stock, Warehouse};
+
+use crate::codes::code;
+use crate::key::RowKey;
+use crate::number::{Carrier, Moment};
+use crate::row::{
+    CustomerRow, DistrictRow, HistoryRow, OrderLineRow, OrderRow, Row, StockRow, WarehouseRow,
+};
+use crate::row_buf::RowBuf;
+
+#[tactic(auto, using(crate::proofs::Lengths::lengths))]
+fn push_warehouse(row: &WarehouseRow, out: &mut RowBuf)
+    requires { length out.old ≤ 8 }
+    ensures { out.new ≡ out.old ++ sized (row_body (Warehouse row.now)) }
+{
+    out.push_16(8);
+    out.push_64(row.ytd.amount().cast_unsigned());
+}
+
+#[tactic(auto, using(crate::proofs::Lengths::lengths))]
+fn push_district(row: &DistrictRow, out: &mut RowBuf)
+    requires { length out.old ≤ 8 }
+    ensures { out.new ≡ out.old ++ sized (row_body (District row.now)) }
+{
+    out.push_16(12);
+    out.push_64(row.ytd.amount().cast_unsigned());
+    out.push_32(row.next_order.number());
+}
+
+#[tactic(auto, using(crate::proofs::Lengths::lengths))]
+fn push_customer(row: &CustomerRow, out: &mut RowBuf)
+    requires { length out.old ≤ 8 }
+    ensures { out.new ≡ out.old ++ sized (row_body (Customer row.now)) }
+{
+    let data = row.data.as_bytes();
+    let data_len = data.len() as u16;
+    out.push_16(26 + data_len);
+    out.push_64(row.balance.amount().cast_unsigned());
+    out.push_64(row.ytd_payment.amount().cast_unsigned());
+    out.push_32(row.payment_count.value());
+    out.push_32(row.delivery_count.value());
+    out.push_16(data_len);
+    out.push(data);
+}
+
+#[tactic(auto, using(crate::proofs::Lengths::lengths))]
+fn push_stock(row: &StockRow, out: &mut RowBuf)
+    requires { length out.old ≤ 8 }
+    ensures { out.new ≡ out.old ++ sized (row_body (Stock row.now)) }
+{
+    out.push_16(16);
+    out.push_32(i32::from(row.quantity.value()).cast_unsigned());
+    out.push_32(row.ytd.value());
+    out.push_32(row.order_count.value());
+    out.push_32(row.remote_count.value());
+}
+
+#[tactic(auto, using(crate::proofs::Lengths::lengths))]
+fn push_order(row: &OrderRow, out: &mut RowBuf)
+    requires { length out.old ≤ 8 }
+    ensures { out.new ≡ out.old ++ sized (row_body (Order row.now)) }
+{
+    out.push_16(13);
+    out.push_16(row.customer.number());
+    out.push_64(row.entry.seconds());
+    out.push_8(row.carrier.map_or(0, Carrier::number));
+    out.push_8(row.line_count.number());
+    out.push_8(u8::from(row.all_local));
+}
+
+/// Whether there is a moment, in one byte, and the moment or 0.
+#[tactic(auto, using(crate::proofs::Lengths::lengths))]
+pub fn push_maybe_moment(moment: Option<Moment>, out: &mut RowBuf)
+    requires { length out.old ≤ 500 }
+    ensures value { out.new ≡ out.old ++ maybe_moment moment }
+    ensures len { length out.new ≡ length out.old + 9 }
+{
+    match moment {
+        None => {
+            out.push_8(0);
+            out.push_64(0);
+        }
+        Some(moment) => {
+            out.push_8(1);
+            out.push_64(moment.seconds());
+        }
+    }
+}
+
+#[tactic(auto, using(crate::proofs::Lengths::lengths))]
+fn push_order_line(row: &OrderLineRow, out: &mut RowBuf)
+    requires { length out.old ≤ 8 }
+    ensures { out.new ≡ out.old ++ sized (row_body (OrderLine row.now)) }
+{
+    let district_info = row.district_info.as_bytes();
+    out.push_16(20 + district_info.len() as u16);
+    out.push_32(row.item.number());
+    out.push_8(row.supply.number());
+    push_maybe_moment(row.delivery, out);
+    out.push_8(row.quantity.value());
+    out.push_32(row.amount.cents());
+    out.push_short(district_info);
+}
+
+#[tactic(auto, using(crate::proofs::Lengths::lengths))]
+fn push_history(row: &HistoryRow, out: &mut RowBuf)
+    requires { length out.old ≤ 8 }
+    ensures { out.new ≡ out.old ++ sized (row_body (History row.now)) }
+{
+    let data = row.data.as_bytes();
+    out.push_16(19 + data.len() as u16);
+    out.push_16(row.customer.number());
+    out.push_8(row.customer_district.number());
+    out.push_8(row.customer_warehouse.number());
+    out.push_8(row.district.number());
+    out.push_8(row.warehouse.number());
+    out.push_64(row.date.seconds());
+    out.push_32(row.amount.cents());
+    out.push_short(data);
+}
+
+fn push_row(row: &Row, out: &mut RowBuf)
+    requires { length out.old ≤ 8 }
+    ensures { out.new ≡ out.old ++ sized (row_body row.now) }
+{
+    match row {
+        Row::Warehouse(row) => push_warehouse(row, out),
+        Row::District(row) => push_district(row, out),
+        Row::Customer(row) => push_customer(row, out),
+        Row::Stock(row) => push_stock(row, out),
+        Row::Order(row) => push_order(row, out),
+        Row::NewOrder => out.push_16(0),
+        Row::OrderLine(row) => push_order_line(row, out),
+        Row::History(row) => push_history(row, out),
+    }
+}
+
+/// Fills the buffer anew with the bytes of a row.
+#[tactic(auto, unfolding(crate::specs::Encodings::row_bytes))]
+pub fn encode_row(key: &RowKey, row: &Row, out: &mut RowBuf)
+    ensures { out.new ≡ row_bytes key.now row.now }
+{
+    out.clear();
+    out.push_64(code(key));
+    push_row(row, out);
+}
