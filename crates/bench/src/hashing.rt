@@ -8,17 +8,22 @@ use requests::BytesSource;
 use rollback::PointedStore;
 use sha2::{Digest, Sha256};
 use std::alloc::Global;
+use std::collections::btree_map::Iter;
 use std::io;
 use std::rt::Clock;
 use std::thread::Threads;
 use std::time::{Duration, Instant};
 use tpcc_rows::codes::LEAVES;
-use tpcc_rows::encoding::encode_row;
+use tpcc_rows::encoding::{append_row, encode_row, enough_bytes};
 use tpcc_rows::id::{ItemId, WarehouseId};
 use tpcc_rows::key::RowKey;
 use tpcc_rows::plain;
 use tpcc_rows::row::fits;
-use tpcc_rows::row_buf::RowBuf;
+use tpcc_rows::row_buf::{ByteBuf, RowBuf};
+use tpcc_rows::stored::StoredRow;
+
+/// How often each time is taken anew; the least counts.
+const ROUNDS: u32 = 19;
 
 fn invalid() -> io::Error {
     io::ErrorKind::InvalidData.into()
@@ -43,16 +48,42 @@ fn hash_alone(rt: &impl Clock, bytes: &[u8]) -> io::Result<(Duration, u8)> {
     Ok((start.elapsed(rt)?, digest[0]))
 }
 
-/// Encodes all rows, and counts their bytes.
+/// How many bytes suffice for the next sixteen rows.
+fn enough_for_next(rows: &mut Iter<'_, RowKey, StoredRow>) -> usize {
+    let mut bytes = 0usize;
+    for _ in 0..16 {
+        if let Some((_, row)) = rows.next() {
+            bytes = bytes.saturating_add(enough_bytes(row.row()));
+        }
+    }
+    bytes
+}
+
+/// Encodes the rows of a page as the tree does, and counts their bytes.
+fn encode_page(page: &plain::RowStore) -> u64 {
+    let mut waiting = ByteBuf::<4096>::new();
+    let mut ahead = page.iter();
+    let mut count = 0u64;
+    for (turn, (key, row)) in page.iter().enumerate() {
+        let ahead_bytes = if turn % 16 == 0 {
+            enough_for_next(&mut ahead)
+        } else {
+            0
+        };
+        if waiting.room() < ahead_bytes.max(536) {
+            count = count.wrapping_add(waiting.as_slice().len() as u64);
+            waiting.clear();
+        }
+        append_row(key, row.row(), &mut waiting);
+    }
+    count.wrapping_add(waiting.as_slice().len() as u64)
+}
+
 fn encode_alone(rt: &impl Clock, store: &PointedStore) -> io::Result<(Duration, u64)> {
     let start = Instant::now(rt)?;
-    let mut buffer = RowBuf::new();
     let mut count = 0u64;
     for leaf in 0..LEAVES {
-        for (key, row) in store.page(leaf).iter() {
-            encode_row(key, row.row(), &mut buffer);
-            count = count.wrapping_add(buffer.as_slice().len() as u64);
-        }
+        count = count.wrapping_add(encode_page(store.page(leaf)));
     }
     Ok((start.elapsed(rt)?, count))
 }
@@ -144,7 +175,7 @@ fn measure_tree<R: Clock + Eprint + AllocGlobal + Threads + Sync>(
     let mut alone = hash_alone(rt, &bytes)?.0;
     let mut encode = encode_alone(rt, store)?.0;
     let mut built = build(rt, store)?.0;
-    for _ in 0..4 {
+    for _ in 0..ROUNDS {
         alone = alone.min(hash_alone(rt, &bytes)?.0);
         encode = encode.min(encode_alone(rt, store)?.0);
         built = built.min(build(rt, store)?.0);
@@ -156,8 +187,8 @@ fn measure_tree<R: Clock + Eprint + AllocGlobal + Threads + Sync>(
 }
 
 /// A warehouse of full scale whose customers' data are of the standard's length, and the database of `make 1 3000
-/// 100000`: each the best of five. How much faster more processors are is seen by running it on one, two and four of
-/// them.
+/// 100000`: each the best of twenty, the look-ups of five. How much faster more processors are is seen by running it on
+/// one, two and four of them.
 pub fn measure<R: Clock + Eprint + AllocGlobal + Threads + Sync>(rt: &R) -> io::Result<()> {
     let (_, made) = make(rt.alloc(), 1, 3000, 100_000).map_err(|_| invalid())?;
     let customers = image(rt.alloc(), 1, 3000, Population::Standard)?;

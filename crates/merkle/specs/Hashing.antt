@@ -5,4 +5,4 @@ use Rattle.merkle.specs.declared.hashing.Gathered.{Gathered}
 
 -- the message so far: what the hasher took in, and behind it what waits
 abbrev pub IsFed : Gathered → List ℕ → Type 0
-IsFed g m = (taken : List ℕ) × Holds256 g.hasher taken × (taken ++ g.waiting.items ≡ m)
+IsFed g m = (taken : List ℕ) × Holds256 g.hasher taken × (taken ++ g.waiting ≡ m)

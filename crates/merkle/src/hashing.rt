@@ -1,16 +1,18 @@
 //! The hashes of leaves and of nodes.
-ghost use Rattle.std.specs.Prelude.{◌≡◌, ◌≤◌, ◌++◌, ◌∷◌, [], ℕ, List, length};
+ghost use Rattle.std.specs.Prelude.{◌≡◌, ◌≤◌, ◌+◌, ◌++◌, ◌∷◌, [], ℕ, List, length};
 ghost use Rattle.std.specs.FinMap as map;
 ghost use Rattle.sha2.specs.Sha256.{sha256};
 ghost use Rattle.merkle.specs.Hashing.{IsFed};
 ghost use Rattle.tpcc_model.specs.Roots.{joined};
-ghost use Rattle.tpcc_rows.specs.Encodings.{rows_bytes};
+ghost use Rattle.tpcc_rows.specs.Encodings.{row_bytes, rows_bytes};
 
-use arrayvec::ArrayVec;
+use crate::ahead::Ahead;
 use sha2::{Digest, Sha256};
-use tpcc_rows::encoding::encode_row;
+use tpcc_rows::encoding::append_row;
+use tpcc_rows::key::RowKey;
 use tpcc_rows::plain::RowStore;
-use tpcc_rows::row_buf::RowBuf;
+use tpcc_rows::row::Row;
+use tpcc_rows::row_buf::ByteBuf;
 
 /// The byte before the rows of a leaf. It keeps a leaf's bytes apart from those of a node.
 const LEAF: u8 = 0;
@@ -18,33 +20,45 @@ const LEAF: u8 = 0;
 /// The byte before the two hashes of a node.
 const NODE: u8 = 1;
 
+/// The most bytes of a row.
+const ROW_BYTES: usize = 536;
+
 /// What goes to SHA-256, gathered from the bytes of rows: given to it row by row, a tree took half as long again.
 #[derive(Drop)]
 struct Gathered {
     hasher: Sha256,
-    waiting: ArrayVec<u8, 4096>,
+    waiting: ByteBuf<4096>,
 }
 
 impl Gathered {
-    fn new() -> Gathered
-        ensures { IsFed result [] }
+    /// Of a leaf, before its rows.
+    fn of_leaf() -> Gathered
+        ensures { IsFed result (0 ∷ []) }
     {
+        let mut waiting = ByteBuf::new();
+        waiting.push_8(LEAF);
         Gathered {
             hasher: Sha256::new(),
-            waiting: ArrayVec::new(),
+            waiting,
         }
     }
 
-    /// What waits goes on where there is no room for more.
-    fn push(&mut self, bytes: &[u8])
-        requires { length bytes.now ≤ 536 }
-        ensures { (m : List ℕ) → IsFed self.old m → IsFed self.new (m ++ bytes.now) }
+    /// What waits goes on where there is room for fewer bytes.
+    fn make_room(&mut self, bytes: usize)
+        ensures fed { (m : List ℕ) → IsFed self.old m → IsFed self.new m }
+        ensures room { bytes ≤ 4096 → length self.new.waiting + bytes ≤ 4096 }
     {
-        if self.waiting.remaining_capacity() < bytes.len() {
+        if self.waiting.room() < bytes {
             self.hasher.update(self.waiting.as_slice());
             self.waiting.clear();
         }
-        let _ = self.waiting.try_extend_from_slice(bytes);
+    }
+
+    fn push_row(&mut self, key: &RowKey, row: &Row)
+        ensures { (m : List ℕ) → IsFed self.old m → IsFed self.new (m ++ row_bytes key.now row.now) }
+    {
+        self.make_room(ROW_BYTES);
+        append_row(key, row, &mut self.waiting);
     }
 
     fn finish(self) -> [u8; 32]
@@ -59,15 +73,15 @@ impl Gathered {
     }
 }
 
-/// The hash of a leaf, of its rows in key order. The buffer is filled anew with each of them.
-pub fn hash_leaf(page: &RowStore, buffer: &mut RowBuf) -> [u8; 32]
+/// The hash of a leaf, of its rows in key order.
+pub fn hash_leaf(page: &RowStore) -> [u8; 32]
     ensures { result ≡ sha256 (0 ∷ rows_bytes (map.entries page.now)) }
 {
-    let mut gathered = Gathered::new();
-    gathered.push([LEAF].as_slice());
+    let mut gathered = Gathered::of_leaf();
+    let mut ahead = Ahead::of(page);
     for (key, row) in page.iter() {
-        encode_row(key, row.row(), buffer);
-        gathered.push(buffer.as_slice());
+        gathered.make_room(ahead.bytes_to_come());
+        gathered.push_row(key, row.row());
     }
     gathered.finish()
 }

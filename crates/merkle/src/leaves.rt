@@ -9,7 +9,6 @@ use rollback::PointedStore;
 use std::alloc::{AllocError, Global};
 use std::thread::Threads;
 use tpcc_rows::codes::LEAVES;
-use tpcc_rows::row_buf::RowBuf;
 
 /// How many leaves one thread takes at least: few enough that all threads have work to the end.
 const LEAVES_AT_ONCE: usize = 64;
@@ -31,7 +30,7 @@ pub(crate) fn leaf_hashes<R: Threads + Sync>(
             |n: usize| -> [u8; 32]
                 requires { n < 4096 }
                 ensures { result ≡ leaf_hash store.entry.now.rows n }
-            { hash_leaf(store.page(n), &mut RowBuf::new()) },
+            { hash_leaf(store.page(n)) },
         )
         .collect(rt, alloc)
 }

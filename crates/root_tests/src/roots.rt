@@ -1,5 +1,5 @@
 //! Roots of chosen rows against another program's, and of rows that look random against the second computation.
-use crate::samples::{district, every_kind, one_leaf, random_pairs, warehouse};
+use crate::samples::{district, every_kind, long_leaf, one_leaf, random_pairs, warehouse};
 use crate::second::{Pairs, second_root};
 use hex::FromHex;
 use merkle::Tree;
@@ -11,7 +11,6 @@ use std::test::Fail;
 use std::thread::Threads;
 use tpcc_rows::plain;
 use tpcc_rows::row::fits;
-use tpcc_rows::row_buf::RowBuf;
 
 /// The hash that this is in hexadecimal digits.
 pub fn hash(text: &str) -> Result<[u8; 32], Fail> {
@@ -44,7 +43,7 @@ pub fn tree_root<R: Threads + Sync>(
 fn empty_leaf(rt: HostRuntime) -> Result<(), Fail> {
     let page = plain::RowStore::new(rt.alloc());
     assert_eq!(rt;
-        hash_leaf(&page, &mut RowBuf::new()),
+        hash_leaf(&page),
         hash("6e340b9cffb37a989ca544e6bb780a2c78901d3fb33738768511a30617afa01d")?
     );
     Ok(())
@@ -84,6 +83,26 @@ fn rows_of_one_leaf(rt: HostRuntime) -> Result<(), Fail> {
     let root = hash("8cf9dc436a7721a65a136a053b322a968aa3cfe66447dbf08923964bbaad1efc")?;
     assert_eq!(rt; tree_root(&rt, rt.alloc(), &pairs)?, root);
     assert_eq!(rt; second_root(rt.alloc(), &pairs)?, root);
+    Ok(())
+}
+
+/// Seven customers more each time.
+#[test]
+fn rows_of_a_long_leaf(rt: HostRuntime) -> Result<(), Fail> {
+    let all = long_leaf(rt.alloc())?;
+    assert!(rt; all.len() > 30, "a short leaf: {}", all.len());
+    let mut pairs = Vec::new(rt.alloc());
+    for (key, row) in all {
+        pairs.push((key, row))?;
+        if pairs.len() % 7 == 0 {
+            assert_eq!(rt;
+                tree_root(&rt, rt.alloc(), &pairs)?,
+                second_root(rt.alloc(), &pairs)?,
+                "{} rows",
+                pairs.len()
+            );
+        }
+    }
     Ok(())
 }
 

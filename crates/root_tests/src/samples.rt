@@ -3,6 +3,7 @@ use crate::dice::Dice;
 use crate::second::Pairs;
 use std::alloc::Global;
 use std::test::Fail;
+use tpcc_rows::codes::leaf;
 use tpcc_rows::id::{
     CustomerId, DistrictId, ItemId, LineNumber, OrderId, RequestNumber, WarehouseId,
 };
@@ -206,6 +207,25 @@ pub fn one_leaf(alloc: Global) -> Result<Pairs, Fail> {
     pairs.push(stock(1, 4_092, 3, (2, 1, 0)).ok_or("a stock")?)?;
     pairs.push(stock(1, 1_508, 1, (2, 3, 4)).ok_or("a stock")?)?;
     pairs.push(customer((2, 1), 56, (1, 2), (3, 4), b"").ok_or("a customer")?)?;
+    Ok(pairs)
+}
+
+/// The customers of six warehouses that stand on leaf 7, each with a text of 500 characters: several times what is hashed
+/// in one piece.
+pub fn long_leaf(alloc: Global) -> Result<Pairs, Fail> {
+    let mut pairs = Vec::new(alloc);
+    for warehouse in 1..7 {
+        for district in 1..11 {
+            for number in 1..3001 {
+                let counts = (u32::from(number), 0);
+                let pair = customer((warehouse, district), number, (-5, 5), counts, &[b'x'; 500]);
+                let pair = pair.ok_or("a customer")?;
+                if leaf(&pair.0) == 7 {
+                    pairs.push(pair)?;
+                }
+            }
+        }
+    }
     Ok(pairs)
 }
 

@@ -2,8 +2,9 @@
 ghost use Rattle.std.specs.Prelude.{◌≡◌, ◌<◌, ◌+◌, ◌*◌};
 ghost use Rattle.tpcc_rows.specs.Codes.{code, district_code, order_code};
 ghost use Rattle.tpcc_rows.specs.Leaves.{leaf};
+ghost use Rattle.tpcc_rows.specs.declared.key.RowKey.TheVariants.{Customer, OrderLine, Stock};
 
-use crate::id::{DistrictId, OrderId, WarehouseId};
+use crate::id::{CustomerId, DistrictId, ItemId, LineNumber, OrderId, WarehouseId};
 use crate::key::RowKey;
 
 /// How many leaves there are.
@@ -26,6 +27,35 @@ fn order_code(warehouse: WarehouseId, district: DistrictId, order: OrderId) -> u
     district_code(warehouse, district) * 16_777_216 + u64::from(order.number())
 }
 
+pub(crate) fn customer_code(
+    warehouse: WarehouseId,
+    district: DistrictId,
+    customer: CustomerId,
+) -> u64
+    ensures { result ≡ code (Customer warehouse district customer) }
+{
+    let customer = u64::from(customer.number());
+    0x0300_0000_0000_0000 + (district_code(warehouse, district) * 4096 + customer)
+}
+
+pub(crate) fn stock_code(warehouse: WarehouseId, item: ItemId) -> u64
+    ensures { result ≡ code (Stock warehouse item) }
+{
+    0x0400_0000_0000_0000 + (u64::from(warehouse.number()) * 131_072 + u64::from(item.number()))
+}
+
+pub(crate) fn line_code(
+    warehouse: WarehouseId,
+    district: DistrictId,
+    order: OrderId,
+    number: LineNumber,
+) -> u64
+    ensures { result ≡ code (OrderLine warehouse district order number) }
+{
+    let number = u64::from(number.number());
+    0x0700_0000_0000_0000 + (order_code(warehouse, district, order) * 16 + number)
+}
+
 /// The code of a key: the table in the first byte, then the columns.
 pub fn code(key: &RowKey) -> u64
     ensures { result ≡ code key.now }
@@ -40,14 +70,8 @@ pub fn code(key: &RowKey) -> u64
             warehouse,
             district,
             customer,
-        } => {
-            let customer = u64::from(customer.number());
-            0x0300_0000_0000_0000 + (district_code(warehouse, district) * 4096 + customer)
-        }
-        RowKey::Stock { warehouse, item } => {
-            let warehouse = u64::from(warehouse.number());
-            0x0400_0000_0000_0000 + (warehouse * 131_072 + u64::from(item.number()))
-        }
+        } => customer_code(warehouse, district, customer),
+        RowKey::Stock { warehouse, item } => stock_code(warehouse, item),
         RowKey::Order {
             warehouse,
             district,
@@ -63,10 +87,7 @@ pub fn code(key: &RowKey) -> u64
             district,
             order,
             number,
-        } => {
-            let number = u64::from(number.number());
-            0x0700_0000_0000_0000 + (order_code(warehouse, district, order) * 16 + number)
-        }
+        } => line_code(warehouse, district, order, number),
         RowKey::History { number } => 0x0800_0000_0000_0000 + number.number(),
     }
 }

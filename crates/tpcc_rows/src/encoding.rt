@@ -1,19 +1,20 @@
 //! The bytes of rows.
 ghost use Rattle.std.specs.Prelude.{◌≡◌, ◌≤◌, ◌+◌, ◌++◌, length};
 ghost use Rattle.tpcc_rows.specs.Encodings.{maybe_moment, row_body, row_bytes, sized};
+ghost use Rattle.tpcc_rows.specs.declared.key.RowKey.{RowKey};
 ghost use Rattle.tpcc_rows.specs.declared.row.Row.TheVariants.{Customer, District, History, Order, OrderLine, Stock, Warehouse};
 
-use crate::codes::code;
+use crate::codes::{code, customer_code, line_code, stock_code};
 use crate::key::RowKey;
 use crate::number::{Carrier, Moment};
 use crate::row::{
     CustomerRow, DistrictRow, HistoryRow, OrderLineRow, OrderRow, Row, StockRow, WarehouseRow,
 };
-use crate::row_buf::RowBuf;
+use crate::row_buf::{ByteBuf, RowBuf};
 
 #[tactic(auto, using(crate::proofs::Lengths::lengths))]
-fn push_warehouse(row: &WarehouseRow, out: &mut RowBuf)
-    requires { length out.old ≤ 8 }
+fn push_warehouse<const N: usize>(row: &WarehouseRow, out: &mut ByteBuf<N>)
+    requires { length out.old + 528 ≤ N }
     ensures { out.new ≡ out.old ++ sized (row_body (Warehouse row.now)) }
 {
     out.push_16(8);
@@ -21,8 +22,8 @@ fn push_warehouse(row: &WarehouseRow, out: &mut RowBuf)
 }
 
 #[tactic(auto, using(crate::proofs::Lengths::lengths))]
-fn push_district(row: &DistrictRow, out: &mut RowBuf)
-    requires { length out.old ≤ 8 }
+fn push_district<const N: usize>(row: &DistrictRow, out: &mut ByteBuf<N>)
+    requires { length out.old + 528 ≤ N }
     ensures { out.new ≡ out.old ++ sized (row_body (District row.now)) }
 {
     out.push_16(12);
@@ -31,8 +32,8 @@ fn push_district(row: &DistrictRow, out: &mut RowBuf)
 }
 
 #[tactic(auto, using(crate::proofs::Lengths::lengths))]
-fn push_customer(row: &CustomerRow, out: &mut RowBuf)
-    requires { length out.old ≤ 8 }
+fn push_customer<const N: usize>(row: &CustomerRow, out: &mut ByteBuf<N>)
+    requires { length out.old + 528 ≤ N }
     ensures { out.new ≡ out.old ++ sized (row_body (Customer row.now)) }
 {
     let data = row.data.as_bytes();
@@ -47,8 +48,8 @@ fn push_customer(row: &CustomerRow, out: &mut RowBuf)
 }
 
 #[tactic(auto, using(crate::proofs::Lengths::lengths))]
-fn push_stock(row: &StockRow, out: &mut RowBuf)
-    requires { length out.old ≤ 8 }
+fn push_stock<const N: usize>(row: &StockRow, out: &mut ByteBuf<N>)
+    requires { length out.old + 528 ≤ N }
     ensures { out.new ≡ out.old ++ sized (row_body (Stock row.now)) }
 {
     out.push_16(16);
@@ -59,8 +60,8 @@ fn push_stock(row: &StockRow, out: &mut RowBuf)
 }
 
 #[tactic(auto, using(crate::proofs::Lengths::lengths))]
-fn push_order(row: &OrderRow, out: &mut RowBuf)
-    requires { length out.old ≤ 8 }
+fn push_order<const N: usize>(row: &OrderRow, out: &mut ByteBuf<N>)
+    requires { length out.old + 528 ≤ N }
     ensures { out.new ≡ out.old ++ sized (row_body (Order row.now)) }
 {
     out.push_16(13);
@@ -73,8 +74,8 @@ fn push_order(row: &OrderRow, out: &mut RowBuf)
 
 /// Whether there is a moment, in one byte, and the moment or 0.
 #[tactic(auto, using(crate::proofs::Lengths::lengths))]
-pub fn push_maybe_moment(moment: Option<Moment>, out: &mut RowBuf)
-    requires { length out.old ≤ 500 }
+pub fn push_maybe_moment<const N: usize>(moment: Option<Moment>, out: &mut ByteBuf<N>)
+    requires { length out.old + 9 ≤ N }
     ensures value { out.new ≡ out.old ++ maybe_moment moment }
     ensures len { length out.new ≡ length out.old + 9 }
 {
@@ -91,8 +92,8 @@ pub fn push_maybe_moment(moment: Option<Moment>, out: &mut RowBuf)
 }
 
 #[tactic(auto, using(crate::proofs::Lengths::lengths))]
-fn push_order_line(row: &OrderLineRow, out: &mut RowBuf)
-    requires { length out.old ≤ 8 }
+fn push_order_line<const N: usize>(row: &OrderLineRow, out: &mut ByteBuf<N>)
+    requires { length out.old + 528 ≤ N }
     ensures { out.new ≡ out.old ++ sized (row_body (OrderLine row.now)) }
 {
     let district_info = row.district_info.as_bytes();
@@ -106,8 +107,8 @@ fn push_order_line(row: &OrderLineRow, out: &mut RowBuf)
 }
 
 #[tactic(auto, using(crate::proofs::Lengths::lengths))]
-fn push_history(row: &HistoryRow, out: &mut RowBuf)
-    requires { length out.old ≤ 8 }
+fn push_history<const N: usize>(row: &HistoryRow, out: &mut ByteBuf<N>)
+    requires { length out.old + 528 ≤ N }
     ensures { out.new ≡ out.old ++ sized (row_body (History row.now)) }
 {
     let data = row.data.as_bytes();
@@ -122,8 +123,8 @@ fn push_history(row: &HistoryRow, out: &mut RowBuf)
     out.push_short(data);
 }
 
-fn push_row(row: &Row, out: &mut RowBuf)
-    requires { length out.old ≤ 8 }
+fn push_row<const N: usize>(row: &Row, out: &mut ByteBuf<N>)
+    requires { length out.old + 528 ≤ N }
     ensures { out.new ≡ out.old ++ sized (row_body row.now) }
 {
     match row {
@@ -138,12 +139,85 @@ fn push_row(row: &Row, out: &mut RowBuf)
     }
 }
 
-/// Fills the buffer anew with the bytes of a row.
+#[inline(never)]
 #[tactic(auto, unfolding(crate::specs::Encodings::row_bytes))]
+fn append_any<const N: usize>(key: &RowKey, row: &Row, out: &mut ByteBuf<N>)
+    requires { length out.old + 536 ≤ N }
+    ensures { out.new ≡ out.old ++ row_bytes key.now row.now }
+{
+    out.push_64(code(key));
+    push_row(row, out);
+}
+
+#[inline(never)]
+#[tactic(auto, unfolding(crate::specs::Encodings::row_bytes))]
+fn append_customer_or_any<const N: usize>(key: &RowKey, row: &Row, out: &mut ByteBuf<N>)
+    requires { length out.old + 536 ≤ N }
+    ensures { out.new ≡ out.old ++ row_bytes key.now row.now }
+{
+    match (key, row) {
+        (
+            RowKey::Customer {
+                warehouse,
+                district,
+                customer,
+            },
+            Row::Customer(row),
+        ) => {
+            out.push_64(customer_code(*warehouse, *district, *customer));
+            push_customer(row, out);
+        }
+        _ => append_any(key, row, out),
+    }
+}
+
+/// Appends the bytes of a row. Rows of the three kinds that a database has most of are told by comparisons, the key's
+/// kind first, whose outcome the processor foresees; a jump by a table of kinds would wait for the row to come from memory.
+#[tactic(auto, unfolding(crate::specs::Encodings::row_bytes))]
+pub fn append_row<const N: usize>(key: &RowKey, row: &Row, out: &mut ByteBuf<N>)
+    requires { length out.old + 536 ≤ N }
+    ensures { out.new ≡ out.old ++ row_bytes key.now row.now }
+{
+    match (key, row) {
+        (
+            RowKey::OrderLine {
+                warehouse,
+                district,
+                order,
+                number,
+            },
+            Row::OrderLine(row),
+        ) => {
+            out.push_64(line_code(*warehouse, *district, *order, *number));
+            push_order_line(row, out);
+        }
+        (RowKey::Stock { warehouse, item }, Row::Stock(row)) => {
+            out.push_64(stock_code(*warehouse, *item));
+            push_stock(row, out);
+        }
+        _ => append_customer_or_any(key, row, out),
+    }
+}
+
+/// Fills the buffer anew with the bytes of a row.
 pub fn encode_row(key: &RowKey, row: &Row, out: &mut RowBuf)
     ensures { out.new ≡ row_bytes key.now row.now }
 {
     out.clear();
-    out.push_64(code(key));
-    push_row(row, out);
+    append_row(key, row, out);
+}
+
+/// How many bytes suffice for a row, whatever its key: for a customer's the bytes that it has, for any other those of the
+/// longest order line.
+#[tactic(auto, using(crate::proofs::Lengths::lengths), unfolding(crate::specs::Encodings::row_bytes))]
+pub fn enough_bytes(row: &Row) -> usize
+    ensures enough { (k : RowKey) → length (row_bytes k row.now) ≤ result }
+    ensures small { result ≤ 536 }
+{
+    match row {
+        Row::Customer(row) => 36 + row.data.as_bytes().len(),
+        Row::OrderLine(row) => 30 + row.district_info.capacity(),
+        Row::History(row) => 30 + row.data.capacity(),
+        _ => 54,
+    }
 }
