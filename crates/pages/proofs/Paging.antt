@@ -137,6 +137,10 @@ pub either : {T E P : Type 0} (r : Result T E) → OnOk r P → OnErr r P → P
 either (Ok x) p q = p
 either (Err e) p q = q
 
+pub on_err : {T E P : Type 0} (r : Result T E) → P → OnErr r P
+on_err (Ok x) p = tt
+on_err (Err e) p = p
+
 -- ---- empty pages
 pub record AreEmpty (ps : List Rows) : Type 0 where
   pub empty_at : (n : ℕ) → page_at ps n ≡ map.empty

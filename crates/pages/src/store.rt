@@ -6,6 +6,7 @@ ghost use Rattle.tpcc_rows.specs.Picks.{latest, oldest};
 ghost use Rattle.tpcc_rows.specs.RowKinds.{fits};
 ghost use Rattle.tpcc_rows.specs.Rows.{customer_row, district_row, warehouse_row};
 
+use crate::leaf_lists::LeafLists;
 use crate::searching::{larger_of, lesser_of};
 use std::alloc::Global;
 use std::marker::Model;
@@ -54,11 +55,12 @@ impl RowStore {
     pub fn from_plain(alloc: Global, rows: plain::RowStore) -> Result<RowStore, Memory>
         ensures { IfOk result (λ store. store ≡ rows) }
     {
-        let mut store = RowStore::new(alloc)?;
+        let mut lists = LeafLists::new(alloc)?;
         for (key, row) in rows.into_rows() {
-            store.put_stored(key, row)?;
+            lists.push(key, row)?;
         }
-        Ok(store)
+        let pages = lists.into_pages(alloc)?;
+        Ok(RowStore { pages, alloc })
     }
 
     pub fn get(&self, key: &RowKey) -> Option<&Row>

@@ -12,3 +12,4 @@ pub mod RowKindFacts
 pub mod Lengths
 pub mod Fields
 pub mod RowBytes
+pub mod Puts

@@ -1,5 +1,5 @@
 -- Rows with changes made.
-use Rattle.std.specs.Prelude.{◌≡◌, List, ◌++◌, Bool, true, Option, Some, None}
+use Rattle.std.specs.Prelude.{◌≡◌, List, [], ◌∷◌, ◌++◌, Bool, true, Option, Some, None}
 use Rattle.std.specs.FinMap as map
 use Rattle.serializability.specs.Changes.{apply}
 use Rattle.tpcc_rows.specs.declared.key.RowKey.{RowKey}
@@ -10,6 +10,11 @@ use Rattle.tpcc_rows.specs.RowMap.{Rows, Changes}
 -- the rows after the changes
 unfoldable pub after : Rows → Changes → Rows
 after rows changes = apply (map.entries changes) rows
+
+-- the rows with each of these put, one after the other
+abbrev pub with_each : List (RowKey × Row) → Rows → Rows
+with_each [] rows = rows
+with_each (e ∷ es) rows = with_each es (map.insert rows e.0 e.1)
 
 -- a beginning of the changes is made
 abbrev pub IsMadeInPart : Rows → Rows → Changes → Type 0

@@ -1,9 +1,9 @@
 //! Rows in one map: the plain store, by which every other one is measured.
-ghost use Rattle.std.specs.Prelude.{◌≡◌, ◌<◌, ◌^◌, IfSome, OnOk, OnErr, length, option_copied, true};
+ghost use Rattle.std.specs.Prelude.{◌≡◌, ◌<◌, ◌^◌, IfOk, IfSome, OnOk, OnErr, length, option_copied, true};
 ghost use Rattle.std.specs.FinMap as map;
 ghost use Rattle.std.specs.List.{list_all};
 ghost use Rattle.serializability.specs.Changes.{changed};
-ghost use Rattle.tpcc_rows.specs.Changing.{IsMadeInPart, after, new_row_fits};
+ghost use Rattle.tpcc_rows.specs.Changing.{IsMadeInPart, after, new_row_fits, with_each};
 ghost use Rattle.tpcc_rows.specs.Picks.{latest, oldest};
 ghost use Rattle.tpcc_rows.specs.RowKinds.{fits};
 ghost use Rattle.tpcc_rows.specs.Rows.{customer_row, district_row, warehouse_row};
@@ -50,6 +50,15 @@ impl RowStore {
             rows: BTreeMap::new(alloc),
             alloc,
         }
+    }
+
+    /// The rows of a list. Of a key's the last one stays.
+    pub fn from_rows(alloc: Global, rows: Vec<(RowKey, StoredRow)>) -> Result<RowStore, Memory>
+        requires { list_all (λ row. fits row.0 row.1) rows.items ≡ true }
+        ensures { IfOk result (λ store. store ≡ with_each rows.items map.empty) }
+    {
+        let rows = rows.into_iter().collect(alloc)?;
+        Ok(RowStore { rows, alloc })
     }
 
     fn stored(&self, key: &RowKey) -> Option<&StoredRow>

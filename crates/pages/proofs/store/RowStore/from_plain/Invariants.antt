@@ -3,4 +3,4 @@ use Rattle.pages.proofs.Moving.{IsMoving}
 use Rattle.pages.proofs.store.RowStore.from_plain.Given as goal
 
 abbrev pub invariant-loop-key : goal.invariant-loop-key
-invariant-loop-key l = IsMoving (map.entries l.fn.rows) l.key-iterator l.store
+invariant-loop-key l = IsMoving (map.entries l.fn.rows) l.key-iterator l.lists
