@@ -8,7 +8,6 @@ use requests::BytesSource;
 use rollback::PointedStore;
 use sha2::{Digest, Sha256};
 use std::alloc::Global;
-use std::collections::btree_map::Iter;
 use std::io;
 use std::rt::Clock;
 use std::thread::Threads;
@@ -20,7 +19,6 @@ use tpcc_rows::key::RowKey;
 use tpcc_rows::plain;
 use tpcc_rows::row::fits;
 use tpcc_rows::row_buf::{ByteBuf, RowBuf};
-use tpcc_rows::stored::StoredRow;
 
 /// How often each time is taken anew; the least counts.
 const ROUNDS: u32 = 19;
@@ -48,13 +46,11 @@ fn hash_alone(rt: &impl Clock, bytes: &[u8]) -> io::Result<(Duration, u8)> {
     Ok((start.elapsed(rt)?, digest[0]))
 }
 
-/// How many bytes suffice for the next sixteen rows.
-fn enough_for_next(rows: &mut Iter<'_, RowKey, StoredRow>) -> usize {
+/// How many bytes suffice for the rows of a page.
+fn enough_for(page: &plain::RowStore) -> usize {
     let mut bytes = 0usize;
-    for _ in 0..16 {
-        if let Some((_, row)) = rows.next() {
-            bytes = bytes.saturating_add(enough_bytes(row.row()));
-        }
+    for (_, row) in page.iter() {
+        bytes = bytes.saturating_add(enough_bytes(row.row()));
     }
     bytes
 }
@@ -62,15 +58,12 @@ fn enough_for_next(rows: &mut Iter<'_, RowKey, StoredRow>) -> usize {
 /// Encodes the rows of a page as the tree does, and counts their bytes.
 fn encode_page(page: &plain::RowStore) -> u64 {
     let mut waiting = ByteBuf::<4096>::new();
-    let mut ahead = page.iter();
     let mut count = 0u64;
-    for (turn, (key, row)) in page.iter().enumerate() {
-        let ahead_bytes = if turn % 16 == 0 {
-            enough_for_next(&mut ahead)
-        } else {
-            0
-        };
-        if waiting.room() < ahead_bytes.max(536) {
+    if waiting.room() < enough_for(page) {
+        waiting.push_8(0);
+    }
+    for (key, row) in page.iter() {
+        if waiting.room() < 536 {
             count = count.wrapping_add(waiting.as_slice().len() as u64);
             waiting.clear();
         }

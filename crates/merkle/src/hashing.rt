@@ -6,9 +6,8 @@ ghost use Rattle.merkle.specs.Hashing.{IsFed};
 ghost use Rattle.tpcc_model.specs.Roots.{joined};
 ghost use Rattle.tpcc_rows.specs.Encodings.{row_bytes, rows_bytes};
 
-use crate::ahead::Ahead;
 use sha2::{Digest, Sha256};
-use tpcc_rows::encoding::append_row;
+use tpcc_rows::encoding::{append_row, enough_bytes};
 use tpcc_rows::key::RowKey;
 use tpcc_rows::plain::RowStore;
 use tpcc_rows::row::Row;
@@ -73,14 +72,23 @@ impl Gathered {
     }
 }
 
+/// How many bytes suffice for the rows of a page. All rows are looked at here, right after each other, before the first is
+/// encoded: so they come from memory together, where the encoder would wait for each of them in its turn.
+fn enough_for(page: &RowStore) -> usize {
+    let mut bytes = 0usize;
+    for (_, row) in page.iter() {
+        bytes = bytes.saturating_add(enough_bytes(row.row()));
+    }
+    bytes
+}
+
 /// The hash of a leaf, of its rows in key order.
 pub fn hash_leaf(page: &RowStore) -> [u8; 32]
     ensures { result ≡ sha256 (0 ∷ rows_bytes (map.entries page.now)) }
 {
     let mut gathered = Gathered::of_leaf();
-    let mut ahead = Ahead::of(page);
+    gathered.make_room(enough_for(page));
     for (key, row) in page.iter() {
-        gathered.make_room(ahead.bytes_to_come());
         gathered.push_row(key, row.row());
     }
     gathered.finish()

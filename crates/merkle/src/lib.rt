@@ -1,7 +1,6 @@
 //! The tree of hashes over the rows: the hash of each leaf and of each node above, and the root.
 #![tactic(auto)]
 
-mod ahead;
 pub mod hashing;
 mod leaves;
 pub mod tree;

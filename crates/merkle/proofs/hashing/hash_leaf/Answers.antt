@@ -4,14 +4,14 @@ use Rattle.tpcc_rows.specs.Encodings.{row_bytes, rows_bytes}
 use Rattle.merkle.proofs.hashing.hash_leaf.Goals as goal
 
 pub loop-key-init : goal.loop-key-init
-loop-key-init c = (0 ∷ [], c.of_leaf-gathered.ensures, ap (λ es. 0 ∷ rows_bytes es) (c.into_iter-key-iterator.ensures.into_iter_gives ∙ c.iter-key-items.ensures))
+loop-key-init c = (0 ∷ [], c.make_room.ensures.fed (0 ∷ []) c.of_leaf-gathered.ensures, ap (λ es. 0 ∷ rows_bytes es) (c.into_iter-key-iterator.ensures.into_iter_gives ∙ c.iter-key-items.ensures))
 
 pub loop-key-preserved : goal.loop-key-preserved
 loop-key-preserved c =
     let (message, fed, whole) = c.loop-key.invariant in
     let row = row_bytes c.in-Some.key.now c.row.result.now in (
       message ++ row,
-      c.push_row.ensures message (c.make_room.ensures.fed message fed),
+      c.push_row.ensures message fed,
       append_assoc message row (rows_bytes c.next.new.self)
           ∙ ap (λ r. message ++ (row_bytes c.in-Some.key.now r ++ rows_bytes c.next.new.self)) c.row.ensures
           ∙ ap (λ es. message ++ rows_bytes es) (sym c.in-Some.ensures.steps) ∙ whole,
