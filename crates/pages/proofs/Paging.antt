@@ -5,9 +5,10 @@ use Rattle.std.proofs.lemmas.Bool.{eqb-true, eqb-false}
 use Rattle.std.proofs.lemmas.List.{get_or_default, length-set, set-get_or}
 use Rattle.std.specs.Result.{OnOk, OnErr}
 use Rattle.std.specs.FinMap as map
-use Rattle.std.specs.FinMap.{get, entries, find, same_map, get-empty, get-entries, get-from_entries, get-insert, get-remove, get-retain_keys}
+use Rattle.std.specs.FinMap.{get, entries, find, same_map, get-empty, get-entries, get-from_entries, get-retain_keys}
 use Rattle.std.specs.Ordering.{eq_by_cmp}
 use Rattle.serializability.specs.Changes.{changed}
+use Rattle.serializability.proofs.Changes.{get-changed}
 use Rattle.tpcc_rows.specs.declared.key.RowKey.{RowKey}
 use Rattle.tpcc_rows.specs.declared.row.Row.{Row}
 use Rattle.tpcc_rows.specs.RowMap.{Rows, row_key_cmp}
@@ -72,10 +73,6 @@ page-set (x ∷ ps) zero p (suc m) h = ap (λ b. cond b p (page_at ps m)) (sym (
 page-set (x ∷ ps) (suc n) p zero h = ap (λ b. cond b p x) (sym (eqb-zero-suc n))
 page-set (x ∷ ps) (suc n) p (suc m) h = page-set ps n p m (omega arith) ∙ ap (λ b. cond b p (page_at ps m)) (sym (eqb-suc-suc m n))
 
-pub get-changed : (rows : Rows) (k : RowKey) (c : Option Row) (q : RowKey) → get (changed rows k c) q ≡ cond (eq_by_cmp row_key_cmp q k) c (get rows q)
-get-changed rows k None q = get-remove row_key_cmp_total rows k q
-get-changed rows k (Some row) q = get-insert row_key_cmp_total rows k row q
-
 -- on another leaf no key ties
 pub other_leaf : (q k : RowKey) → eqb (leaf q) (leaf k) ≡ false → eq_by_cmp row_key_cmp q k ≡ false
 other_leaf q k e = elim (eq_by_cmp row_key_cmp q k) as (λ b. eq_by_cmp row_key_cmp q k ≡ b → b ≡ false) [
@@ -95,7 +92,7 @@ module _ (ps : List Rows) (paged : IsByLeaf ps) (n : ℕ) (old new : Rows) (k : 
   old_page = h.here ∙ get_or_default ps n old map.empty h.small
 
   get-new : (q : RowKey) → get new q ≡ cond (eq_by_cmp row_key_cmp q k) c (get (page_at ps n) q)
-  get-new q = ap (λ (p : Rows). get p q) h.change ∙ get-changed old k c q ∙ ap (λ (p : Rows). cond (eq_by_cmp row_key_cmp q k) c (get p q)) old_page
+  get-new q = ap (λ (p : Rows). get p q) h.change ∙ get-changed row_key_cmp_total exact_keys old k c q ∙ ap (λ (p : Rows). cond (eq_by_cmp row_key_cmp q k) c (get p q)) old_page
 
   -- each page after the change
   get-page : (m : ℕ) (q : RowKey) → get (page_at (set ps n new) m) q ≡ cond (eqb m n) (cond (eq_by_cmp row_key_cmp q k) c (get (page_at ps n) q)) (get (page_at ps m) q)
@@ -122,7 +119,7 @@ module _ (ps : List Rows) (paged : IsByLeaf ps) (n : ℕ) (old new : Rows) (k : 
         | true ↦ λ t. ap (λ i. cond (eq_by_cmp row_key_cmp q k) c (get (page_at ps i) q)) (sym (eqb-true (leaf q) n t))
         | false ↦ λ t. ap (λ b. cond b c (get (page_at ps (leaf q)) q)) (sym (other_leaf q k (ap (eqb (leaf q)) (sym h.place) ∙ t)))
       ] refl
-      ∙ ap (cond (eq_by_cmp row_key_cmp q k) c) (sym (get-union ps paged q)) ∙ sym (get-changed (union ps) k c q))
+      ∙ ap (cond (eq_by_cmp row_key_cmp q k) c) (sym (get-union ps paged q)) ∙ sym (get-changed row_key_cmp_total exact_keys (union ps) k c q))
 
 -- the same of a page for each leaf
 pub full-change : (ps : List Rows) → IsPaged ps → (n : ℕ) (old new : Rows) (k : RowKey) (c : Option Row) → IsChange ps n old new k c → IsPaged (set ps n new)

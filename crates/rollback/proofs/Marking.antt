@@ -5,12 +5,13 @@ use Rattle.std.proofs.lemmas.List.{get_or-replicate, get_or_past, length-replica
 use Rattle.std.specs.List.{list_any}
 use Rattle.std.specs.FinMap.{get, same_map}
 use Rattle.serializability.specs.Changes.{changed}
+use Rattle.serializability.proofs.Changes.{get-changed}
 use Rattle.tpcc_rows.specs.declared.key.RowKey.{RowKey}
 use Rattle.tpcc_rows.specs.declared.row.Row.{Row}
 use Rattle.tpcc_rows.specs.RowMap.{Rows}
 use Rattle.tpcc_rows.specs.Leaves.{leaf, page_rows}
 use Rattle.tpcc_rows.proofs.Keys.{row_key_cmp_total, exact_keys}
-use Rattle.pages.proofs.Paging.{get-page_rows, get-changed, other_leaf}
+use Rattle.pages.proofs.Paging.{get-page_rows, other_leaf}
 use Rattle.rollback.specs.Marks.{is_dirty, HasAlso}
 use Rattle.rollback.specs.Pointed.{Pointed, KeepsCleanLeaves}
 
@@ -35,7 +36,7 @@ pub page-changed : (rows : Rows) (k : RowKey) (c : Option Row) (n : ℕ) → eqb
 page-changed rows k c n e = same_map row_key_cmp_total exact_keys _ _ (λ q.
     get-page_rows (changed rows k c) n q
     ∙ elim (eqb (leaf q) n) as (λ b. eqb (leaf q) n ≡ b → cond b (get (changed rows k c) q) None ≡ cond b (get rows q) None) [
-      | true ↦ λ t. get-changed rows k c q ∙ ap (λ b. cond b c (get rows q)) (other_leaf q k (ap (λ m. eqb m (leaf k)) (eqb-true (leaf q) n t) ∙ e))
+      | true ↦ λ t. get-changed row_key_cmp_total exact_keys rows k c q ∙ ap (λ b. cond b c (get rows q)) (other_leaf q k (ap (λ m. eqb m (leaf k)) (eqb-true (leaf q) n t) ∙ e))
       | false ↦ λ t. refl
     ] refl ∙ sym (get-page_rows rows n q))
 

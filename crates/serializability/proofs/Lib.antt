@@ -1,1 +1,13 @@
+pub mod Agreement
+pub mod Batches
+pub mod Changes
+pub mod Cuts
+pub mod Examples
 pub mod Folding
+pub mod Footprints
+pub mod JobOrders
+pub mod LevelNumbers
+pub mod LevelRuns
+pub mod Lists
+pub mod Signatures
+pub mod Swaps

@@ -1,4 +1,19 @@
 //! What it means that requests run one after the other: the words, in `specs/`, and the theory, in `proofs/`, over any
 //! keys, rows, requests and replies. No table of any application is known here; a crate that has its own requests states
 //! the laws at them.
+//!
+//! The theory is about a machine: what a request touches, what it replies and which rows it changes. Of a machine whose
+//! requests depend on nothing but what they read and change nothing but what they write (`IsFramed`) it gives, in the
+//! modules of `proofs/`:
+//!
+//! - `Swaps`: two requests that are apart may be stepped in either order (`swapped`).
+//! - `Batches`: a batch that is cut into levels, where no request strays, replies and leaves what its requests do one
+//!   after the other (`serial`).
+//! - `LevelNumbers`: of two requests of a batch that meet, the later one has the greater level (`levels_rise`).
+//! - `Signatures`: footprints without a bit in common are apart (`apart_by_bits`).
+//! - `Agreement`: to agree on granules is to have the same rows there (`agree_from_restrict`, `restrict_from_agree`),
+//!   and then what is picked there is the same (`same_picks`).
+//! - `Changes`: rows that differ by the last changes of each key alone are the rows after the changes (`applied`).
+//!
+//! They are lemmas that other crates import, since no clause can speak of all types of keys and rows at once.
 #![tactic(auto)]

@@ -1,1 +1,9 @@
 pub mod RecentLines
+pub mod Touching
+pub mod Stages
+pub mod Agreeing
+pub mod Placing
+pub mod FramePayments
+pub mod FrameQuestions
+pub mod FrameNewOrders
+pub mod FrameDeliveries

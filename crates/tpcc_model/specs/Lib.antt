@@ -12,4 +12,6 @@ pub mod Steps
 pub mod Conditions
 pub mod Soundness
 pub mod Serial
+pub mod Touches
+pub mod Machine
 pub mod Laws

@@ -13,3 +13,4 @@ pub mod Lengths
 pub mod Fields
 pub mod RowBytes
 pub mod Puts
+pub mod Footprints

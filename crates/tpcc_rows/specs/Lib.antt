@@ -12,3 +12,5 @@ pub mod Encodings
 pub mod Prices
 pub mod Picks
 pub mod LeafPicks
+pub mod Granules
+pub mod Footprints

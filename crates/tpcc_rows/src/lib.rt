@@ -5,6 +5,8 @@
 pub mod codes;
 pub mod delta;
 pub mod encoding;
+pub mod footprint;
+pub mod granule;
 pub mod id;
 pub mod key;
 pub mod laws;

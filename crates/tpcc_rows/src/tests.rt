@@ -1,5 +1,6 @@
 //! Each kind of value once, and a store with changes made.
 mod encodings;
+mod footprints;
 
 use crate::delta::Delta;
 use crate::id::{CustomerId, DistrictId, ItemId, LineNumber, OrderId, RequestNumber, WarehouseId};

@@ -19,3 +19,5 @@ pub mod DeliveryLines
 pub mod DeliverySteps
 pub mod DeliveryKeeps
 pub mod Keeping
+pub mod Framing
+pub mod Framed

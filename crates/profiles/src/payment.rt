@@ -1,0 +1,58 @@
+//! Payment (TPC-C clause 2.5): where each of its keys has a card, its warehouse, its district and the customer, who may
+//! be of another district, are written.
+ghost use Rattle.std.specs.Prelude.{◌≡◌, IfOk};
+ghost use Rattle.profiles.specs.Found.{paying_customer};
+ghost use Rattle.tpcc_model.specs.Touches.{payment_touch};
+ghost use Rattle.tpcc_rows.specs.RowMap.{Rows};
+
+use crate::choice::chosen_customer;
+use catalog::Catalog;
+use requests::reply::Refusal;
+use requests::request::Payment;
+use std::alloc::Global;
+use tpcc_rows::footprint::Footprint;
+use tpcc_rows::granule::Granule;
+use tpcc_rows::id::CustomerId;
+use tpcc_rows::memory::Memory;
+
+/// The customer who pays, where each key of the payment has its card.
+#[tactic(auto, unfolding(tpcc_model::specs::Payments::found_cards))]
+fn paying_customer(catalog: &Catalog, p: &Payment) -> Result<CustomerId, Refusal>
+    ensures { result ≡ paying_customer catalog.now p.now }
+{
+    let (warehouse, district) = (p.customer_warehouse, p.customer_district);
+    catalog.warehouse(p.warehouse).ok_or(Refusal::UnknownKey)?;
+    catalog
+        .district(p.warehouse, p.district)
+        .ok_or(Refusal::UnknownKey)?;
+    let chosen = chosen_customer(catalog, warehouse, district, &p.customer);
+    let customer = chosen.ok_or(Refusal::UnknownKey)?;
+    catalog
+        .customer(warehouse, district, customer)
+        .ok_or(Refusal::UnknownKey)?;
+    Ok(customer)
+}
+
+/// What a payment touches, whatever the rows are.
+#[tactic(auto, unfolding(tpcc_model::specs::Touches::payment_touch))]
+pub(crate) fn declare(alloc: Global, catalog: &Catalog, p: &Payment) -> Result<Footprint, Memory>
+    ensures { (rows : Rows) → IfOk result (λ footprint. footprint ≡ payment_touch (record { cards = catalog.now; rows = rows }) p.now) }
+{
+    let mut footprint = Footprint::new(alloc);
+    let Ok(customer) = paying_customer(catalog, p) else {
+        return Ok(footprint);
+    };
+    footprint.write(Granule::Warehouse {
+        warehouse: p.warehouse,
+    })?;
+    footprint.write(Granule::District {
+        warehouse: p.warehouse,
+        district: p.district,
+    })?;
+    footprint.write(Granule::Customer {
+        warehouse: p.customer_warehouse,
+        district: p.customer_district,
+        customer,
+    })?;
+    Ok(footprint)
+}

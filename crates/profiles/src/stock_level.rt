@@ -1,0 +1,132 @@
+//! Stock-Level (TPC-C clause 2.8): where the district has a card, its row and its book are read, and the stocks of the
+//! items in the lines of its last twenty orders.
+ghost use Rattle.std.specs.Prelude.{◌≡◌, ◌-◌, option_copied, IfOk, OnOk};
+ghost use Rattle.serializability.specs.Footprints.{joined};
+ghost use Rattle.tpcc_model.specs.StockLevels.{first_recent};
+ghost use Rattle.tpcc_model.specs.Touches.{line_touch, lines_touch, orders_touch, stock_level_touch};
+ghost use Rattle.tpcc_rows.specs.Limits.{IsBetween};
+ghost use Rattle.tpcc_rows.specs.Rows.{order_line_row};
+
+use catalog::Catalog;
+use requests::request::StockLevel;
+use rollback::PointedStore;
+use std::alloc::Global;
+use tpcc_rows::footprint::Footprint;
+use tpcc_rows::granule::Granule;
+use tpcc_rows::id::{LineNumber, OrderId};
+use tpcc_rows::key::RowKey;
+use tpcc_rows::memory::Memory;
+use tpcc_rows::row::OrderLineRow;
+
+fn order_line<'a>(
+    store: &'a PointedStore,
+    p: &StockLevel,
+    order: OrderId,
+    number: LineNumber,
+) -> Option<&'a OrderLineRow>
+    ensures { option_copied result ≡ order_line_row store.now.rows p.now.warehouse p.now.district order number }
+{
+    let key = RowKey::OrderLine {
+        warehouse: p.warehouse,
+        district: p.district,
+        order,
+        number,
+    };
+    store.get(&key)?.as_order_line()
+}
+
+/// The stock of the line's item, where it has a card.
+fn touch_line(
+    catalog: &Catalog,
+    p: &StockLevel,
+    line: Option<&OrderLineRow>,
+    footprint: &mut Footprint,
+) -> Result<(), Memory>
+    ensures { OnOk result (footprint.new ≡ joined footprint.old (line_touch catalog.now p.now (option_copied line.entry))) }
+{
+    match line {
+        Some(line) if catalog.stock(p.warehouse, line.item).is_some() => {
+            footprint.read(Granule::Stock {
+                warehouse: p.warehouse,
+                item: line.item,
+            })
+        }
+        _ => Ok(()),
+    }
+}
+
+fn line_number(number: u8) -> LineNumber
+    requires { IsBetween 1 15 number }
+    ensures { result ≡ number }
+{
+    LineNumber::new(number).unwrap()
+}
+
+/// The order's lines, of which there are at most fifteen.
+fn touch_lines(
+    catalog: &Catalog,
+    p: &StockLevel,
+    store: &PointedStore,
+    order: OrderId,
+    footprint: &mut Footprint,
+) -> Result<(), Memory>
+    ensures { OnOk result (footprint.new ≡ joined footprint.old (lines_touch (record { cards = catalog.now; rows = store.now.rows }) p.now order 15)) }
+{
+    for index in 0..15 {
+        let line = order_line(store, p, order, line_number(index + 1));
+        touch_line(catalog, p, line, footprint)?;
+    }
+    Ok(())
+}
+
+fn order_id(number: u32) -> OrderId
+    requires { IsBetween 1 9999999 number }
+    ensures { result ≡ number }
+{
+    OrderId::new(number).unwrap()
+}
+
+/// The last twenty orders before the next one.
+fn touch_recent(
+    catalog: &Catalog,
+    p: &StockLevel,
+    store: &PointedStore,
+    next: OrderId,
+    footprint: &mut Footprint,
+) -> Result<(), Memory>
+    ensures { OnOk result (footprint.new ≡ joined footprint.old (orders_touch (record { cards = catalog.now; rows = store.now.rows }) p.now (first_recent next) (next - first_recent next))) }
+{
+    let first = next.number().saturating_sub(20).max(1);
+    for order in first..next.number() {
+        touch_lines(catalog, p, store, order_id(order), footprint)?;
+    }
+    Ok(())
+}
+
+#[tactic(auto, unfolding(tpcc_model::specs::Touches::stock_level_touch))]
+pub(crate) fn declare(
+    alloc: Global,
+    catalog: &Catalog,
+    p: &StockLevel,
+    store: &PointedStore,
+) -> Result<Footprint, Memory>
+    ensures { IfOk result (λ footprint. footprint ≡ stock_level_touch (record { cards = catalog.now; rows = store.now.rows }) p.now) }
+{
+    let mut footprint = Footprint::new(alloc);
+    let (warehouse, district) = (p.warehouse, p.district);
+    if catalog.district(warehouse, district).is_none() {
+        return Ok(footprint);
+    }
+    footprint.read(Granule::District {
+        warehouse,
+        district,
+    })?;
+    footprint.read(Granule::Book {
+        warehouse,
+        district,
+    })?;
+    if let Some(row) = store.district(warehouse, district) {
+        touch_recent(catalog, p, store, row.next_order, &mut footprint)?;
+    }
+    Ok(footprint)
+}

@@ -1,0 +1,5 @@
+use Rattle.transactions.proofs.Framing.{step_frames}
+use Rattle.transactions.proofs.laws.frame.Goals as goal
+
+pub returns : goal.returns
+returns c = step_frames
