@@ -63,6 +63,17 @@ impl RowStore {
         Ok(RowStore { pages, alloc })
     }
 
+    /// A store with the same rows, each copied once.
+    pub fn copied(&self, alloc: Global) -> Result<RowStore, Memory>
+        ensures { IfOk result (λ store. store ≡ self.now) }
+    {
+        let mut pages = Vec::with_capacity(alloc, LEAVES)?;
+        for page in &self.pages {
+            pages.push(page.copied(alloc)?)?;
+        }
+        Ok(RowStore { pages, alloc })
+    }
+
     pub fn get(&self, key: &RowKey) -> Option<&Row>
         ensures value { option_copied result ≡ map.get self.now key.now }
         ensures kind { IfSome (option_copied result) (λ row. fits key.now row ≡ true) }

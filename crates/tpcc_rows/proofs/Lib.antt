@@ -10,6 +10,7 @@ pub mod Picks
 pub mod LeafPicks
 pub mod RowKindFacts
 pub mod Lengths
+pub mod Extending
 pub mod Fields
 pub mod RowBytes
 pub mod Puts

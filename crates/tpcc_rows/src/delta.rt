@@ -2,7 +2,8 @@
 ghost use Rattle.std.specs.Prelude.{◌≡◌, OnOk, OnErr, Some, None, option_copied, true};
 ghost use Rattle.std.specs.FinMap as map;
 ghost use Rattle.std.specs.List.{list_all};
-ghost use Rattle.tpcc_rows.specs.Changing.{change_fits};
+ghost use Rattle.serializability.specs.Changes.{with_changes};
+ghost use Rattle.tpcc_rows.specs.Changing.{IsExtendedInPart, change_fits};
 ghost use Rattle.tpcc_rows.specs.RowKinds.{fits};
 
 use crate::key::RowKey;
@@ -59,6 +60,17 @@ impl Delta {
         ensures err { OnErr result (self.new ≡ self.old) }
     {
         self.changes.insert(key, None)?;
+        Ok(())
+    }
+
+    /// These changes, and then those of the later delta, whose rows are moved. After a refusal a beginning of them, in key
+    /// order, is in.
+    pub fn append(&mut self, later: Delta) -> Result<(), Memory>
+        ensures ok { OnOk result (self.new ≡ with_changes self.old (map.entries later)) }
+        ensures err { OnErr result (IsExtendedInPart self.old self.new later) }
+    {
+        let mut changes = later.changes;
+        self.changes.append(&mut changes)?;
         Ok(())
     }
 

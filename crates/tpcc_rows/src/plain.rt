@@ -110,6 +110,17 @@ impl RowStore {
         Some(self.remove_stored(key)?.into_row())
     }
 
+    /// A store with the same rows, each copied once.
+    pub fn copied(&self, alloc: Global) -> Result<RowStore, Memory>
+        ensures { IfOk result (λ store. store ≡ self.now) }
+    {
+        let mut rows = Vec::with_capacity(alloc, self.rows.len())?;
+        for (key, row) in self.rows.iter() {
+            rows.push((*key, row.copied(alloc)?))?;
+        }
+        RowStore::from_rows(alloc, rows)
+    }
+
     /// How many rows there are.
     pub fn len(&self) -> usize
         ensures value { result ≡ length (map.entries self.now) }

@@ -35,6 +35,13 @@ impl StoredRow {
         &self.row
     }
 
+    /// The same row in another place.
+    pub(crate) fn copied(&self, alloc: Global) -> Result<StoredRow, Memory>
+        ensures { IfOk result (λ copy. copy ≡ self.now) }
+    {
+        StoredRow::new(alloc, self.row.copied())
+    }
+
     pub(crate) fn into_row(self) -> Row
         ensures { result ≡ self }
     {

@@ -92,6 +92,37 @@ fn changes(rt: HostRuntime) -> Result<(), Fail> {
     Ok(())
 }
 
+/// The sum of a warehouse.
+fn ytd_of(store: &RowStore, key: &RowKey) -> Option<i64> {
+    let row = store.get(key)?.as_warehouse()?;
+    Some(row.ytd.amount())
+}
+
+#[test]
+fn a_copy_stays(rt: HostRuntime) -> Result<(), Fail> {
+    let mut store = RowStore::new(rt.alloc());
+    let keys = [1, 2].map(|number| WarehouseId::new(number).map(|warehouse| RowKey::Warehouse {
+        warehouse,
+    }));
+    let [Some(one), Some(two)] = keys else {
+        return Err("keys".into());
+    };
+    for (key, ytd) in [(one, 5), (two, 7)] {
+        let row = warehouse(ytd).ok_or("a row")?;
+        if fits(&key, &row) {
+            store.put(key, row)?;
+        }
+    }
+    let copy = store.copied(rt.alloc())?;
+    let _ = store.remove(&one);
+    assert_eq!(rt; (store.len(), ytd_of(&store, &two)), (1, Some(7)));
+    assert_eq!(rt;
+        (copy.len(), ytd_of(&copy, &one), ytd_of(&copy, &two)),
+        (2, Some(5), Some(7))
+    );
+    Ok(())
+}
+
 fn put_order(
     store: &mut RowStore,
     customer: CustomerId,

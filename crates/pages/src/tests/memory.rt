@@ -48,3 +48,19 @@ fn moved_or_refused(rt: HostRuntime) {
         assert_eq!(rt; store.page(LEAF).len(), count);
     }
 }
+
+#[test]
+fn copied_or_refused(rt: HostRuntime) {
+    let (Some(keys), Ok(mut store)) = (one_leaf(), RowStore::new(rt.alloc())) else {
+        return;
+    };
+    for key in keys {
+        let _ = put(&mut store, key);
+    }
+    if let Ok(copy) = store.copied(rt.alloc()) {
+        assert_eq!(rt; copy.len(), store.len());
+        for (key, _) in store.page(LEAF).iter() {
+            assert!(rt; copy.get(key).is_some());
+        }
+    }
+}

@@ -79,6 +79,26 @@ fn rows_are_moved(rt: HostRuntime) -> Result<(), Fail> {
     Ok(())
 }
 
+/// A copy has the rows of its store, and keeps them when the store changes.
+#[test]
+fn rows_are_copied(rt: HostRuntime) -> Result<(), Fail> {
+    let mut paged = paged_store(rt.alloc())?;
+    let copy = paged.copied(rt.alloc())?;
+    assert_eq!(rt; copy.len(), 19);
+    for key in one_leaf().ok_or("keys")? {
+        let was = paged.remove(&key).ok_or("a row")?;
+        assert!(rt;
+            copy.get(&key)
+                .is_some_and(|row| fits(&key, row) && fits(&key, &was))
+        );
+    }
+    assert_eq!(rt; (paged.page(LEAF).len(), copy.page(LEAF).len()), (0, 7));
+    let warehouse = WarehouseId::new(2).ok_or("a warehouse")?;
+    let ytd = copy.warehouse(warehouse).map(|row| row.ytd.amount());
+    assert_eq!(rt; ytd, Some(500));
+    Ok(())
+}
+
 #[test]
 fn a_page_has_its_leaf(rt: HostRuntime) -> Result<(), Fail> {
     let paged = paged_store(rt.alloc())?;

@@ -1,6 +1,6 @@
 use Rattle.std.proofs.Common.{sym, ap, ◌∙◌}
 use Rattle.tpcc_rows.specs.Changing.{with_each}
-use Rattle.pages.proofs.Moving.{with_each-entries}
+use Rattle.tpcc_rows.proofs.Puts.{with_each-entries}
 use Rattle.pages.proofs.store.RowStore.from_plain.Goals as goal
 
 pub returns : goal.returns
