@@ -1,5 +1,5 @@
 //! A database from the bytes of an image.
-ghost use Rattle.std.specs.Prelude.{◌≡◌, ◌≢◌, ◌⊎◌, ◌+◌, ◌<◌, ◌≤◌, ◌^◌, length, Ok, Err, IfOk, IfErr, IfSome, IsErrOf, OnOk};
+ghost use Rattle.std.specs.Prelude.{◌≡◌, ◌≢◌, ◌⊎◌, ◌+◌, ◌<◌, ◌≤◌, ◌^◌, [], length, Ok, Err, IfOk, IfErr, IfSome, IsErrOf, OnOk};
 ghost use Rattle.tpcc_model.specs.Soundness.{IsSound};
 ghost use Rattle.rollback.specs.Marks.{AreClean};
 ghost use Rattle.loader.specs.Faults.{IsOfReading, IsOfText, StopsBy};
@@ -24,6 +24,7 @@ const MOST_BYTES: usize = 4_294_967_295;
 fn load_text(alloc: Global, text: &[u8]) -> Result<(Catalog, PointedStore), LoadError>
     requires { length text.now ≤ most_bytes }
     ensures ok { IfOk result (λ db. image text.now ≡ Ok (loaded db)) }
+    ensures points { IfOk result (λ db. db.1.points ≡ []) }
     ensures clean { IfOk result (λ db. AreClean db.1.dirty) }
     ensures sound { IfOk result (λ db. IsSound (loaded db)) }
     ensures err { IfErr result (λ e. StopsBy e (image text.now)) }
@@ -42,6 +43,7 @@ fn load_text(alloc: Global, text: &[u8]) -> Result<(Catalog, PointedStore), Load
 pub fn load<S: Source>(alloc: Global, source: &mut S) -> Result<(Catalog, PointedStore), LoadError>
     requires { S.failed source.old < 2 ^ 63 }
     ensures ok { IfOk result (λ db. IfSome (S.left source.old) (λ bytes. image bytes ≡ Ok (loaded db))) }
+    ensures points { IfOk result (λ db. db.1.points ≡ []) }
     ensures clean { IfOk result (λ db. AreClean db.1.dirty) }
     ensures within { OnOk result (IfSome (S.left source.old) (λ bytes. length bytes ≤ most_bytes)) }
     ensures sound { IfOk result (λ db. IsSound (loaded db)) }

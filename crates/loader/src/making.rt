@@ -1,5 +1,5 @@
 //! Databases that are made of numbers.
-ghost use Rattle.std.specs.Prelude.{◌≡◌, ◌+◌, ◌≤◌, IfOk, OnOk, false};
+ghost use Rattle.std.specs.Prelude.{◌≡◌, ◌+◌, ◌≤◌, [], IfOk, OnOk, false};
 ghost use Rattle.catalog.specs.declared.card.CardKey.TheVariants as card_key;
 ghost use Rattle.tpcc_model.specs.Soundness.{IsSound};
 ghost use Rattle.rollback.specs.Marks.{AreClean};
@@ -187,6 +187,7 @@ pub fn make(
     requires customers { IsBetween 1 3000 customers }
     requires items { IsBetween 1 100000 items }
     ensures value { IfOk result (λ db. loaded db ≡ made warehouses customers items) }
+    ensures points { IfOk result (λ db. db.1.points ≡ []) }
     ensures clean { IfOk result (λ db. AreClean db.1.dirty) }
     ensures sound { IfOk result (λ db. IsSound (loaded db)) }
 {

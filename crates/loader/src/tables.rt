@@ -1,5 +1,5 @@
 //! Cards and rows as they are filled.
-ghost use Rattle.std.specs.Prelude.{◌≡◌, IfErr, IfOk, IsSome, None, OnOk, false, true};
+ghost use Rattle.std.specs.Prelude.{◌≡◌, [], IfErr, IfOk, IsSome, None, OnOk, false, true};
 ghost use Rattle.std.specs.FinMap as map;
 ghost use Rattle.catalog.specs.CardKinds.{card_key};
 ghost use Rattle.catalog.specs.declared.builder.CatalogError.TheVariants as catalog_error;
@@ -24,13 +24,14 @@ pub(crate) struct Tables {
     pub(crate) rows: RowStore,
 }
 
-/// The rows on the pages of their leaves, of which none has changed.
+/// The rows on the pages of their leaves, of which none has changed, without a point.
 pub(crate) fn on_pages(alloc: Global, rows: RowStore) -> Result<PointedStore, Memory>
     ensures rows { IfOk result (λ store. store.rows ≡ rows) }
+    ensures points { IfOk result (λ store. store.points ≡ []) }
     ensures clean { IfOk result (λ store. AreClean store.dirty) }
 {
     let store = pages::RowStore::from_plain(alloc, rows)?;
-    Ok(PointedStore::new(store))
+    Ok(PointedStore::new(alloc, store))
 }
 
 impl Tables {

@@ -80,7 +80,7 @@ fn stored_again(rt: HostRuntime) -> Result<(), Fail> {
 #[test]
 fn cards_without_rows(rt: HostRuntime) -> Result<(), Fail> {
     let (catalog, _) = database(rt.alloc(), false)?;
-    let none = PointedStore::new(RowStore::new(rt.alloc())?);
+    let none = PointedStore::new(rt.alloc(), RowStore::new(rt.alloc())?);
     let mut out = b"before\n".to_vec(rt.alloc())?;
     store_image(rt.alloc(), &catalog, &none, &mut out)?;
     let stored: &[u8] = b"before\neve-tpcc,1\nI,1,ITEM1,100,PLAIN\nI,2,ITEM2,99999,ORIGINAL\nE,2\n";
@@ -91,7 +91,7 @@ fn cards_without_rows(rt: HostRuntime) -> Result<(), Fail> {
 #[test]
 fn no_database(rt: HostRuntime) -> Result<(), Fail> {
     let catalog = CatalogBuilder::new(rt.alloc()).finish(rt.alloc())?;
-    let none = PointedStore::new(RowStore::new(rt.alloc())?);
+    let none = PointedStore::new(rt.alloc(), RowStore::new(rt.alloc())?);
     let mut out = Vec::new(rt.alloc());
     store_image(rt.alloc(), &catalog, &none, &mut out)?;
     assert_eq!(rt; out.as_slice(), b"eve-tpcc,1\nE,0\n".as_slice());

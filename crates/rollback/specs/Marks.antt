@@ -1,5 +1,5 @@
 -- Sets of leaves, as a mark a leaf.
-use Rattle.std.specs.Prelude.{◌≡◌, ℕ, Bool, false, ◌||◌, eqb, List, get_or}
+use Rattle.std.specs.Prelude.{◌≡◌, ℕ, Bool, false, ◌||◌, eqb, nat_lt, List, get_or}
 use Rattle.std.specs.List.{list_any}
 use Rattle.std.specs.FinMap as map
 use Rattle.tpcc_rows.specs.Leaves.{leaf}
@@ -15,6 +15,10 @@ AreClean marks = (n : ℕ) → is_dirty marks n ≡ false
 -- the new leaves are the old ones and this one
 abbrev pub HasAlso : List Bool → ℕ → List Bool → Type 0
 HasAlso old leaf new = (n : ℕ) → is_dirty new n ≡ (eqb n leaf || is_dirty old n)
+
+-- the new leaves are the old ones and all of the tree's
+abbrev pub HasAlsoAll : List Bool → List Bool → Type 0
+HasAlsoAll old new = (n : ℕ) → is_dirty new n ≡ (nat_lt n 4096 || is_dirty old n)
 
 -- whether one of the changes is on the leaf
 abbrev pub changes_leaf : Changes → ℕ → Bool

@@ -1,6 +1,6 @@
 //! Sets of leaves.
 ghost use Rattle.std.specs.Prelude.{◌≡◌, ◌<◌};
-ghost use Rattle.rollback.specs.Marks.{AreClean, HasAlso, is_dirty};
+ghost use Rattle.rollback.specs.Marks.{AreClean, HasAlso, HasAlsoAll, is_dirty};
 
 use std::marker::Model;
 use std::mem;
@@ -43,6 +43,13 @@ impl Dirty {
         ensures { HasAlso self.old leaf self.new }
     {
         self.marks[leaf] = true;
+    }
+
+    /// All leaves are in the set from now on.
+    pub(crate) fn add_all(&mut self)
+        ensures { HasAlsoAll self.old self.new }
+    {
+        self.marks = [true; LEAVES];
     }
 
     /// The set as it was; it is empty from now on.

@@ -1,11 +1,13 @@
-//! A store that knows on which leaves its rows have changed.
+//! A store whose rows can go back to what they were at a point, and that knows on which leaves they have changed.
 #![tactic(auto)]
 
 pub mod dirty;
 pub mod pointed;
+pub mod refusal;
 
 pub use dirty::Dirty;
-pub use pointed::PointedStore;
+pub use pointed::{POINTS, PointedStore};
+pub use refusal::{MarkError, NoSuchPoint, RewindError};
 
 #[cfg(test)]
 mod tests;

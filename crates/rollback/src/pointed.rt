@@ -1,5 +1,5 @@
-//! Rows, and the leaves on which they have changed.
-ghost use Rattle.std.specs.Prelude.{◌≡◌, ◌<◌, IfSome, OnOk, OnErr, length, option_copied, true};
+//! Rows, the points to which they can go back, and the leaves on which they have changed.
+ghost use Rattle.std.specs.Prelude.{◌≡◌, ◌<◌, ◌≤◌, ◌+◌, ◌↔◌, [], ◌∷◌, ◌++◌, take, drop, IfSome, IsErr, Err, Some, OnOk, OnErr, length, option_copied, slice_get, true};
 ghost use Rattle.std.specs.FinMap as map;
 ghost use Rattle.serializability.specs.Changes.{changed};
 ghost use Rattle.tpcc_rows.specs.Changing.{IsMadeInPart, after, new_row_fits};
@@ -9,9 +9,13 @@ ghost use Rattle.tpcc_rows.specs.RowKinds.{fits};
 ghost use Rattle.tpcc_rows.specs.Rows.{customer_row, district_row, warehouse_row};
 ghost use Rattle.rollback.specs.Marks.{AreClean, HasAlso, HasAlsoThose};
 ghost use Rattle.rollback.specs.Pointed.{KeepsCleanLeaves};
+ghost use Rattle.rollback.specs.declared.refusal.MarkError.TheVariants as mark_error;
+ghost use Rattle.rollback.specs.declared.refusal.RewindError.TheVariants as rewind_error;
 
 use crate::dirty::Dirty;
+use crate::refusal::{MarkError, NoSuchPoint, RewindError};
 use pages::RowStore;
+use std::alloc::Global;
 use std::marker::Model;
 use tpcc_rows::codes::leaf;
 use tpcc_rows::delta::Delta;
@@ -21,10 +25,15 @@ use tpcc_rows::memory::Memory;
 use tpcc_rows::plain;
 use tpcc_rows::row::{CustomerRow, DistrictRow, Row, WarehouseRow};
 
-/// Rows, and the set of the leaves on which they have changed since it was last taken.
+/// At most so many points are kept.
+pub const POINTS: usize = 1;
+
+/// Rows, points to which they can go back, and the set of the leaves on which they have changed since it was last taken.
+/// A point is a copy of the rows.
 #[derive(Drop)]
 pub struct PointedStore {
     store: RowStore,
+    points: Vec<RowStore>,
     dirty: Dirty,
 }
 
@@ -35,17 +44,19 @@ impl Model for PointedStore {
 
     ghost coded = { pointed_code };
 
-    ghost view = { λ s. record { rows = s.store; dirty = s.dirty } };
+    ghost view = { λ s. record { rows = s.store; points = s.points.items; dirty = s.dirty } };
 }
 
 impl PointedStore {
-    /// The rows of a store; no leaf is dirty.
-    pub fn new(store: RowStore) -> PointedStore
+    /// The rows of a store; there is no point, and no leaf is dirty.
+    pub fn new(alloc: Global, store: RowStore) -> PointedStore
         ensures rows { result.rows ≡ store }
+        ensures points { result.points ≡ [] }
         ensures clean { AreClean result.dirty }
     {
         PointedStore {
             store,
+            points: Vec::new(alloc),
             dirty: Dirty::new(),
         }
     }
@@ -119,6 +130,7 @@ impl PointedStore {
         requires { fits key row ≡ true }
         ensures rows { OnOk result (self.new.rows ≡ map.insert self.old.rows key row) }
         ensures dirty { OnOk result (HasAlso self.old.dirty (leaf key) self.new.dirty) }
+        ensures points { self.new.points ≡ self.old.points }
         ensures err { OnErr result (self.new ≡ self.old) }
         ensures clean { KeepsCleanLeaves self.old self.new }
     {
@@ -133,6 +145,7 @@ impl PointedStore {
         ensures value { result ≡ map.get self.old.rows key.now }
         ensures rows { self.new.rows ≡ map.remove self.old.rows key.now }
         ensures dirty { HasAlso self.old.dirty (leaf key.now) self.new.dirty }
+        ensures points { self.new.points ≡ self.old.points }
         ensures clean { KeepsCleanLeaves self.old self.new }
     {
         self.dirty.add(leaf(key));
@@ -143,6 +156,7 @@ impl PointedStore {
         requires { new_row_fits key.now new_row.now ≡ true }
         ensures rows { OnOk result (self.new.rows ≡ changed self.old.rows key.now new_row.now) }
         ensures dirty { OnOk result (HasAlso self.old.dirty (leaf key.now) self.new.dirty) }
+        ensures points { self.new.points ≡ self.old.points }
         ensures err { OnErr result (self.new ≡ self.old) }
         ensures clean { KeepsCleanLeaves self.old self.new }
     {
@@ -161,6 +175,7 @@ impl PointedStore {
         ensures ok { OnOk result (self.new.rows ≡ after self.old.rows delta.now) }
         ensures err { OnErr result (IsMadeInPart self.old.rows self.new.rows delta.now) }
         ensures dirty { OnOk result (HasAlsoThose self.old.dirty delta.now self.new.dirty) }
+        ensures points { self.new.points ≡ self.old.points }
         ensures clean { KeepsCleanLeaves self.old self.new }
     {
         for (key, new_row) in delta.iter() {
@@ -174,7 +189,80 @@ impl PointedStore {
         ensures taken { result ≡ self.old.dirty }
         ensures clean { AreClean self.new.dirty }
         ensures rows { self.new.rows ≡ self.old.rows }
+        ensures points { self.new.points ≡ self.old.points }
     {
         self.dirty.take()
+    }
+
+    /// How many points there are.
+    pub fn points(&self) -> usize
+        ensures { result ≡ length self.now.points }
+    {
+        self.points.len()
+    }
+
+    /// The present rows become the newest point.
+    pub fn mark(&mut self, alloc: Global) -> Result<(), MarkError>
+        ensures points { OnOk result (self.new.points ≡ self.old.points ++ self.old.rows ∷ []) }
+        ensures full { (result ≡ Err mark_error.PointsFull) ↔ (POINTS ≤ length self.old.points) }
+        ensures rows { self.new.rows ≡ self.old.rows }
+        ensures dirty { self.new.dirty ≡ self.old.dirty }
+        ensures err { OnErr result (self.new ≡ self.old) }
+    {
+        if self.points.len() >= POINTS {
+            return Err(MarkError::PointsFull);
+        }
+        let point = self.store.copied(alloc)?;
+        self.points.push(point)?;
+        Ok(())
+    }
+
+    /// Forgets the oldest point.
+    pub fn drop_oldest(&mut self) -> Result<(), NoSuchPoint>
+        ensures points { OnOk result (self.new.points ≡ drop 1 self.old.points) }
+        ensures none { IsErr result ↔ (self.old.points ≡ []) }
+        ensures rows { self.new.rows ≡ self.old.rows }
+        ensures dirty { self.new.dirty ≡ self.old.dirty }
+        ensures err { OnErr result (self.new ≡ self.old) }
+    {
+        if self.points.is_empty() {
+            return Err(NoSuchPoint);
+        }
+        self.points.remove(0);
+        Ok(())
+    }
+
+    /// The rows are those of the point from now on, of which the oldest is 0. It and the later ones are forgotten.
+    pub fn back_to(&mut self, point: usize) -> Result<(), NoSuchPoint>
+        ensures rows { OnOk result (slice_get self.old.points point ≡ Some self.new.rows) }
+        ensures points { OnOk result (self.new.points ≡ take point self.old.points) }
+        ensures none { IsErr result ↔ (length self.old.points ≤ point) }
+        ensures err { OnErr result (self.new ≡ self.old) }
+        ensures clean { KeepsCleanLeaves self.old self.new }
+    {
+        if point >= self.points.len() {
+            return Err(NoSuchPoint);
+        }
+        self.store = self.points.remove(point);
+        self.points.truncate(point);
+        self.dirty.add_all();
+        Ok(())
+    }
+
+    /// The rows are those of the point from now on, of which the oldest is 0. The later ones are forgotten.
+    pub fn rewind(&mut self, alloc: Global, point: usize) -> Result<(), RewindError>
+        ensures rows { OnOk result (slice_get self.old.points point ≡ Some self.new.rows) }
+        ensures points { OnOk result (self.new.points ≡ take (point + 1) self.old.points) }
+        ensures none { (result ≡ Err rewind_error.NoSuchPoint) ↔ (length self.old.points ≤ point) }
+        ensures err { OnErr result (self.new ≡ self.old) }
+        ensures clean { KeepsCleanLeaves self.old self.new }
+    {
+        if point >= self.points.len() {
+            return Err(RewindError::NoSuchPoint);
+        }
+        self.store = self.points[point].copied(alloc)?;
+        self.points.truncate(point + 1);
+        self.dirty.add_all();
+        Ok(())
     }
 }

@@ -9,6 +9,7 @@ use tpcc_rows::number::Cents;
 use tpcc_rows::row::{DistrictRow, Row, WarehouseRow};
 
 mod memory;
+mod points;
 
 /// The leaf of the first warehouse.
 const WAREHOUSE_LEAF: usize = 2867;
@@ -48,7 +49,7 @@ fn both(delta: &mut Delta) -> Option<()> {
 
 #[test]
 fn changes_are_dirty(rt: HostRuntime) -> Result<(), Fail> {
-    let mut store = PointedStore::new(RowStore::new(rt.alloc())?);
+    let mut store = PointedStore::new(rt.alloc(), RowStore::new(rt.alloc())?);
     let mut delta = Delta::new(rt.alloc());
     both(&mut delta).ok_or("changes")?;
     store.apply(&delta)?;
@@ -62,7 +63,7 @@ fn changes_are_dirty(rt: HostRuntime) -> Result<(), Fail> {
 
 #[test]
 fn removals_are_dirty(rt: HostRuntime) -> Result<(), Fail> {
-    let mut store = PointedStore::new(RowStore::new(rt.alloc())?);
+    let mut store = PointedStore::new(rt.alloc(), RowStore::new(rt.alloc())?);
     let mut delta = Delta::new(rt.alloc());
     both(&mut delta).ok_or("changes")?;
     store.apply(&delta)?;
@@ -78,7 +79,7 @@ fn removals_are_dirty(rt: HostRuntime) -> Result<(), Fail> {
 
 #[test]
 fn read_by_kind(rt: HostRuntime) -> Result<(), Fail> {
-    let mut store = PointedStore::new(RowStore::new(rt.alloc())?);
+    let mut store = PointedStore::new(rt.alloc(), RowStore::new(rt.alloc())?);
     let mut delta = Delta::new(rt.alloc());
     both(&mut delta).ok_or("changes")?;
     store.apply(&delta)?;

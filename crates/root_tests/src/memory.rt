@@ -10,7 +10,7 @@ fn build(rt: HostRuntime) {
     let Ok(rows) = RowStore::new(rt.alloc()) else {
         return;
     };
-    let store = PointedStore::new(rows);
+    let store = PointedStore::new(rt.alloc(), rows);
     let text = "7bbcd27ae0b8f5d7c013dc6d13a2e586b58f83eac62aa62aa56f332288ad8bf4";
     match Tree::build(&rt, rt.alloc(), &store) {
         Ok(tree) => assert_eq!(rt; Some(tree.root()), <[u8; 32]>::from_hex(text).ok()),

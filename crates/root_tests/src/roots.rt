@@ -26,7 +26,7 @@ fn stored(alloc: Global, pairs: &Pairs) -> Result<PointedStore, Fail> {
             rows.put(*key, row)?;
         }
     }
-    Ok(PointedStore::new(rows))
+    Ok(PointedStore::new(alloc, rows))
 }
 
 /// The root of the rows' tree.

@@ -13,6 +13,7 @@ use std::test::Fail;
 use std::thread::Threads;
 use tpcc_rows::id::RequestNumber;
 use transactions::execute;
+use worker_rows::Whole;
 
 /// Lines of an image, each with the lines that stand in its place.
 pub type Edit = &'static [(&'static str, &'static str)];
@@ -71,7 +72,8 @@ fn execute_batch(
     let mut next = first;
     for request in batch.requests.as_slice() {
         let number = RequestNumber::new(next).ok_or("a request's number")?;
-        let (_, delta) = execute(alloc, catalog, request, number, batch.moment, store)?;
+        let view = Whole { store: &*store };
+        let (_, delta) = execute(alloc, catalog, request, number, batch.moment, &view)?;
         store.apply(&delta)?;
         next = next.saturating_add(1);
     }

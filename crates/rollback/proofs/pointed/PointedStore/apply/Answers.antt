@@ -1,4 +1,4 @@
-use Rattle.std.proofs.Common.{eqb, ◌∷◌, ◌++◌, [], Option}
+use Rattle.std.proofs.Common.{eqb, ◌∷◌, ◌++◌, [], Option, ◌∙◌}
 use Rattle.tpcc_rows.specs.declared.key.RowKey.{RowKey}
 use Rattle.tpcc_rows.specs.declared.row.Row.{Row}
 use Rattle.tpcc_rows.specs.Leaves.{leaf}
@@ -8,7 +8,7 @@ use Rattle.rollback.proofs.pointed.PointedStore.apply.Goals as goal
 
 pub loop-key-preserved : goal.loop-key-preserved
 loop-key-preserved c =
-    let (made, whole, so_far, fits, marks, clean) = c.loop-key.invariant in
+    let (made, whole, so_far, fits, marks, points, clean) = c.loop-key.invariant in
     let change : RowKey × Option Row = (c.in-Some.key.now, c.in-Some.new_row.now) in
     let more = made-more _ made _ _ change _ _ c.change.new.self.rows whole c.in-Some.ensures.steps so_far c.in_ok-change.ensures.rows in (
       made ++ change ∷ [],
@@ -16,5 +16,6 @@ loop-key-preserved c =
       more.1,
       rest-fits _ change _ c.in-Some.ensures.steps fits,
       (λ n. marks-more (λ e. eqb n (leaf e.0)) made change _ _ _ (marks n) (c.in_ok-change.ensures.dirty n)),
-      keeps-more _ _ _ clean c.change.ensures.clean,
+      c.change.ensures.points ∙ points,
+      keeps-more c.args.self.now c.loop-key.self c.change.new.self clean c.change.ensures.clean,
     )

@@ -14,4 +14,4 @@ use Rattle.rollback.proofs.pointed.PointedStore.apply.Given as goal
 abbrev pub invariant-loop-key : goal.invariant-loop-key
 invariant-loop-key l =
     (made : List (RowKey × Option Row)) × (map.entries l.delta ≡ made ++ l.key-iterator) × (l.self.rows ≡ apply made l.fn.self.rows) × (list_all change_fits l.key-iterator ≡ true)
-    × ((n : ℕ) → is_dirty l.self.dirty n ≡ (list_any (λ change. eqb n (leaf change.0)) made || is_dirty l.fn.self.dirty n)) × KeepsCleanLeaves l.fn.self l.self
+    × ((n : ℕ) → is_dirty l.self.dirty n ≡ (list_any (λ change. eqb n (leaf change.0)) made || is_dirty l.fn.self.dirty n)) × (l.self.points ≡ l.fn.self.points) × KeepsCleanLeaves l.fn.self l.self
