@@ -15,6 +15,7 @@ use std::thread::Threads;
 use std::time::{Duration, Instant};
 use tpcc_rows::id::RequestNumber;
 use transactions::execute;
+use worker_rows::Whole;
 
 const BATCHES: u32 = 3;
 
@@ -101,7 +102,8 @@ fn serve<R: Clock + AllocGlobal + Threads + Sync>(
     for request in batch.requests.as_slice() {
         let id = RequestNumber::new(number).ok_or(invalid())?;
         let start = Instant::now(rt)?;
-        let done = execute(rt.alloc(), catalog, request, id, batch.moment, store);
+        let view = Whole { store: &*store };
+        let done = execute(rt.alloc(), catalog, request, id, batch.moment, &view);
         stages.executing = stages.executing.saturating_add(start.elapsed(rt)?);
         let (reply, changes) = done.map_err(|_| invalid())?;
         let start = Instant::now(rt)?;

@@ -14,4 +14,5 @@ refused_by view definition (Err fault) why is by = subst (IsFaultOf definition) 
 pub faulted_by : {A B C : Type 0} (view : A → C) (stage : Result B Refusal) (whole : Result C Refusal) (f : Fault) (result : Result A Fault) → ((why : Refusal) → stage ≡ Err why → whole ≡ Err why) → IsFaultOf stage f → IsErrAnd result (λ g. g ≡ f) → AnswersBy view whole result
 faulted_by view stage whole f (Ok x) on is by = absurd by
 faulted_by view stage whole (fault.Refused why) (Err g) on is by = subst (IsFaultOf whole) (sym by) (on why is)
+faulted_by view stage whole fault.Strayed (Err g) on is by = absurd is
 faulted_by view stage whole fault.Memory (Err g) on is by = subst (IsFaultOf whole) (sym by) tt

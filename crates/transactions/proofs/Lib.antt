@@ -1,6 +1,9 @@
 pub mod Doing
 pub mod ForEach
 pub mod FaultFacts
+pub mod Covering
+pub mod Lending
+pub mod LentTouches
 pub mod FoundLines
 pub mod HeldItems
 pub mod LowItemFacts
@@ -20,4 +23,5 @@ pub mod DeliverySteps
 pub mod DeliveryKeeps
 pub mod Keeping
 pub mod Framing
+pub mod Within
 pub mod Framed

@@ -1,3 +1,4 @@
+pub mod Lending
 pub mod Outcomes
 pub mod Faults
 pub mod NewOrderParts

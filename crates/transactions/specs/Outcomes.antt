@@ -1,16 +1,27 @@
 -- What the code's types stand for.
-use Rattle.std.specs.Prelude.{◌≡◌, Result, Ok, Err}
+use Rattle.std.specs.Prelude.{◌≡◌, Bool, true, false, Result, Ok, Err, MatchResult}
 use Rattle.requests.specs.declared.reply.Reply.{Reply}
 use Rattle.requests.specs.declared.reply.Refusal.{Refusal}
 use Rattle.tpcc_model.specs.Payments.{Paid}
 use Rattle.tpcc_model.specs.Steps.{Outcome}
 use Rattle.tpcc_rows.specs.RowMap.{Changes}
 use Rattle.transactions.specs.declared.payment.NewRows.{NewRows}
+use Rattle.transactions.specs.declared.exec_error.ExecError.{ExecError}
+use Rattle.transactions.specs.declared.exec_error.ExecError.TheVariants as exec_error
 
 -- the pair is the outcome
 pub record IsOutcome (outcome : Outcome) (pair : Reply × Changes) : Type 0 where
   pub reply : pair.0 ≡ outcome.reply
   pub changes : pair.1 ≡ outcome.changes
+
+-- it strays where the touch isn't within the view; memory may be refused at any time
+abbrev pub IsErrorWithin : Bool → ExecError → Type 0
+IsErrorWithin within exec_error.Strayed = within ≡ false
+IsErrorWithin within exec_error.Memory = Unit {0}
+
+-- the outcome where the touch is within the view
+abbrev pub Executes : Bool → Outcome → Result (Reply × Changes) ExecError → Type 0
+Executes within outcome result = MatchResult result (λ pair. (within ≡ true) × IsOutcome outcome pair) (IsErrorWithin within)
 
 -- an answer of the code, as the definitions have it
 abbrev pub viewed : {A B : Type 0} → (A → B) → Result A Refusal → Result B Refusal
@@ -19,7 +30,3 @@ viewed view (Err why) = Err why
 
 abbrev pub paid_of : NewRows → Paid
 paid_of n = record { warehouse = n.warehouse; district = n.district; customer = n.customer; history = n.history; customer_id = n.customer_id; credit = n.credit }
-
-abbrev pub new_rows_of : Result Paid Refusal → Result NewRows Refusal
-new_rows_of (Ok n) = Ok (record { warehouse = n.warehouse; district = n.district; customer = n.customer; history = n.history; customer_id = n.customer_id; credit = n.credit })
-new_rows_of (Err e) = Err e

@@ -1,31 +1,39 @@
 //! Delivery (TPC-C clause 2.7): the card of the warehouse is found, then the oldest new order of each district is
 //! delivered in turn, on the rows as the earlier districts leave them. All of it is one transaction.
-ghost use Rattle.std.specs.Prelude.{◌≡◌, ◌≤◌, map, option_copied, IfOk, OnOk};
+ghost use Rattle.std.specs.Prelude.{◌≡◌, ◌≤◌, is_ok, map, option_copied, IfOk, OnOk};
+ghost use Rattle.std.specs.List.{list_all};
+ghost use Rattle.tpcc_model.specs.Database.{Database};
 ghost use Rattle.tpcc_model.specs.Deliveries.{amount_of, carried, credited, delivery, districts_delivered, line_dated, lines_amount, lines_dated, oldest_delivered, order_delivered};
 ghost use Rattle.tpcc_model.specs.Steps.{delivery_outcome};
+ghost use Rattle.tpcc_model.specs.Touches.{credited_touch, delivery_touch, district_touch, oldest_touch};
 ghost use Rattle.tpcc_rows.specs.Changing.{after};
 ghost use Rattle.tpcc_rows.specs.Limits.{ten};
 ghost use Rattle.tpcc_rows.specs.Picks.{oldest};
 ghost use Rattle.tpcc_rows.specs.Rows.{order_line_row};
 ghost use Rattle.tpcc_rows.specs.declared.key.RowKey.TheVariants as key;
 ghost use Rattle.transactions.specs.DeliveryParts.{delivered_of};
-ghost use Rattle.transactions.specs.Faults.{AnswersBy};
-ghost use Rattle.transactions.specs.Outcomes.{IsOutcome};
+ghost use Rattle.transactions.specs.Faults.{AnswersBy, AnswersWithin};
+ghost use Rattle.transactions.specs.Lending.{lent};
+ghost use Rattle.transactions.specs.Outcomes.{Executes};
+ghost use Rattle.worker_rows.specs.Views.{covers};
 
+use crate::exec_error::ExecError;
 use crate::fault::Fault;
+use crate::lent;
 use crate::new_order::line_number;
 use crate::seen::{customer_seen, order_line_seen, order_seen};
 use catalog::Catalog;
 use requests::reply::{DeliveryReply, Refusal, Reply};
 use requests::request::{Delivery, RequestKind};
-use rollback::PointedStore;
 use std::alloc::Global;
 use tpcc_rows::delta::Delta;
-use tpcc_rows::id::{DistrictId, LineNumber, OrderId, WarehouseId};
+use tpcc_rows::granule::Granule;
+use tpcc_rows::id::{DistrictId, LineNumber, OrderId};
 use tpcc_rows::key::RowKey;
 use tpcc_rows::memory::Memory;
 use tpcc_rows::number::Moment;
 use tpcc_rows::row::{CustomerRow, OrderLineRow, OrderRow, Row};
+use worker_rows::{RowView, Strayed};
 
 fn amount_of(line: Option<&OrderLineRow>) -> u32
     ensures value { result ≡ amount_of (option_copied line.entry) }
@@ -38,20 +46,20 @@ fn amount_of(line: Option<&OrderLineRow>) -> u32
 }
 
 /// The sum of OL_AMOUNT of the order's lines, as many as these.
-fn lines_amount(
-    store: &PointedStore,
+fn lines_amount<V: RowView>(
+    view: &V,
     changes: &Delta,
     p: &Delivery,
     district: DistrictId,
     order: OrderId,
     count: LineNumber,
 ) -> u32
-    ensures { result ≡ lines_amount (after store.now.rows changes.now) p.now district order count }
+    ensures { result ≡ lines_amount (after (lent (V.sees view.now)) changes.now) p.now district order count }
 {
     let mut amount = 0;
     for index in 0..usize::from(count.number()) {
         let number = line_number(index + 1);
-        let line = order_line_seen(store, changes, p.warehouse, district, order, number);
+        let line = order_line_seen(view, changes, p.warehouse, district, order, number);
         amount += amount_of(line);
     }
     amount
@@ -73,8 +81,8 @@ fn credited(old: &CustomerRow, amount: u32) -> Result<CustomerRow, Refusal>
 }
 
 /// One line, which gets the moment as its delivery date where it is there.
-fn line_dated(
-    store: &PointedStore,
+fn line_dated<V: RowView>(
+    view: &V,
     p: &Delivery,
     moment: Moment,
     district: DistrictId,
@@ -82,9 +90,9 @@ fn line_dated(
     number: LineNumber,
     changes: &mut Delta,
 ) -> Result<(), Memory>
-    ensures { OnOk result (changes.new ≡ line_dated moment (key.OrderLine p.now.warehouse district order number) (order_line_row (after store.now.rows changes.old) p.now.warehouse district order number) changes.old) }
+    ensures { OnOk result (changes.new ≡ line_dated moment (key.OrderLine p.now.warehouse district order number) (order_line_row (after (lent (V.sees view.now)) changes.old) p.now.warehouse district order number) changes.old) }
 {
-    let line = order_line_seen(store, changes, p.warehouse, district, order, number);
+    let line = order_line_seen(view, changes, p.warehouse, district, order, number);
     if let Some(line) = line {
         let mut dated = line.copied();
         dated.delivery = Some(moment);
@@ -100,8 +108,8 @@ fn line_dated(
 }
 
 /// The order's lines, as many as these, each on the rows as the earlier ones leave them.
-fn lines_dated(
-    store: &PointedStore,
+fn lines_dated<V: RowView>(
+    view: &V,
     p: &Delivery,
     moment: Moment,
     district: DistrictId,
@@ -109,11 +117,11 @@ fn lines_dated(
     count: LineNumber,
     changes: &mut Delta,
 ) -> Result<(), Memory>
-    ensures { OnOk result (changes.new ≡ lines_dated store.now.rows p.now moment district order count changes.old) }
+    ensures { OnOk result (changes.new ≡ lines_dated (lent (V.sees view.now)) p.now moment district order count changes.old) }
 {
     for index in 0..usize::from(count.number()) {
         let number = line_number(index + 1);
-        line_dated(store, p, moment, district, order, number, changes)?;
+        line_dated(view, p, moment, district, order, number, changes)?;
     }
     Ok(())
 }
@@ -149,24 +157,24 @@ fn carried(
 }
 
 #[tactic(auto, unfolding(tpcc_model::specs::Deliveries::order_delivered))]
-fn order_delivered(
-    store: &PointedStore,
+fn order_delivered<V: RowView>(
+    view: &V,
     p: &Delivery,
     moment: Moment,
     district: DistrictId,
     order: OrderId,
     changes: &mut Delta,
 ) -> Result<(), Fault>
-    ensures { AnswersBy (λ done. changes.new) (order_delivered store.now.rows p.now moment district order changes.old) result }
+    ensures { AnswersBy (λ done. changes.new) (order_delivered (lent (V.sees view.now)) p.now moment district order changes.old) result }
 {
-    let row = order_seen(store, changes, p.warehouse, district, order);
+    let row = order_seen(view, changes, p.warehouse, district, order);
     let row = *row.ok_or(Refusal::UnknownKey)?;
-    let old = customer_seen(store, changes, p.warehouse, district, row.customer);
+    let old = customer_seen(view, changes, p.warehouse, district, row.customer);
     let old = old.ok_or(Refusal::UnknownKey)?;
-    let amount = lines_amount(store, changes, p, district, order, row.line_count);
+    let amount = lines_amount(view, changes, p, district, order, row.line_count);
     let new = credited(old, amount)?;
     carried(p, district, order, row, changes)?;
-    lines_dated(store, p, moment, district, order, row.line_count, changes)?;
+    lines_dated(view, p, moment, district, order, row.line_count, changes)?;
     let customer_key = RowKey::Customer {
         warehouse: p.warehouse,
         district,
@@ -177,78 +185,136 @@ fn order_delivered(
 }
 
 /// A district without a new order is skipped.
-fn oldest_delivered(
-    store: &PointedStore,
+fn oldest_delivered<V: RowView>(
+    view: &V,
     p: &Delivery,
     moment: Moment,
     district: DistrictId,
     oldest: Option<OrderId>,
     changes: &mut Delta,
 ) -> Result<(), Fault>
-    ensures { AnswersBy (λ done. changes.new) (oldest_delivered store.now.rows p.now moment district oldest changes.old) result }
+    ensures { AnswersBy (λ done. changes.new) (oldest_delivered (lent (V.sees view.now)) p.now moment district oldest changes.old) result }
 {
     match oldest {
-        Some(order) => order_delivered(store, p, moment, district, order, changes),
+        Some(order) => order_delivered(view, p, moment, district, order, changes),
         None => Ok(()),
     }
 }
 
-/// The oldest new order of each district.
-fn oldest_orders(store: &PointedStore, warehouse: WarehouseId) -> [Option<OrderId>; 10]
-    ensures { result ≡ map (oldest store.now.rows warehouse) ten }
+/// Whether the customer of the order, where it is there, may be written.
+fn may_credit<V: RowView>(
+    view: &V,
+    p: &Delivery,
+    district: DistrictId,
+    order: Option<&OrderRow>,
+) -> bool
+    ensures { result ≡ covers (V.sees view.now) (credited_touch p.now district (option_copied order.entry)) }
+{
+    match order {
+        Some(order) => {
+            let customer = Granule::Customer {
+                warehouse: p.warehouse,
+                district,
+                customer: order.customer,
+            };
+            lent::may_write(view, &customer)
+        }
+        None => true,
+    }
+}
+
+/// Whether what the delivery of the order changes may be written.
+#[tactic(auto, using(crate::proofs::LentTouches::covers_oldest))]
+fn may_deliver<V: RowView>(view: &V, p: &Delivery, district: DistrictId, order: OrderId) -> bool
+    ensures { result ≡ covers (V.sees view.now) (oldest_touch (lent (V.sees view.now)) p.now district (Some order)) }
+{
+    let book = Granule::Book {
+        warehouse: p.warehouse,
+        district,
+    };
+    lent::may_write(view, &book)
+        && may_credit(
+            view,
+            p,
+            district,
+            lent::order(view, p.warehouse, district, order),
+        )
+}
+
+/// The oldest new order of the district, where it may be delivered.
+#[tactic(auto, using(crate::proofs::LentTouches::covers_book))]
+fn oldest_order<V: RowView>(
+    view: &V,
+    p: &Delivery,
+    district: DistrictId,
+) -> Result<Option<OrderId>, Strayed>
+    ensures strays { is_ok result ≡ covers (V.sees view.now) (district_touch (lent (V.sees view.now)) p.now district) }
+    ensures order { IfOk result (λ order. order ≡ oldest (lent (V.sees view.now)) p.now.warehouse district) }
+{
+    let oldest = lent::oldest_new(view, p.warehouse, district)?;
+    match oldest {
+        Some(order) if !may_deliver(view, p, district, order) => Err(Strayed),
+        _ => Ok(oldest),
+    }
+}
+
+/// The oldest new order of each district, where all of them may be delivered.
+fn oldest_orders<V: RowView>(view: &V, p: &Delivery) -> Result<[Option<OrderId>; 10], Strayed>
+    ensures strays { is_ok result ≡ list_all (λ d. covers (V.sees view.now) (district_touch (lent (V.sees view.now)) p.now d)) ten }
+    ensures orders { IfOk result (λ orders. orders ≡ map (oldest (lent (V.sees view.now)) p.now.warehouse) ten) }
 {
     let mut orders = [None; 10];
     for (index, district) in DistrictId::all().iter().enumerate() {
-        orders[index] = store.oldest_new(warehouse, *district);
+        orders[index] = oldest_order(view, p, *district)?;
     }
-    orders
+    Ok(orders)
 }
 
 /// The districts in turn, each on the rows as the earlier ones leave them.
-fn districts_delivered(
-    store: &PointedStore,
+fn districts_delivered<V: RowView>(
+    view: &V,
     p: &Delivery,
     moment: Moment,
     orders: &[Option<OrderId>; 10],
     changes: &mut Delta,
 ) -> Result<(), Fault>
-    requires { orders.now ≡ map (oldest store.now.rows p.now.warehouse) ten }
-    ensures { AnswersBy (λ done. changes.new) (districts_delivered store.now.rows p.now moment ten changes.old) result }
+    requires { orders.now ≡ map (oldest (lent (V.sees view.now)) p.now.warehouse) ten }
+    ensures { AnswersBy (λ done. changes.new) (districts_delivered (lent (V.sees view.now)) p.now moment ten changes.old) result }
 {
     for (index, district) in DistrictId::all().iter().enumerate() {
-        oldest_delivered(store, p, moment, *district, orders[index], changes)?;
+        oldest_delivered(view, p, moment, *district, orders[index], changes)?;
     }
     Ok(())
 }
 
-#[tactic(auto, unfolding(tpcc_model::specs::Deliveries::delivery))]
-fn delivery(
+#[tactic(auto, using(crate::proofs::LentTouches::covers_ten), unfolding(tpcc_model::specs::Touches::delivery_touch, tpcc_model::specs::Deliveries::delivery))]
+fn delivery<V: RowView>(
     alloc: Global,
     catalog: &Catalog,
     p: &Delivery,
     moment: Moment,
-    store: &PointedStore,
+    view: &V,
 ) -> Result<(DeliveryReply, Delta), Fault>
-    ensures { AnswersBy delivered_of (delivery (record { cards = catalog.now; rows = store.now.rows }) p.now moment) result }
+    ensures { let db : Database = record { cards = catalog.now; rows = lent (V.sees view.now) } in AnswersWithin delivered_of (covers (V.sees view.now) (delivery_touch db p.now)) (delivery db p.now moment) result }
 {
     catalog.warehouse(p.warehouse).ok_or(Refusal::UnknownKey)?;
-    let orders = oldest_orders(store, p.warehouse);
+    let orders = oldest_orders(view, p)?;
     let mut changes = Delta::new(alloc);
-    districts_delivered(store, p, moment, &orders, &mut changes)?;
+    districts_delivered(view, p, moment, &orders, &mut changes)?;
     Ok((DeliveryReply { orders }, changes))
 }
 
 /// The reply to a delivery, and the rows that it changes.
-pub(crate) fn execute(
+pub(crate) fn execute<V: RowView>(
     alloc: Global,
     catalog: &Catalog,
     p: &Delivery,
     moment: Moment,
-    store: &PointedStore,
-) -> Result<(Reply, Delta), Memory>
-    ensures { IfOk result (IsOutcome (delivery_outcome (delivery (record { cards = catalog.now; rows = store.now.rows }) p.now moment))) }
+    view: &V,
+) -> Result<(Reply, Delta), ExecError>
+    ensures { let db : Database = record { cards = catalog.now; rows = lent (V.sees view.now) } in Executes (covers (V.sees view.now) (delivery_touch db p.now)) (delivery_outcome (delivery db p.now moment)) result }
 {
-    match delivery(alloc, catalog, p, moment, store) {
+    match delivery(alloc, catalog, p, moment, view) {
         Ok((reply, changes)) => Ok((Reply::Delivery(reply), changes)),
         Err(Fault::Refused(refusal)) => Ok((
             Reply::Refused {
@@ -257,6 +323,7 @@ pub(crate) fn execute(
             },
             Delta::new(alloc),
         )),
-        Err(Fault::Memory) => Err(Memory),
+        Err(Fault::Strayed) => Err(ExecError::Strayed),
+        Err(Fault::Memory) => Err(ExecError::Memory),
     }
 }

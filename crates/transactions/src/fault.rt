@@ -1,11 +1,13 @@
-//! Why a step has no outcome: it is refused, or memory was.
+//! Why a step has no outcome: it is refused, it strays, or memory was refused.
 use requests::reply::Refusal;
 use std::alloc::{AllocError, AllocFailed};
 use tpcc_rows::memory::Memory;
+use worker_rows::Strayed;
 
 #[derive(Clone, Copy, Debug, PartialEq, Eq)]
 pub(crate) enum Fault {
     Refused(Refusal),
+    Strayed,
     Memory,
 }
 
@@ -16,6 +18,16 @@ impl From<Refusal> for Fault {
 
     fn from(refusal: Refusal) -> Fault {
         Fault::Refused(refusal)
+    }
+}
+
+impl From<Strayed> for Fault {
+    ghost use Rattle.transactions.specs.Faults.{IsStrayed};
+
+    ghost from_gives = { IsStrayed };
+
+    fn from(_: Strayed) -> Fault {
+        Fault::Strayed
     }
 }
 

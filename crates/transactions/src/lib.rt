@@ -3,8 +3,10 @@
 
 mod choice;
 mod delivery;
+pub mod exec_error;
 mod fault;
 pub mod laws;
+mod lent;
 mod new_order;
 mod order_line;
 mod order_status;
@@ -13,6 +15,7 @@ mod seen;
 mod stock_level;
 mod transaction;
 
+pub use exec_error::ExecError;
 pub use transaction::execute;
 
 #[cfg(test)]

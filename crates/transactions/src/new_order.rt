@@ -1,16 +1,22 @@
 //! New-Order (TPC-C clause 2.4): the cards of its keys are found, then the row of its district, then its lines are done
 //! in order, each on the rows as the earlier ones leave them.
 ghost use Rattle.std.specs.Prelude.{◌≡◌, ◌<◌, ◌≤◌, ◌+◌, pos, [], length, map, IfOk, OnOk};
-ghost use Rattle.std.specs.List.{sum_by};
+ghost use Rattle.std.specs.List.{list_all, sum_by};
+ghost use Rattle.tpcc_model.specs.Database.{Database};
 ghost use Rattle.tpcc_model.specs.NewOrders.{all_local, line_done, lines_done, new_order, opened, order_of, raised_district};
 ghost use Rattle.tpcc_model.specs.Steps.{new_order_outcome};
+ghost use Rattle.tpcc_model.specs.Touches.{new_order_touch, ordered_touch, placed_touch};
 ghost use Rattle.tpcc_rows.specs.Limits.{IsBetween};
 ghost use Rattle.tpcc_rows.specs.Prices.{total_cents};
-ghost use Rattle.transactions.specs.Faults.{AnswersBy};
+ghost use Rattle.transactions.specs.Faults.{AnswersBy, AnswersWithin};
+ghost use Rattle.transactions.specs.Lending.{lent};
 ghost use Rattle.transactions.specs.NewOrderParts.{line_cards_of, placed_order_of, so_far_of};
-ghost use Rattle.transactions.specs.Outcomes.{IsOutcome};
+ghost use Rattle.transactions.specs.Outcomes.{Executes};
+ghost use Rattle.worker_rows.specs.Views.{covers};
 
+use crate::exec_error::ExecError;
 use crate::fault::Fault;
+use crate::lent;
 use crate::order_line::{
     LineCards, brand_of, found_lines, line_amount, order_line_of, ordered_stock,
 };
@@ -18,15 +24,16 @@ use crate::seen::stock_seen;
 use catalog::{Catalog, CustomerCard, DistrictCard, WarehouseCard};
 use requests::reply::{LineReplies, LineReply, NewOrderReply, Refusal, Reply};
 use requests::request::{NewOrder, OrderedLine, RequestKind};
-use rollback::PointedStore;
 use std::alloc::Global;
 use tpcc_rows::delta::Delta;
+use tpcc_rows::granule::Granule;
 use tpcc_rows::id::{LineNumber, OrderId, WarehouseId};
 use tpcc_rows::key::RowKey;
 use tpcc_rows::memory::Memory;
 use tpcc_rows::number::{Cents, Moment};
 use tpcc_rows::row::{DistrictRow, OrderRow, Row, StockRow};
 use tpcc_rows::total::total_cents;
+use worker_rows::RowView;
 
 #[tactic(auto, unfolding(tpcc_model::specs::NewOrders::raised_district))]
 fn raised_district(old: &DistrictRow) -> Result<DistrictRow, Refusal>
@@ -109,8 +116,8 @@ fn line_done(
 }
 
 /// All lines, each on the rows as the earlier ones leave them.
-fn lines_done(
-    store: &PointedStore,
+fn lines_done<V: RowView>(
+    view: &V,
     p: &NewOrder,
     order: OrderId,
     lines: &[LineCards<'_>],
@@ -118,11 +125,11 @@ fn lines_done(
 ) -> Result<(), Fault>
     requires few { length lines.now ≤ 15 }
     requires none { so_far.old.lines ≡ [] }
-    ensures { AnswersBy (λ done. so_far_of so_far.new) (lines_done store.now.rows p.now order 1 (map line_cards_of lines.now) (so_far_of so_far.old)) result }
+    ensures { AnswersBy (λ done. so_far_of so_far.new) (lines_done (lent (V.sees view.now)) p.now order 1 (map line_cards_of lines.now) (so_far_of so_far.old)) result }
 {
     for (index, line) in lines.iter().enumerate() {
         let OrderedLine { item, supply, .. } = *line.ordered;
-        let row = stock_seen(store, &so_far.changes, supply, item);
+        let row = stock_seen(view, &so_far.changes, supply, item);
         let old = *row.ok_or(Refusal::UnknownKey)?;
         line_done(p, order, line_number(index + 1), line, &old, so_far)?;
     }
@@ -192,15 +199,51 @@ fn total_of(
     Cents::new(total).unwrap()
 }
 
-#[tactic(auto, unfolding(tpcc_model::specs::NewOrders::new_order, tpcc_model::specs::NewOrders::found_cards, tpcc_model::specs::NewOrders::new_order_reply))]
-fn new_order(
+/// Whether the line's stock may be written.
+fn may_take<V: RowView>(view: &V, line: &OrderedLine) -> bool
+    ensures { result ≡ covers (V.sees view.now) (ordered_touch line.now) }
+{
+    let stock = Granule::Stock {
+        warehouse: line.supply,
+        item: line.item,
+    };
+    lent::may_write(view, &stock)
+}
+
+fn may_take_all<V: RowView>(view: &V, lines: &[OrderedLine]) -> bool
+    ensures { result ≡ list_all (λ line. covers (V.sees view.now) (ordered_touch line)) lines.now }
+{
+    lines.iter().all(|line| may_take(view, line))
+}
+
+/// Whether what the order changes may be written.
+#[tactic(auto, using(crate::proofs::LentTouches::covers_placed))]
+fn may_place<V: RowView>(view: &V, p: &NewOrder) -> bool
+    ensures { result ≡ covers (V.sees view.now) (placed_touch p.now) }
+{
+    let (warehouse, district) = (p.warehouse, p.district);
+    let own = Granule::District {
+        warehouse,
+        district,
+    };
+    let book = Granule::Book {
+        warehouse,
+        district,
+    };
+    lent::may_write(view, &own)
+        && lent::may_write(view, &book)
+        && may_take_all(view, p.lines.as_slice())
+}
+
+#[tactic(auto, unfolding(tpcc_model::specs::Touches::new_order_touch, tpcc_model::specs::NewOrders::new_order, tpcc_model::specs::NewOrders::found_cards, tpcc_model::specs::NewOrders::new_order_reply))]
+fn new_order<V: RowView>(
     alloc: Global,
     catalog: &Catalog,
     p: &NewOrder,
     moment: Moment,
-    store: &PointedStore,
+    view: &V,
 ) -> Result<(NewOrderReply, Delta), Fault>
-    ensures { AnswersBy placed_order_of (new_order (record { cards = catalog.now; rows = store.now.rows }) p.now moment) result }
+    ensures { let db : Database = record { cards = catalog.now; rows = lent (V.sees view.now) } in AnswersWithin placed_order_of (covers (V.sees view.now) (new_order_touch db p.now)) (new_order db p.now moment) result }
 {
     let warehouse = catalog.warehouse(p.warehouse).ok_or(Refusal::UnknownKey)?;
     let district = catalog
@@ -210,12 +253,13 @@ fn new_order(
         .customer(p.warehouse, p.district, p.customer)
         .ok_or(Refusal::UnknownKey)?;
     let lines = found_lines(alloc, catalog, p.lines.as_slice())?;
-    let old = store
-        .district(p.warehouse, p.district)
-        .ok_or(Refusal::UnknownKey)?;
+    if !may_place(view, p) {
+        return Err(Fault::Strayed);
+    }
+    let old = lent::district(view, p.warehouse, p.district).ok_or(Refusal::UnknownKey)?;
     let order = old.next_order;
     let mut so_far = opened(alloc, p, moment, order, raised_district(old)?)?;
-    lines_done(store, p, order, &lines, &mut so_far)?;
+    lines_done(view, p, order, &lines, &mut so_far)?;
     let total = total_of(warehouse, district, customer, so_far.lines.as_slice());
     let OrderSoFar { changes, lines } = so_far;
     Ok((
@@ -229,16 +273,16 @@ fn new_order(
 }
 
 /// The reply to a new order, and the rows that it changes.
-pub(crate) fn execute(
+pub(crate) fn execute<V: RowView>(
     alloc: Global,
     catalog: &Catalog,
     p: &NewOrder,
     moment: Moment,
-    store: &PointedStore,
-) -> Result<(Reply, Delta), Memory>
-    ensures { IfOk result (IsOutcome (new_order_outcome (new_order (record { cards = catalog.now; rows = store.now.rows }) p.now moment))) }
+    view: &V,
+) -> Result<(Reply, Delta), ExecError>
+    ensures { let db : Database = record { cards = catalog.now; rows = lent (V.sees view.now) } in Executes (covers (V.sees view.now) (new_order_touch db p.now)) (new_order_outcome (new_order db p.now moment)) result }
 {
-    match new_order(alloc, catalog, p, moment, store) {
+    match new_order(alloc, catalog, p, moment, view) {
         Ok((reply, changes)) => Ok((Reply::NewOrder(reply), changes)),
         Err(Fault::Refused(refusal)) => Ok((
             Reply::Refused {
@@ -247,6 +291,7 @@ pub(crate) fn execute(
             },
             Delta::new(alloc),
         )),
-        Err(Fault::Memory) => Err(Memory),
+        Err(Fault::Strayed) => Err(ExecError::Strayed),
+        Err(Fault::Memory) => Err(ExecError::Memory),
     }
 }

@@ -1,51 +1,29 @@
 //! Order-Status (TPC-C clause 2.6): the card of the customer is found, then its row, then its latest order is shown with
 //! its lines. It changes nothing.
-ghost use Rattle.std.specs.Prelude.{◌≡◌, option_copied, IfOk};
+ghost use Rattle.std.specs.Prelude.{◌≡◌};
+ghost use Rattle.tpcc_model.specs.Database.{Database};
 ghost use Rattle.tpcc_model.specs.OrderStatuses.{last_order, order_status, order_status_reply, shown_line, shown_lines, shown_order};
 ghost use Rattle.tpcc_model.specs.Steps.{order_status_outcome};
-ghost use Rattle.tpcc_rows.specs.Rows.{order_line_row, order_row};
-ghost use Rattle.transactions.specs.Outcomes.{IsOutcome};
+ghost use Rattle.tpcc_model.specs.Touches.{order_status_touch};
+ghost use Rattle.tpcc_rows.specs.Picks.{latest};
+ghost use Rattle.transactions.specs.Faults.{AnswersWithin};
+ghost use Rattle.transactions.specs.Lending.{lent};
+ghost use Rattle.transactions.specs.Outcomes.{Executes};
+ghost use Rattle.worker_rows.specs.Views.{covers};
 
 use crate::choice::chosen_customer;
+use crate::exec_error::ExecError;
+use crate::fault::Fault;
+use crate::lent;
 use crate::new_order::line_number;
 use catalog::{Catalog, CustomerCard};
 use requests::reply::{OrderStatusReply, Refusal, Reply, ShownLine, ShownLines, ShownOrder};
 use requests::request::{OrderStatus, RequestKind};
-use rollback::PointedStore;
 use std::alloc::Global;
 use tpcc_rows::delta::Delta;
 use tpcc_rows::id::{CustomerId, LineNumber, OrderId};
-use tpcc_rows::key::RowKey;
-use tpcc_rows::memory::Memory;
 use tpcc_rows::row::{CustomerRow, OrderLineRow, OrderRow};
-
-fn order<'a>(store: &'a PointedStore, p: &OrderStatus, order: OrderId) -> Option<&'a OrderRow>
-    ensures { option_copied result ≡ order_row store.now.rows p.now.warehouse p.now.district order }
-{
-    let key = RowKey::Order {
-        warehouse: p.warehouse,
-        district: p.district,
-        order,
-    };
-    store.get(&key)?.as_order()
-}
-
-fn order_line<'a>(
-    store: &'a PointedStore,
-    p: &OrderStatus,
-    order: OrderId,
-    number: LineNumber,
-) -> Option<&'a OrderLineRow>
-    ensures { option_copied result ≡ order_line_row store.now.rows p.now.warehouse p.now.district order number }
-{
-    let key = RowKey::OrderLine {
-        warehouse: p.warehouse,
-        district: p.district,
-        order,
-        number,
-    };
-    store.get(&key)?.as_order_line()
-}
+use worker_rows::RowView;
 
 #[tactic(auto, unfolding(tpcc_model::specs::OrderStatuses::shown_line))]
 fn shown_line(line: &OrderLineRow) -> ShownLine
@@ -62,17 +40,18 @@ fn shown_line(line: &OrderLineRow) -> ShownLine
 
 /// The order's lines, in the order of their numbers.
 #[tactic(auto, unfolding(tpcc_model::specs::OrderStatuses::shown_lines))]
-fn shown_lines(
-    store: &PointedStore,
+fn shown_lines<V: RowView>(
+    view: &V,
     p: &OrderStatus,
     order: OrderId,
     count: LineNumber,
 ) -> ShownLines
-    ensures { result ≡ shown_lines store.now.rows p.now order count }
+    ensures { result ≡ shown_lines (lent (V.sees view.now)) p.now order count }
 {
     let mut lines = ShownLines::new();
     for index in 0..usize::from(count.number()) {
-        if let Some(line) = order_line(store, p, order, line_number(index + 1)) {
+        let number = line_number(index + 1);
+        if let Some(line) = lent::order_line(view, p.warehouse, p.district, order, number) {
             lines.push(shown_line(line));
         }
     }
@@ -80,41 +59,49 @@ fn shown_lines(
 }
 
 #[tactic(auto, unfolding(tpcc_model::specs::OrderStatuses::shown_order))]
-fn shown_order(
-    store: &PointedStore,
+fn shown_order<V: RowView>(
+    view: &V,
     p: &OrderStatus,
     number: OrderId,
     order: &OrderRow,
 ) -> ShownOrder
-    ensures { result ≡ shown_order store.now.rows p.now number order.now }
+    ensures { result ≡ shown_order (lent (V.sees view.now)) p.now number order.now }
 {
     ShownOrder {
         order: number,
         entry: order.entry,
         carrier: order.carrier,
-        lines: shown_lines(store, p, number, order.line_count),
+        lines: shown_lines(view, p, number, order.line_count),
     }
 }
 
-/// The customer's order with the greatest number.
+/// The customer's order with the greatest number, which is this one.
 #[tactic(auto, unfolding(tpcc_model::specs::OrderStatuses::last_order))]
-fn last_order(store: &PointedStore, p: &OrderStatus, customer: CustomerId) -> Option<ShownOrder>
-    ensures { result ≡ last_order store.now.rows p.now customer }
+fn last_order<V: RowView>(
+    view: &V,
+    p: &OrderStatus,
+    customer: CustomerId,
+    last: Option<OrderId>,
+) -> Option<ShownOrder>
+    requires { last ≡ latest (lent (V.sees view.now)) p.now.warehouse p.now.district customer }
+    ensures { result ≡ last_order (lent (V.sees view.now)) p.now customer }
 {
-    let number = store.last_order(p.warehouse, p.district, customer)?;
-    let order = order(store, p, number)?;
-    Some(shown_order(store, p, number, order))
+    let number = last?;
+    let order = lent::order(view, p.warehouse, p.district, number)?;
+    Some(shown_order(view, p, number, order))
 }
 
 #[tactic(auto, unfolding(tpcc_model::specs::OrderStatuses::order_status_reply))]
-fn order_status_reply(
-    store: &PointedStore,
+fn order_status_reply<V: RowView>(
+    view: &V,
     p: &OrderStatus,
     customer: CustomerId,
     card: &CustomerCard,
     row: &CustomerRow,
+    last: Option<OrderId>,
 ) -> OrderStatusReply
-    ensures { result ≡ order_status_reply store.now.rows p.now customer card.now row.now }
+    requires { last ≡ latest (lent (V.sees view.now)) p.now.warehouse p.now.district customer }
+    ensures { result ≡ order_status_reply (lent (V.sees view.now)) p.now customer card.now row.now }
 {
     OrderStatusReply {
         customer,
@@ -122,18 +109,18 @@ fn order_status_reply(
         middle: card.middle.copied(),
         last: card.last.copied(),
         balance: row.balance,
-        order: last_order(store, p, customer),
+        order: last_order(view, p, customer, last),
     }
 }
 
 /// What is shown, which takes no memory.
-#[tactic(auto, unfolding(tpcc_model::specs::OrderStatuses::order_status))]
-fn order_status(
+#[tactic(auto, using(crate::proofs::LentTouches::covers_asked), unfolding(tpcc_model::specs::Touches::order_status_touch, tpcc_model::specs::Touches::asked_customer, tpcc_model::specs::OrderStatuses::order_status))]
+fn order_status<V: RowView>(
     catalog: &Catalog,
     p: &OrderStatus,
-    store: &PointedStore,
-) -> Result<OrderStatusReply, Refusal>
-    ensures { result ≡ order_status (record { cards = catalog.now; rows = store.now.rows }) p.now }
+    view: &V,
+) -> Result<OrderStatusReply, Fault>
+    ensures { let db : Database = record { cards = catalog.now; rows = lent (V.sees view.now) } in AnswersWithin (λ shown. shown) (covers (V.sees view.now) (order_status_touch db p.now)) (order_status db p.now) result }
 {
     let customer = chosen_customer(catalog, p.warehouse, p.district, &p.customer).ok_or(
         Refusal::UnknownKey,
@@ -141,29 +128,31 @@ fn order_status(
     let card = catalog
         .customer(p.warehouse, p.district, customer)
         .ok_or(Refusal::UnknownKey)?;
-    let row = store
-        .customer(p.warehouse, p.district, customer)
-        .ok_or(Refusal::UnknownKey)?;
-    Ok(order_status_reply(store, p, customer, card, row))
+    let row = lent::read_customer(view, p.warehouse, p.district, customer)?;
+    let last = lent::last_order(view, p.warehouse, p.district, customer)?;
+    let row = row.ok_or(Refusal::UnknownKey)?;
+    Ok(order_status_reply(view, p, customer, card, row, last))
 }
 
 /// The reply to a question for a customer's last order, and no changes.
-pub(crate) fn execute(
+pub(crate) fn execute<V: RowView>(
     alloc: Global,
     catalog: &Catalog,
     p: &OrderStatus,
-    store: &PointedStore,
-) -> Result<(Reply, Delta), Memory>
-    ensures { IfOk result (IsOutcome (order_status_outcome (order_status (record { cards = catalog.now; rows = store.now.rows }) p.now))) }
+    view: &V,
+) -> Result<(Reply, Delta), ExecError>
+    ensures { let db : Database = record { cards = catalog.now; rows = lent (V.sees view.now) } in Executes (covers (V.sees view.now) (order_status_touch db p.now)) (order_status_outcome (order_status db p.now)) result }
 {
-    match order_status(catalog, p, store) {
+    match order_status(catalog, p, view) {
         Ok(reply) => Ok((Reply::OrderStatus(reply), Delta::new(alloc))),
-        Err(refusal) => Ok((
+        Err(Fault::Refused(refusal)) => Ok((
             Reply::Refused {
                 kind: RequestKind::OrderStatus,
                 refusal,
             },
             Delta::new(alloc),
         )),
+        Err(Fault::Strayed) => Err(ExecError::Strayed),
+        Err(Fault::Memory) => Err(ExecError::Memory),
     }
 }

@@ -1,25 +1,34 @@
 //! Payment (TPC-C clause 2.5): the cards of its keys are found, then their rows, then the new rows are made. What can
 //! fail for want of memory comes last.
 ghost use Rattle.std.specs.Prelude.{◌≡◌, ◌++◌, IfOk};
+ghost use Rattle.tpcc_model.specs.Database.{Database};
 ghost use Rattle.tpcc_model.specs.Payments.{field, found_cards, history_of, paid_customer, paid_data, paid_district, paid_warehouse, payment, payment_changes, payment_note, payment_reply};
 ghost use Rattle.tpcc_model.specs.Steps.{payment_outcome};
+ghost use Rattle.tpcc_model.specs.Touches.{paid_touch, payment_touch};
 ghost use Rattle.tpcc_rows.specs.Texts.{IsPrintable, clip};
-ghost use Rattle.transactions.specs.Outcomes.{IsOutcome, new_rows_of, paid_of};
+ghost use Rattle.transactions.specs.Faults.{AnswersWithin};
+ghost use Rattle.transactions.specs.Lending.{lent};
+ghost use Rattle.transactions.specs.Outcomes.{Executes, paid_of};
+ghost use Rattle.worker_rows.specs.Views.{covers};
 
 use crate::choice::chosen_customer;
+use crate::exec_error::ExecError;
+use crate::fault::Fault;
+use crate::lent;
 use catalog::{Catalog, Credit};
 use requests::number::PaymentAmount;
 use requests::reply::{PaymentReply, Refusal, Reply, ShownCredit};
 use requests::request::{Payment, RequestKind};
-use rollback::PointedStore;
 use std::alloc::Global;
 use tpcc_rows::delta::Delta;
+use tpcc_rows::granule::Granule;
 use tpcc_rows::id::{CustomerId, RequestNumber};
 use tpcc_rows::key::RowKey;
 use tpcc_rows::memory::Memory;
 use tpcc_rows::number::{Amount, Moment};
 use tpcc_rows::row::{CustomerRow, DistrictRow, HistoryRow, Row, WarehouseRow};
 use tpcc_rows::text::Text;
+use worker_rows::RowView;
 
 /// What a payment makes: the new rows, and who paid.
 #[derive(Drop)]
@@ -140,15 +149,37 @@ fn history_of(
     }
 }
 
+/// Whether the payment's rows may be written.
+#[tactic(auto, using(crate::proofs::LentTouches::covers_paid))]
+fn may_pay<V: RowView>(view: &V, p: &Payment, customer: CustomerId) -> bool
+    ensures { result ≡ covers (V.sees view.now) (paid_touch p.now customer) }
+{
+    let warehouse = Granule::Warehouse {
+        warehouse: p.warehouse,
+    };
+    let district = Granule::District {
+        warehouse: p.warehouse,
+        district: p.district,
+    };
+    let customer = Granule::Customer {
+        warehouse: p.customer_warehouse,
+        district: p.customer_district,
+        customer,
+    };
+    lent::may_write(view, &warehouse)
+        && lent::may_write(view, &district)
+        && lent::may_write(view, &customer)
+}
+
 /// The new rows, which take no memory.
-#[tactic(auto, unfolding(tpcc_model::specs::Payments::payment, tpcc_model::specs::Payments::found_cards, tpcc_model::specs::Payments::found_rows, tpcc_model::specs::Payments::paid_rows))]
-fn payment(
+#[tactic(auto, unfolding(tpcc_model::specs::Touches::payment_touch, tpcc_model::specs::Payments::payment, tpcc_model::specs::Payments::found_cards, tpcc_model::specs::Payments::found_rows, tpcc_model::specs::Payments::paid_rows))]
+fn payment<V: RowView>(
     catalog: &Catalog,
     p: &Payment,
     moment: Moment,
-    store: &PointedStore,
-) -> Result<NewRows, Refusal>
-    ensures { result ≡ new_rows_of (payment (record { cards = catalog.now; rows = store.now.rows }) p.now moment) }
+    view: &V,
+) -> Result<NewRows, Fault>
+    ensures { let db : Database = record { cards = catalog.now; rows = lent (V.sees view.now) } in AnswersWithin paid_of (covers (V.sees view.now) (payment_touch db p.now)) (payment db p.now moment) result }
 {
     let warehouse_card = catalog.warehouse(p.warehouse).ok_or(Refusal::UnknownKey)?;
     let district_card = catalog
@@ -164,13 +195,14 @@ fn payment(
     let customer_card = catalog
         .customer(p.customer_warehouse, p.customer_district, customer_id)
         .ok_or(Refusal::UnknownKey)?;
-    let warehouse = store.warehouse(p.warehouse).ok_or(Refusal::UnknownKey)?;
-    let district = store
-        .district(p.warehouse, p.district)
-        .ok_or(Refusal::UnknownKey)?;
-    let customer = store
-        .customer(p.customer_warehouse, p.customer_district, customer_id)
-        .ok_or(Refusal::UnknownKey)?;
+    if !may_pay(view, p, customer_id) {
+        return Err(Fault::Strayed);
+    }
+    let warehouse = lent::warehouse(view, p.warehouse).ok_or(Refusal::UnknownKey)?;
+    let district = lent::district(view, p.warehouse, p.district).ok_or(Refusal::UnknownKey)?;
+    let (of_warehouse, of_district) = (p.customer_warehouse, p.customer_district);
+    let customer = lent::customer(view, of_warehouse, of_district, customer_id);
+    let customer = customer.ok_or(Refusal::UnknownKey)?;
     let amount = p.amount.cents();
     Ok(NewRows {
         warehouse: paid_warehouse(warehouse, amount)?,
@@ -234,28 +266,30 @@ fn payment_changes(
 }
 
 /// The reply to a payment, and the rows that it changes.
-pub(crate) fn execute(
+pub(crate) fn execute<V: RowView>(
     alloc: Global,
     catalog: &Catalog,
     p: &Payment,
     number: RequestNumber,
     moment: Moment,
-    store: &PointedStore,
-) -> Result<(Reply, Delta), Memory>
-    ensures { IfOk result (IsOutcome (payment_outcome p.now number (payment (record { cards = catalog.now; rows = store.now.rows }) p.now moment))) }
+    view: &V,
+) -> Result<(Reply, Delta), ExecError>
+    ensures { let db : Database = record { cards = catalog.now; rows = lent (V.sees view.now) } in Executes (covers (V.sees view.now) (payment_touch db p.now)) (payment_outcome p.now number (payment db p.now moment)) result }
 {
-    match payment(catalog, p, moment, store) {
+    match payment(catalog, p, moment, view) {
         Ok(rows) => {
             let reply = payment_reply(&rows);
             let delta = payment_changes(alloc, p, number, rows)?;
             Ok((Reply::Payment(reply), delta))
         }
-        Err(refusal) => Ok((
+        Err(Fault::Refused(refusal)) => Ok((
             Reply::Refused {
                 kind: RequestKind::Payment,
                 refusal,
             },
             Delta::new(alloc),
         )),
+        Err(Fault::Strayed) => Err(ExecError::Strayed),
+        Err(Fault::Memory) => Err(ExecError::Memory),
     }
 }

@@ -1,64 +1,51 @@
 //! Stock-Level (TPC-C clause 2.8): the card of its district is found, then its row, then the lines of the last twenty
 //! orders are read. It changes nothing.
-ghost use Rattle.std.specs.Prelude.{◌≡◌, ◌+◌, ◌-◌, ◌≤◌, ℕ, nat_eq, ◌∷◌, List, length, option_copied, IfOk, OnOk};
+ghost use Rattle.std.specs.Prelude.{◌≡◌, ◌+◌, ◌-◌, ◌≤◌, ℕ, nat_eq, ◌∷◌, List, is_ok, length, option_copied, IfOk, OnOk};
 ghost use Rattle.std.specs.Set.{distinct_count};
+ghost use Rattle.catalog.specs.Lookups.{stock_card};
+ghost use Rattle.tpcc_model.specs.Database.{Database};
 ghost use Rattle.tpcc_model.specs.StockLevels.{first_recent, is_low, low_items, stock_level, with_line, with_lines};
 ghost use Rattle.tpcc_model.specs.Steps.{stock_level_outcome};
+ghost use Rattle.tpcc_model.specs.Touches.{item_touch, line_touch, lines_touch, orders_touch, stock_level_touch};
 ghost use Rattle.tpcc_rows.specs.Limits.{IsBetween};
-ghost use Rattle.tpcc_rows.specs.Rows.{order_line_row, stock_row};
-ghost use Rattle.transactions.specs.Faults.{AnswersBy};
+ghost use Rattle.transactions.specs.Faults.{AnswersWithin, EndsWithin};
+ghost use Rattle.transactions.specs.Lending.{lent};
 ghost use Rattle.transactions.specs.LowItems.{IsHeld};
-ghost use Rattle.transactions.specs.Outcomes.{IsOutcome};
+ghost use Rattle.transactions.specs.Outcomes.{Executes};
+ghost use Rattle.worker_rows.specs.Views.{covers};
 
+use crate::exec_error::ExecError;
 use crate::fault::Fault;
+use crate::lent;
 use crate::new_order::line_number;
 use catalog::Catalog;
 use requests::reply::{Refusal, Reply, StockLevelReply};
 use requests::request::{RequestKind, StockLevel};
-use rollback::PointedStore;
 use std::alloc::{AllocError, Global};
 use std::collections::BTreeSet;
 use tpcc_rows::delta::Delta;
-use tpcc_rows::id::{ItemId, LineNumber, OrderId, WarehouseId};
-use tpcc_rows::key::RowKey;
-use tpcc_rows::memory::Memory;
-use tpcc_rows::row::{OrderLineRow, StockRow};
+use tpcc_rows::id::{ItemId, OrderId};
+use tpcc_rows::row::OrderLineRow;
+use worker_rows::{RowView, Strayed};
 
-fn stock(store: &PointedStore, warehouse: WarehouseId, item: ItemId) -> Option<&StockRow>
-    ensures { option_copied result ≡ stock_row store.now.rows warehouse item }
-{
-    store.get(&RowKey::Stock { warehouse, item })?.as_stock()
-}
-
-/// Whether the item's stock in the warehouse is low.
-#[tactic(auto, unfolding(tpcc_model::specs::StockLevels::is_low))]
-fn is_low(catalog: &Catalog, store: &PointedStore, p: &StockLevel, item: ItemId) -> bool
-    ensures { result ≡ is_low (record { cards = catalog.now; rows = store.now.rows }) p.now item }
-{
-    match (
-        catalog.stock(p.warehouse, item),
-        stock(store, p.warehouse, item),
-    ) {
-        (Some(_), Some(stock)) => stock.quantity.value() < i16::from(p.threshold.value()),
-        _ => false,
-    }
-}
-
-fn order_line<'a>(
-    store: &'a PointedStore,
+/// Whether the item's stock in the warehouse is low. One without a card is not looked at.
+#[tactic(auto, using(crate::proofs::LentTouches::covers_reading), unfolding(tpcc_model::specs::StockLevels::is_low))]
+fn is_low<V: RowView>(
+    catalog: &Catalog,
+    view: &V,
     p: &StockLevel,
-    order: OrderId,
-    number: LineNumber,
-) -> Option<&'a OrderLineRow>
-    ensures { option_copied result ≡ order_line_row store.now.rows p.now.warehouse p.now.district order number }
+    item: ItemId,
+) -> Result<bool, Strayed>
+    ensures strays { is_ok result ≡ covers (V.sees view.now) (item_touch p.now item (stock_card catalog.now p.now.warehouse item)) }
+    ensures low { IfOk result (λ low. low ≡ is_low (record { cards = catalog.now; rows = lent (V.sees view.now) }) p.now item) }
 {
-    let key = RowKey::OrderLine {
-        warehouse: p.warehouse,
-        district: p.district,
-        order,
-        number,
-    };
-    store.get(&key)?.as_order_line()
+    if catalog.stock(p.warehouse, item).is_none() {
+        return Ok(false);
+    }
+    match lent::read_stock(view, p.warehouse, item)? {
+        Some(stock) => Ok(stock.quantity.value() < i16::from(p.threshold.value())),
+        None => Ok(false),
+    }
 }
 
 /// One item more, unless it is there already.
@@ -78,87 +65,94 @@ fn order_id(number: u32) -> OrderId
 }
 
 /// Holds the item of the line too, where it is low.
-fn hold_line(
+fn hold_line<V: RowView>(
     catalog: &Catalog,
-    store: &PointedStore,
+    view: &V,
     p: &StockLevel,
     line: Option<&OrderLineRow>,
     items: &mut BTreeSet<ItemId>,
-) -> Result<(), AllocError>
-    ensures held { (xs : List ℕ) → IsHeld items.old xs → OnOk result (IsHeld items.new (with_line (record { cards = catalog.now; rows = store.now.rows }) p.now (option_copied line.entry) xs)) }
+) -> Result<(), Fault>
+    ensures within { EndsWithin (covers (V.sees view.now) (line_touch catalog.now p.now (option_copied line.entry))) result }
+    ensures held { (xs : List ℕ) → IsHeld items.old xs → OnOk result (IsHeld items.new (with_line (record { cards = catalog.now; rows = lent (V.sees view.now) }) p.now (option_copied line.entry) xs)) }
     ensures len { length items.new.keys ≤ length items.old.keys + 1 }
 {
-    match line {
-        Some(line) if is_low(catalog, store, p, line.item) => hold(items, line.item),
-        _ => Ok(()),
+    if let Some(line) = line {
+        if is_low(catalog, view, p, line.item)? {
+            hold(items, line.item)?;
+        }
     }
+    Ok(())
 }
 
 /// Holds the low items of the order's lines too.
-fn hold_lines(
+fn hold_lines<V: RowView>(
     catalog: &Catalog,
-    store: &PointedStore,
+    view: &V,
     p: &StockLevel,
     order: OrderId,
     items: &mut BTreeSet<ItemId>,
-) -> Result<(), AllocError>
-    ensures held { (xs : List ℕ) → IsHeld items.old xs → OnOk result (IsHeld items.new (with_lines (record { cards = catalog.now; rows = store.now.rows }) p.now order 15 xs)) }
+) -> Result<(), Fault>
+    ensures within { EndsWithin (covers (V.sees view.now) (lines_touch (record { cards = catalog.now; rows = lent (V.sees view.now) }) p.now order 15)) result }
+    ensures held { (xs : List ℕ) → IsHeld items.old xs → OnOk result (IsHeld items.new (with_lines (record { cards = catalog.now; rows = lent (V.sees view.now) }) p.now order 15 xs)) }
     ensures len { length items.new.keys ≤ length items.old.keys + 15 }
 {
     for index in 0..15 {
-        let line = order_line(store, p, order, line_number(index + 1));
-        hold_line(catalog, store, p, line, items)?;
+        let number = line_number(index + 1);
+        let line = lent::order_line(view, p.warehouse, p.district, order, number);
+        hold_line(catalog, view, p, line, items)?;
     }
     Ok(())
 }
 
 /// How many distinct low items the lines of the last twenty orders have.
-fn low_stock(
+fn low_stock<V: RowView>(
     alloc: Global,
     catalog: &Catalog,
-    store: &PointedStore,
+    view: &V,
     p: &StockLevel,
     next: OrderId,
-) -> Result<u32, AllocError>
-    ensures { IfOk result (λ n. n ≡ distinct_count nat_eq (low_items (record { cards = catalog.now; rows = store.now.rows }) p.now (first_recent next) (next - first_recent next))) }
+) -> Result<u32, Fault>
+    ensures within { EndsWithin (covers (V.sees view.now) (orders_touch (record { cards = catalog.now; rows = lent (V.sees view.now) }) p.now (first_recent next) (next - first_recent next))) result }
+    ensures count { IfOk result (λ n. n ≡ distinct_count nat_eq (low_items (record { cards = catalog.now; rows = lent (V.sees view.now) }) p.now (first_recent next) (next - first_recent next))) }
 {
     let first = next.number().saturating_sub(20).max(1);
     let mut items = BTreeSet::new(alloc);
     for order in first..next.number() {
-        hold_lines(catalog, store, p, order_id(order), &mut items)?;
+        hold_lines(catalog, view, p, order_id(order), &mut items)?;
     }
     Ok(items.len() as u32)
 }
 
-#[tactic(auto, unfolding(tpcc_model::specs::StockLevels::stock_level))]
-fn stock_level(
+#[tactic(auto, using(crate::proofs::LentTouches::covers_counted), unfolding(tpcc_model::specs::Touches::stock_level_touch, tpcc_model::specs::StockLevels::stock_level))]
+fn stock_level<V: RowView>(
     alloc: Global,
     catalog: &Catalog,
     p: &StockLevel,
-    store: &PointedStore,
+    view: &V,
 ) -> Result<StockLevelReply, Fault>
-    ensures { AnswersBy (λ counted. counted) (stock_level (record { cards = catalog.now; rows = store.now.rows }) p.now) result }
+    ensures { let db : Database = record { cards = catalog.now; rows = lent (V.sees view.now) } in AnswersWithin (λ counted. counted) (covers (V.sees view.now) (stock_level_touch db p.now)) (stock_level db p.now) result }
 {
     catalog
         .district(p.warehouse, p.district)
         .ok_or(Refusal::UnknownKey)?;
-    let district = store
-        .district(p.warehouse, p.district)
-        .ok_or(Refusal::UnknownKey)?;
-    let low_stock = low_stock(alloc, catalog, store, p, district.next_order)?;
+    let district = lent::read_district(view, p.warehouse, p.district)?;
+    // The book is looked at, whether or not there are lines in it.
+    lent::book(view, p.warehouse, p.district)?;
+    let district = district.ok_or(Refusal::UnknownKey)?;
+    let low_stock = low_stock(alloc, catalog, view, p, district.next_order)?;
     Ok(StockLevelReply { low_stock })
 }
 
 /// The reply to a question for low stocks, and no changes.
-pub(crate) fn execute(
+pub(crate) fn execute<V: RowView>(
     alloc: Global,
     catalog: &Catalog,
     p: &StockLevel,
-    store: &PointedStore,
-) -> Result<(Reply, Delta), Memory>
-    ensures { IfOk result (IsOutcome (stock_level_outcome (stock_level (record { cards = catalog.now; rows = store.now.rows }) p.now))) }
+    view: &V,
+) -> Result<(Reply, Delta), ExecError>
+    ensures { let db : Database = record { cards = catalog.now; rows = lent (V.sees view.now) } in Executes (covers (V.sees view.now) (stock_level_touch db p.now)) (stock_level_outcome (stock_level db p.now)) result }
 {
-    match stock_level(alloc, catalog, p, store) {
+    match stock_level(alloc, catalog, p, view) {
         Ok(reply) => Ok((Reply::StockLevel(reply), Delta::new(alloc))),
         Err(Fault::Refused(refusal)) => Ok((
             Reply::Refused {
@@ -167,6 +161,7 @@ pub(crate) fn execute(
             },
             Delta::new(alloc),
         )),
-        Err(Fault::Memory) => Err(Memory),
+        Err(Fault::Strayed) => Err(ExecError::Strayed),
+        Err(Fault::Memory) => Err(ExecError::Memory),
     }
 }

@@ -16,6 +16,7 @@ use tpcc_rows::key::RowKey;
 use tpcc_rows::number::{Cents, Count, Moment, Price, Rate, StockQuantity};
 use tpcc_rows::row::{CustomerRow, DistrictRow, Row, StockRow};
 use tpcc_rows::text::Text;
+use worker_rows::Whole;
 
 pub(crate) fn warehouse(number: u8) -> Result<WarehouseId, Fail> {
     Ok(WarehouseId::new(number).ok_or("a warehouse's number")?)
@@ -162,7 +163,7 @@ pub(crate) fn put_customer(
 
 /// The rows of the districts, the customers and the stocks, where each D_NEXT_O_ID is this.
 pub(crate) fn small_store(alloc: Global, next_order: u32) -> Result<PointedStore, Fail> {
-    let mut store = PointedStore::new(RowStore::new(alloc)?);
+    let mut store = PointedStore::new(alloc, RowStore::new(alloc)?);
     for district in DistrictId::all() {
         put_district(&mut store, district, next_order)?;
         put_customer(&mut store, district, 1, -1_000)?;
@@ -219,7 +220,8 @@ pub(crate) fn answer(
 ) -> Result<Vec<u8>, Fail> {
     let number = RequestNumber::new(number).ok_or("a request's number")?;
     let moment = Moment::new(100).ok_or("a moment")?;
-    let (reply, changes) = execute(alloc, catalog, request, number, moment, store)?;
+    let view = Whole { store: &*store };
+    let (reply, changes) = execute(alloc, catalog, request, number, moment, &view)?;
     store.apply(&changes)?;
     let mut out = Vec::new(alloc);
     write_reply(alloc, number, &reply, &mut out)?;

@@ -1,36 +1,55 @@
 //! The choice of the transaction.
-ghost use Rattle.std.specs.Prelude.{IfOk};
+ghost use Rattle.tpcc_model.specs.Database.{Database};
 ghost use Rattle.tpcc_model.specs.Steps.{step};
-ghost use Rattle.transactions.specs.Outcomes.{IsOutcome};
+ghost use Rattle.tpcc_model.specs.Touches.{touch};
+ghost use Rattle.transactions.specs.Lending.{lent};
+ghost use Rattle.transactions.specs.Outcomes.{Executes};
+ghost use Rattle.worker_rows.specs.Views.{covers};
 
+use crate::exec_error::ExecError;
 use crate::{delivery, new_order, order_status, payment, stock_level};
 use catalog::Catalog;
 use requests::reply::Reply;
 use requests::request::Request;
-use rollback::PointedStore;
 use std::alloc::Global;
 use tpcc_rows::delta::Delta;
 use tpcc_rows::id::RequestNumber;
-use tpcc_rows::memory::Memory;
 use tpcc_rows::number::Moment;
+use worker_rows::RowView;
 
-/// The reply to a request with its number, at a moment, and the rows that it changes. The database stays as it is.
-#[tactic(auto, unfolding(tpcc_model::specs::Steps::step))]
-pub fn execute(
+/// The request on the rows that the view lends.
+#[tactic(auto, unfolding(tpcc_model::specs::Steps::step, tpcc_model::specs::Touches::touch))]
+fn executed<V: RowView>(
     alloc: Global,
     catalog: &Catalog,
     request: &Request,
     number: RequestNumber,
     moment: Moment,
-    store: &PointedStore,
-) -> Result<(Reply, Delta), Memory>
-    ensures { IfOk result (IsOutcome (step (record { cards = catalog.now; rows = store.now.rows }) request.now number moment)) }
+    view: &V,
+) -> Result<(Reply, Delta), ExecError>
+    ensures { let db : Database = record { cards = catalog.now; rows = lent (V.sees view.now) } in Executes (covers (V.sees view.now) (touch db request.now)) (step db request.now number moment) result }
 {
     match request {
-        Request::NewOrder(p) => new_order::execute(alloc, catalog, p, moment, store),
-        Request::Payment(p) => payment::execute(alloc, catalog, p, number, moment, store),
-        Request::OrderStatus(p) => order_status::execute(alloc, catalog, p, store),
-        Request::Delivery(p) => delivery::execute(alloc, catalog, p, moment, store),
-        Request::StockLevel(p) => stock_level::execute(alloc, catalog, p, store),
+        Request::NewOrder(p) => new_order::execute(alloc, catalog, p, moment, view),
+        Request::Payment(p) => payment::execute(alloc, catalog, p, number, moment, view),
+        Request::OrderStatus(p) => order_status::execute(alloc, catalog, p, view),
+        Request::Delivery(p) => delivery::execute(alloc, catalog, p, moment, view),
+        Request::StockLevel(p) => stock_level::execute(alloc, catalog, p, view),
     }
+}
+
+/// The reply to a request with its number, at a moment, and the rows that it changes, where what it touches is within
+/// the view; else it strays. A request that is refused for a limit touches as much as one that isn't. The database stays
+/// as it is.
+pub fn execute<V: RowView>(
+    alloc: Global,
+    catalog: &Catalog,
+    request: &Request,
+    number: RequestNumber,
+    moment: Moment,
+    view: &V,
+) -> Result<(Reply, Delta), ExecError>
+    ensures { let db : Database = record { cards = catalog.now; rows = (V.sees view.now).rows } in Executes (covers (V.sees view.now) (touch db request.now)) (step db request.now number moment) result }
+{
+    executed(alloc, catalog, request, number, moment, view)
 }

@@ -1,0 +1,2 @@
+pub mod AllCovered
+pub mod Writing

@@ -1,0 +1,81 @@
+//! Rows that are lent.
+ghost use Rattle.std.specs.Prelude.{◌≡◌, Some};
+ghost use Rattle.std.specs.List.{list_any};
+ghost use Rattle.tpcc_rows.specs.Granules.{same_granule};
+
+use crate::view::{RowView, Strayed};
+use rollback::PointedStore;
+use tpcc_rows::footprint::Footprint;
+use tpcc_rows::granule::{Granule, granule_of};
+use tpcc_rows::id::{CustomerId, DistrictId, OrderId, WarehouseId};
+use tpcc_rows::key::RowKey;
+use tpcc_rows::row::Row;
+
+/// The rows of a store as a footprint lends them: what it doesn't name may not be read or written, and so no row of
+/// HISTORY, which no footprint can name.
+#[derive(Clone, Copy)]
+pub struct Loan<'a> {
+    pub store: &'a PointedStore,
+    pub footprint: &'a Footprint,
+}
+
+fn is_among(granule: &Granule, granules: &[Granule]) -> bool
+    ensures { result ≡ list_any (same_granule granule.now) granules.now }
+{
+    granules.iter().any(|other| *granule == *other)
+}
+
+impl Loan<'_> {
+    fn may_read(&self, granule: &Granule) -> bool
+        ensures { result ≡ list_any (same_granule granule.now) self.now.footprint.now.reads }
+    {
+        is_among(granule, self.footprint.reads())
+    }
+
+    fn may_read_book(&self, warehouse: WarehouseId, district: DistrictId) -> bool
+        ensures { result ≡ list_any (same_granule (Granule.Book warehouse district)) self.now.footprint.now.reads }
+    {
+        self.may_read(&Granule::Book {
+            warehouse,
+            district,
+        })
+    }
+}
+
+impl RowView for Loan<'_> {
+    ghost sees = { λ l. record { rows = l.store.now.rows; bounds = Some l.footprint.now } };
+
+    fn read(&self, key: &RowKey) -> Result<Option<&Row>, Strayed> {
+        match granule_of(key) {
+            Some(granule) if self.may_read(&granule) => Ok(self.store.get(key)),
+            _ => Err(Strayed),
+        }
+    }
+
+    fn oldest_new(
+        &self,
+        warehouse: WarehouseId,
+        district: DistrictId,
+    ) -> Result<Option<OrderId>, Strayed> {
+        if !self.may_read_book(warehouse, district) {
+            return Err(Strayed);
+        }
+        Ok(self.store.oldest_new(warehouse, district))
+    }
+
+    fn last_order(
+        &self,
+        warehouse: WarehouseId,
+        district: DistrictId,
+        customer: CustomerId,
+    ) -> Result<Option<OrderId>, Strayed> {
+        if !self.may_read_book(warehouse, district) {
+            return Err(Strayed);
+        }
+        Ok(self.store.last_order(warehouse, district, customer))
+    }
+
+    fn may_write(&self, granule: &Granule) -> bool {
+        is_among(granule, self.footprint.writes())
+    }
+}

@@ -1,0 +1,44 @@
+//! All rows.
+ghost use Rattle.std.specs.Prelude.{None};
+
+use crate::view::{RowView, Strayed};
+use rollback::PointedStore;
+use tpcc_rows::granule::Granule;
+use tpcc_rows::id::{CustomerId, DistrictId, OrderId, WarehouseId};
+use tpcc_rows::key::RowKey;
+use tpcc_rows::row::Row;
+
+/// All rows of a store, which may all be read and written.
+#[derive(Clone, Copy)]
+pub struct Whole<'a> {
+    pub store: &'a PointedStore,
+}
+
+impl RowView for Whole<'_> {
+    ghost sees = { λ w. record { rows = w.store.now.rows; bounds = None } };
+
+    fn read(&self, key: &RowKey) -> Result<Option<&Row>, Strayed> {
+        Ok(self.store.get(key))
+    }
+
+    fn oldest_new(
+        &self,
+        warehouse: WarehouseId,
+        district: DistrictId,
+    ) -> Result<Option<OrderId>, Strayed> {
+        Ok(self.store.oldest_new(warehouse, district))
+    }
+
+    fn last_order(
+        &self,
+        warehouse: WarehouseId,
+        district: DistrictId,
+        customer: CustomerId,
+    ) -> Result<Option<OrderId>, Strayed> {
+        Ok(self.store.last_order(warehouse, district, customer))
+    }
+
+    fn may_write(&self, _: &Granule) -> bool {
+        true
+    }
+}
