@@ -1,0 +1,2 @@
+pub mod Deltas
+pub mod Filing
