@@ -1,0 +1,44 @@
+//! How many workers there are.
+ghost use Rattle.std.specs.Prelude.{◌≡◌};
+ghost use Rattle.tpcc_rows.specs.Limits.{IsBetween, between};
+
+use std::marker::Model;
+
+/// How many workers may run a level: 1 to 64.
+#[derive(Clone, Copy, Debug, PartialEq, Eq)]
+pub struct Workers {
+    count: usize,
+}
+
+impl Model for Workers {
+    ghost use Rattle.std.specs.Prelude.{ℕ};
+    ghost use Rattle.tpcc_rows.specs.Limits.{IsBetween};
+
+    ghost Value = { ℕ };
+
+    ghost view = { λ x. x.count };
+
+    ghost invariant = { λ x. IsBetween 1 64 x.count };
+
+    ghost inverse = { λ n. record { count = n } };
+}
+
+impl Workers {
+    /// None outside the limits.
+    pub fn new(count: usize) -> Option<Workers>
+        ensures { result ≡ between 1 64 count }
+    {
+        if 1 <= count && count <= 64 {
+            Some(Workers { count })
+        } else {
+            None
+        }
+    }
+
+    pub fn count(self) -> usize
+        ensures value { result ≡ self }
+        ensures range { IsBetween 1 64 result }
+    {
+        self.count
+    }
+}

@@ -1,0 +1,84 @@
+//! One request of a level.
+ghost use Rattle.std.specs.Prelude.{◌≡◌, ◌+◌, ◌<◌, ◌≤◌, Some, length, slice_get, MatchResult};
+ghost use Rattle.serializability.specs.Levels.{job_strays, jobs};
+ghost use Rattle.tpcc_model.specs.Machine.{tpcc};
+ghost use Rattle.workers.specs.LevelEnds.{IsDone, IsStrayWhere, job_of};
+
+use crate::gate::Gate;
+use catalog::Catalog;
+use requests::reply::Reply;
+use requests::request::{Batch, Request};
+use rollback::PointedStore;
+use std::alloc::Global;
+use tpcc_rows::delta::Delta;
+use tpcc_rows::footprint::Footprint;
+use tpcc_rows::id::RequestNumber;
+use tpcc_rows::number::Moment;
+use transactions::{ExecError, execute};
+use worker_rows::Loan;
+
+/// What the request at a place of a batch did.
+#[derive(Drop)]
+pub struct PlaceOutcome {
+    pub place: usize,
+    pub reply: Reply,
+    pub changes: Delta,
+}
+
+/// The request at a place of a batch, with its number and what it declared.
+#[derive(Clone, Copy)]
+pub(crate) struct Job<'a> {
+    pub place: usize,
+    pub number: RequestNumber,
+    pub request: &'a Request,
+    pub declared: &'a Footprint,
+}
+
+/// The job at a place of the batch, whose first request has this number.
+pub(crate) fn job_at<'a>(
+    batch: &'a Batch,
+    first: u64,
+    footprints: &'a [Footprint],
+    place: usize,
+) -> Job<'a>
+    requires there { place < length batch.now.requests }
+    requires each { length footprints.now ≡ length batch.now.requests }
+    requires low { 1 ≤ first }
+    requires high { first + length batch.now.requests ≤ 1000000000000000 }
+    ensures job { slice_get (jobs first batch.now.requests footprints.now) place ≡ Some (job_of result) }
+    ensures place { result.place ≡ place }
+    ensures number { result.number ≡ first + place }
+{
+    Job {
+        place,
+        number: RequestNumber::new(first + place as u64).unwrap(),
+        request: &batch.requests.as_slice()[place],
+        declared: &footprints[place],
+    }
+}
+
+/// Executes the job on the rows that its footprint lends.
+pub(crate) fn execute_job<G: Gate>(
+    alloc: Global,
+    catalog: &Catalog,
+    store: &PointedStore,
+    moment: Moment,
+    job: Job<'_>,
+    gate: &G,
+) -> Result<PlaceOutcome, ExecError>
+    ensures { MatchResult result (IsDone catalog.now store.now.rows moment (job_of job.entry) job.entry.place) (IsStrayWhere (job_strays (tpcc catalog.now moment) store.now.rows (job_of job.entry))) }
+{
+    let view = Loan {
+        store,
+        footprint: job.declared,
+    };
+    gate.enter(job.place);
+    let outcome = execute(alloc, catalog, job.request, job.number, moment, &view);
+    gate.leave(job.place);
+    let (reply, changes) = outcome?;
+    Ok(PlaceOutcome {
+        place: job.place,
+        reply,
+        changes,
+    })
+}
