@@ -1,0 +1,74 @@
+-- Laws of requests that are executed out of their order.
+use Rattle.std.specs.Prelude.{◌≡◌, ◌≢◌, ◌≤◌, ◌<◌, ◌+◌, ℕ, false, List, length, Some, slice_get}
+use Rattle.std.specs.FinMap.{find}
+use Rattle.std.specs.Ordering.{nat_cmp}
+use Rattle.serializability.specs.Folds.{after}
+use Rattle.serializability.specs.Footprints.{Footprint, IsApart, IsWithin}
+use Rattle.serializability.specs.Laws.{IsSerial, IsSwapped}
+use Rattle.serializability.specs.Levels as levels
+use Rattle.tpcc_rows.specs.Limits.{IsBetween}
+use Rattle.tpcc_rows.specs.declared.granule.Granule.{Granule}
+use Rattle.catalog.specs.CardMap.{Cards}
+use Rattle.requests.specs.declared.request.Batch.{Batch}
+use Rattle.requests.specs.declared.request.Request.{Request}
+use Rattle.tpcc_model.specs.Database.{Database}
+use Rattle.tpcc_model.specs.Machine.{tpcc}
+use Rattle.tpcc_model.specs.Serial.{State, after_batch, batch_replies, batch_rows, opening}
+use Rattle.tpcc_model.specs.Soundness.{IsSound}
+use Rattle.tpcc_model.specs.Steps.{steps_at}
+use Rattle.tpcc_model.specs.Touches.{touch}
+use Rattle.transactions.specs.Laws.{Fits}
+use Rattle.executor.specs.LevelRuns.{IsCutOf, cut_by, levels_by, meets, replies_in_levels, rows_in_levels, strays}
+use Rattle.executor.specs.States.{AreWithinLimits, IsSoundState}
+
+-- two requests, each of which lies within its footprint where it is stepped, and neither footprint writes what the other
+-- reads: they may be stepped the other way round
+abbrev pub RequestsSwap : Type 0
+RequestsSwap = (db : Database) (moment m n : ℕ) (a b : Request) (e f : Footprint Granule)
+    → IsSound db → IsBetween 0 999999999999 moment → Fits m a → Fits n b → m ≢ n
+    → IsWithin (touch db a) e → IsWithin (touch (record db { rows = after (steps_at db.cards moment) db.rows m a }) b) f → IsApart e f
+    → IsSwapped (tpcc db.cards moment) db.rows m a n b
+
+-- what the run of levels comes to: the requests one after the other, on a database that stays sound
+pub record IsSerialRun (db : Database) (moment first : ℕ) (requests : List Request) (footprints : List (Footprint Granule)) : Type 0 where
+  pub serial : IsSerial (tpcc db.cards moment) db.rows first requests (levels_by first requests footprints)
+  pub sound : IsSound (record db { rows = levels.run_rows (tpcc db.cards moment) db.rows (levels_by first requests footprints) })
+
+-- requests in the levels of any footprints, one for each, in which none strays
+abbrev pub LevelsAreSerial : Type 0
+LevelsAreSerial = (db : Database) (moment first : ℕ) (requests : List Request) (footprints : List (Footprint Granule))
+    → IsSound db → AreWithinLimits moment first requests → length footprints ≡ length requests
+    → levels.strays (tpcc db.cards moment) db.rows (levels_by first requests footprints) ≡ false
+    → IsSerialRun db moment first requests footprints
+
+-- the levels of a batch reply, place by place, and leave what its requests do one after the other
+pub record RunsAsSerial (cards : Cards) (state : State) (batch : Batch) : Type 0 where
+  pub replies : (place : ℕ) → find nat_cmp (state.next + place) (replies_in_levels cards state batch) ≡ slice_get (batch_replies cards state batch) place
+  pub rows : rows_in_levels cards state batch ≡ batch_rows cards state batch
+
+-- by what the requests of a batch declare
+abbrev pub DeclaredLevelsAreSerial : Type 0
+DeclaredLevelsAreSerial = (cards : Cards) (state : State) (batch : Batch)
+    → IsSound (record { cards = cards; rows = state.rows }) → AreWithinLimits batch.moment state.next batch.requests
+    → strays cards state batch ≡ false → RunsAsSerial cards state batch
+
+-- a later request meets an earlier one from a greater level only: where i stands before j, on the same level or a greater
+-- one, they don't meet
+abbrev pub MeetOnlyAbove : Type 0
+MeetOnlyAbove = (footprints : List (Footprint Granule)) (i j : ℕ) (e f : Footprint Granule) (k l : ℕ) → i < j
+    → slice_get footprints i ≡ Some e → slice_get footprints j ≡ Some f
+    → slice_get (levels.levels meets footprints) i ≡ Some k → slice_get (levels.levels meets footprints) j ≡ Some l
+    → l ≤ k → meets e f ≡ false
+
+-- footprints are cut so that each has its place
+abbrev pub CutsAreWhole : Type 0
+CutsAreWhole = (footprints : List (Footprint Granule)) → IsCutOf (length footprints) (cut_by footprints)
+
+-- the state of a sound database before any batch is sound
+abbrev pub OpeningIsSound : Type 0
+OpeningIsSound = (db : Database) → IsSound db → IsSoundState db.cards (opening db.cards db.rows)
+
+-- a batch keeps a state sound, however it is executed
+abbrev pub BatchesKeep : Type 0
+BatchesKeep = (cards : Cards) (state : State) (batch : Batch) → IsSoundState cards state → AreWithinLimits batch.moment state.next batch.requests
+    → IsSoundState cards (after_batch cards state batch)

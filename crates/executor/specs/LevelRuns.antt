@@ -1,0 +1,60 @@
+-- The run of a batch in levels. Each request declares what it touches as the batch begins; by that the batch is cut into
+-- levels, and each level is run on the rows that the one before it left.
+use Rattle.std.specs.Prelude.{◌≡◌, ◌<◌, ◌≤◌, ℕ, Bool, List, length, map, Some, slice_get}
+use Rattle.std.specs.List.Sorted.{IsStrictlyIncreasing}
+use Rattle.serializability.specs.Footprints.{Footprint, Has}
+use Rattle.serializability.specs.Levels as levels
+use Rattle.serializability.specs.Levels.{Job}
+use Rattle.serializability.specs.Signatures.{meets_by}
+use Rattle.tpcc_rows.specs.RowMap.{Rows}
+use Rattle.tpcc_rows.specs.declared.granule.Granule.{Granule}
+use Rattle.signatures_simd.specs.Bits.{bit}
+use Rattle.catalog.specs.CardMap.{Cards}
+use Rattle.requests.specs.declared.request.Batch.{Batch}
+use Rattle.requests.specs.declared.request.Request.{Request}
+use Rattle.requests.specs.declared.reply.Reply.{Reply}
+use Rattle.tpcc_model.specs.Machine.{tpcc}
+use Rattle.tpcc_model.specs.Serial.{State}
+use Rattle.tpcc_model.specs.Touches.{touch}
+
+-- ---- any footprints
+-- one writes what the other reads or writes, as far as bits tell
+abbrev pub meets : Footprint Granule → Footprint Granule → Bool
+meets = meets_by bit
+
+-- the places of each level, in rising order
+abbrev pub cut_by : List (Footprint Granule) → List (List ℕ)
+cut_by footprints = levels.cut (levels.levels meets footprints)
+
+-- a cut of so many requests: each place stands in one level, the places of a level rise, and no level is empty
+pub record IsCutOf (count : ℕ) (cut : List (List ℕ)) : Type 0 where
+  pub there : (place : ℕ) → place < count → (level : ℕ) × (places : List ℕ) × (slice_get cut level ≡ Some places) × Has places place
+  pub below : (level place : ℕ) (places : List ℕ) → slice_get cut level ≡ Some places → Has places place → place < count
+  pub once : (k l place : ℕ) (ps qs : List ℕ) → slice_get cut k ≡ Some ps → slice_get cut l ≡ Some qs → Has ps place → Has qs place → k ≡ l
+  pub rising : (level : ℕ) (places : List ℕ) → slice_get cut level ≡ Some places → IsStrictlyIncreasing places
+  pub filled : (level : ℕ) (places : List ℕ) → slice_get cut level ≡ Some places → 1 ≤ length places
+  pub short : (level : ℕ) (places : List ℕ) → slice_get cut level ≡ Some places → length places ≤ count
+
+-- the requests of each level, with their numbers, of which this is the first, and their footprints
+abbrev pub levels_by : ℕ → List Request → List (Footprint Granule) → List (List (Job Granule Request))
+levels_by first requests footprints = levels.batch_levels meets first requests footprints
+
+-- ---- those that the requests of a batch declare
+-- what each of them touches as the batch begins
+abbrev pub declared_footprints : Cards → State → Batch → List (Footprint Granule)
+declared_footprints cards state batch = map (touch (record { cards = cards; rows = state.rows })) batch.requests
+
+abbrev pub declared_levels : Cards → State → Batch → List (List (Job Granule Request))
+declared_levels cards state batch = levels_by state.next batch.requests (declared_footprints cards state batch)
+
+-- some request touches more than it declared, on the rows as its level begins
+abbrev pub strays : Cards → State → Batch → Bool
+strays cards state batch = levels.strays (tpcc cards batch.moment) state.rows (declared_levels cards state batch)
+
+-- what the requests reply in their levels, each with its number
+abbrev pub replies_in_levels : Cards → State → Batch → List (ℕ × Reply)
+replies_in_levels cards state batch = levels.run_replies (tpcc cards batch.moment) state.rows (declared_levels cards state batch)
+
+-- the rows that the last level leaves
+abbrev pub rows_in_levels : Cards → State → Batch → Rows
+rows_in_levels cards state batch = levels.run_rows (tpcc cards batch.moment) state.rows (declared_levels cards state batch)

@@ -1,0 +1,4 @@
+pub mod LevelRuns
+pub mod Paths
+pub mod States
+pub mod Laws

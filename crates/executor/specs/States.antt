@@ -1,0 +1,28 @@
+-- Sound states, and batches that can be executed on them.
+use Rattle.std.specs.Prelude.{ℕ, ◌+◌, ◌<◌, ◌≤◌, IsSome, List, length}
+use Rattle.std.specs.FinMap as map
+use Rattle.std.specs.List.{All}
+use Rattle.tpcc_rows.specs.Limits.{IsBetween}
+use Rattle.tpcc_rows.specs.RowMap.{Rows}
+use Rattle.tpcc_rows.specs.declared.key.RowKey.TheVariants as key
+use Rattle.catalog.specs.CardMap.{Cards}
+use Rattle.requests.specs.declared.request.Request.{Request}
+use Rattle.tpcc_model.specs.Serial.{State}
+use Rattle.tpcc_model.specs.Soundness.{IsSound}
+use Rattle.transactions.specs.Requests.{IsRequest}
+
+-- each row of HISTORY has a number below this one
+abbrev pub HasHistoryBelow : Rows → ℕ → Type 0
+HasHistoryBelow rows next = (n : ℕ) → IsSome (map.get rows (key.History n)) → n < next
+
+-- the database is sound, and the numbers of HISTORY are those of requests that were
+pub record IsSoundState (cards : Cards) (state : State) : Type 0 where
+  pub database : IsSound (record { cards = cards; rows = state.rows })
+  pub history : HasHistoryBelow state.rows state.next
+
+-- the moment, the requests, and their numbers, of which this is the first, are within their limits
+pub record AreWithinLimits (moment first : ℕ) (requests : List Request) : Type 0 where
+  pub moment_within : IsBetween 0 999999999999 moment
+  pub each_request : All IsRequest requests
+  pub first_number : 1 ≤ first
+  pub last_number : first + length requests ≤ 1000000000000000

@@ -1,0 +1,46 @@
+//! Laws of requests that are executed out of their order, as contracts of functions that do nothing but call other laws.
+ghost use Rattle.executor.specs.Laws.{BatchesKeep, CutsAreWhole, DeclaredLevelsAreSerial, LevelsAreSerial, MeetOnlyAbove, OpeningIsSound, RequestsSwap};
+
+use transactions::laws::{framed_machine, keeps};
+
+/// Two requests of which neither writes what the other reads may be stepped in either order: they touch and reply the same,
+/// and leave the same rows.
+pub fn swap()
+    ensures { RequestsSwap }
+{
+    framed_machine();
+}
+
+/// Levels in which no request touches more than its footprint reply and leave what the requests do one after the other,
+/// though later requests may run in lower levels than earlier ones; and the database stays sound.
+pub fn levels()
+    ensures { LevelsAreSerial }
+{
+    framed_machine();
+}
+
+/// So it is with the levels of a batch by what its requests declare: by what they touch as the batch begins.
+pub fn declared_levels()
+    ensures { DeclaredLevelsAreSerial }
+{
+    levels();
+}
+
+/// Of two requests of a batch that meet, the later one has the greater level.
+pub fn levels_rise()
+    ensures { MeetOnlyAbove }
+{}
+
+/// Each place of a batch stands in one level of its cut; a level has at least one place, and its places rise.
+pub fn cuts()
+    ensures { CutsAreWhole }
+{}
+
+/// Before any batch and after each one the database is sound, all four consistency conditions included, and no row of the
+/// history has the number of a request that is yet to come.
+pub fn sound_states()
+    ensures opening { OpeningIsSound }
+    ensures after { BatchesKeep }
+{
+    keeps();
+}
