@@ -3,3 +3,12 @@ pub mod SoundStates
 pub mod Levels
 pub mod CutPlaces
 pub mod Examples
+pub mod Numbers
+pub mod Filing
+pub mod LevelSteps
+pub mod LineFacts
+pub mod Settling
+pub mod Openings
+pub mod LevelResults
+pub mod Admissions
+pub mod Running

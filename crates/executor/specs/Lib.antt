@@ -2,3 +2,8 @@ pub mod LevelRuns
 pub mod Paths
 pub mod States
 pub mod Laws
+pub mod Refusals
+pub mod Lines
+pub mod Filing
+pub mod Executions
+pub mod Runs

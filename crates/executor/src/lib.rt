@@ -1,7 +1,24 @@
-//! The execution of batches. A batch is cut into levels by what its requests declare; here stand the laws by which its
-//! levels, where no request strays, do what its requests do one after the other.
+//! The execution of batches. A batch is cut into levels by what its requests declare, and run level by level; where no
+//! request strays, this gives what its requests do one after the other. Where one strays, the rows go back to what they were
+//! before the batch, and its requests run once more, one after the other.
 #![tactic(auto)]
 
+mod attempt;
+mod executor;
+mod in_turn;
 pub mod laws;
+mod levelled;
 mod limits;
+mod opening;
 pub mod path;
+mod record;
+mod refusal;
+mod run;
+mod stamp;
+#[cfg(test)]
+mod tests;
+
+pub use executor::Executor;
+pub use record::Record;
+pub use refusal::Refusal;
+pub use run::RunEnd;

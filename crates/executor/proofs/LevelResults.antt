@@ -1,0 +1,95 @@
+-- What the run of levels asks for, and what it comes to.
+use Rattle.std.proofs.Common.{◌≡◌, ◌↔◌, inl, inr, ℕ, zero, suc, ◌+◌, ◌<◌, Bool, true, false, List, [], ◌∷◌, length, map, get_or, Contains, Option, Some, None, Result, Ok, Err, IsSome, IsOk, IsErr, IsErrAnd, IfErr, Bor, slice_get, refl, sym, ap, subst, ◌∙◌, arith}
+use Rattle.std.proofs.lemmas.List.{length-map}
+use Rattle.std.proofs.lemmas.Option.{slice_get-get_or}
+use Rattle.std.specs.FinMap.{find}
+use Rattle.std.specs.List.{All}
+use Rattle.std.specs.Option.{option_copied}
+use Rattle.std.specs.Ordering.{nat_cmp}
+use Rattle.serializability.specs.Footprints.{Footprint, Has}
+use Rattle.serializability.specs.Levels as levels
+use Rattle.serializability.proofs.Folding.{length-fold_replies}
+use Rattle.tpcc_rows.specs.declared.granule.Granule.{Granule}
+use Rattle.catalog.specs.CardMap.{Cards}
+use Rattle.requests.specs.declared.request.Batch.{Batch}
+use Rattle.requests.specs.declared.reply.Reply.{Reply}
+use Rattle.gather.specs.Books.{Book}
+use Rattle.tpcc_model.specs.Machine.{tpcc}
+use Rattle.tpcc_model.specs.Serial.{State, batch_replies}
+use Rattle.tpcc_model.specs.Soundness.{IsSound}
+use Rattle.tpcc_model.specs.Steps.{steps_at}
+use Rattle.transactions.specs.declared.exec_error.ExecError.{ExecError}
+use Rattle.transactions.specs.declared.exec_error.ExecError.TheVariants as exec_error
+use Rattle.workers.specs.LevelEnds.{IsStrayWhere}
+use Rattle.executor.specs.Filing.{reply_at}
+use Rattle.executor.specs.Laws.{DeclaredLevelsAreSerial, RunsAsSerial}
+use Rattle.executor.specs.LevelRuns.{declared_footprints, levels_by}
+use Rattle.executor.specs.States.{AreWithinLimits}
+
+-- ---- the places of a level
+pub lent_at : {X : Type 0} (o : Option (Bor X)) (x : X) → option_copied o ≡ Some x → IsSome o
+lent_at None x at = cc
+lent_at (Some b) x at = refl
+
+has_at : (places : List ℕ) (k d : ℕ) → k < length places → Has places (get_or places k d)
+has_at [] k d below = absurd (omega (arith, below))
+has_at (place ∷ places) zero d below = inl refl
+has_at (place ∷ places) (suc k) d below = inr (has_at places k d (omega (arith, below)))
+
+pub each_place : (P : ℕ → Type 0) (places : List ℕ) → ((place : ℕ) → Has places place → P place) → All P places
+each_place P places f k d below = f (get_or places k d) (has_at places k d below)
+
+-- ---- errors
+pub stray_up : {A : Type 0} (level whole : Bool) (e : ExecError) (result : Result A ExecError) → (level ≡ true → whole ≡ true) → IsStrayWhere level e → IsErrAnd result (λ f. f ≡ e) → IfErr result (IsStrayWhere whole)
+stray_up level whole e (Ok x) then strays by = absurd by
+stray_up level whole exec_error.Strayed (Err f) then strays by = subst (IsStrayWhere whole) (sym by) (then strays)
+stray_up level whole exec_error.Memory (Err f) then strays by = subst (IsStrayWhere whole) (sym by) tt
+
+-- ---- replies in the order of the batch
+-- each of these is filed, at its place
+pub none_missing : (entries : List (Option Reply)) (wanted : List Reply) → length entries ≡ length wanted → ((place : ℕ) → place < length wanted → get_or entries place None ≡ slice_get wanted place) → Contains entries None → ⊥
+none_missing entries [] size at missing = let low = missing.1 in absurd (omega (arith, size, low))
+none_missing entries (reply ∷ wanted) size at missing =
+    let low = missing.1 in
+    let below : missing.0 < length (reply ∷ wanted) = omega (arith, size, low) in
+    let no : None ≡ Some (get_or (reply ∷ wanted) missing.0 reply) = sym missing.2 ∙ at missing.0 below ∙ slice_get-get_or (reply ∷ wanted) missing.0 reply below in
+    cc
+
+pub ok_unless : {T E : Type 0} (result : Result T E) (P : Type 0) → (IsErr result ↔ P) → (P → ⊥) → IsOk result
+ok_unless (Ok x) P errs not = refl
+ok_unless (Err e) P errs not = absurd (not (errs.0 refl))
+
+same_at : (xs ys : List Reply) → length xs ≡ length ys → ((place : ℕ) → place < length ys → get_or (map Some xs) place None ≡ slice_get ys place) → xs ≡ ys
+same_at [] [] size at = refl
+same_at [] (y ∷ ys) size at = absurd (omega arith)
+same_at (x ∷ xs) [] size at = absurd (omega arith)
+same_at (x ∷ xs) (y ∷ ys) size at =
+    let first : Some x ≡ Some y = at 0 (omega arith) in
+    let here : x ≡ y = cc in
+    let rest : xs ≡ ys = same_at xs ys (omega arith) (λ place below. at (suc place) (omega (arith, below))) in
+    (λ i. here i ∷ rest i)
+
+pub same_replies : (replies wanted : List Reply) (entries : List (Option Reply)) → map Some replies ≡ entries → length entries ≡ length wanted → ((place : ℕ) → place < length wanted → get_or entries place None ≡ slice_get wanted place) → replies ≡ wanted
+same_replies replies wanted entries all size at =
+    let counted : length entries ≡ length replies = sym (ap length all) ∙ length-map replies Some in
+    same_at replies wanted (omega (arith, size, counted)) (λ place below. ap (λ (es : List (Option Reply)). get_or es place None) all ∙ at place below)
+
+-- ---- the levels that the requests declare
+-- where none strays, they are the requests one after the other
+pub as_serial : DeclaredLevelsAreSerial → (cards : Cards) (state : State) (batch : Batch) (footprints : List (Footprint Granule)) → IsSound (record { cards = cards; rows = state.rows }) → AreWithinLimits batch.moment state.next batch.requests
+    → footprints ≡ declared_footprints cards state batch → levels.strays (tpcc cards batch.moment) state.rows (levels_by state.next batch.requests footprints) ≡ false → RunsAsSerial cards state batch
+as_serial law cards state batch footprints sound limits declared stays =
+    law cards state batch sound limits (subst (λ (fs : List (Footprint Granule)). levels.strays (tpcc cards batch.moment) state.rows (levels_by state.next batch.requests fs) ≡ false) declared stays)
+
+-- and a book of what they reply has the replies of the batch
+pub filed_in_order : (cards : Cards) (state : State) (batch : Batch) (footprints : List (Footprint Granule)) (book : Book) → footprints ≡ declared_footprints cards state batch → RunsAsSerial cards state batch
+    → ((place : ℕ) → place < length batch.requests → reply_at book place ≡ find nat_cmp (state.next + place) (levels.run_replies (tpcc cards batch.moment) state.rows (levels_by state.next batch.requests footprints)))
+    → (place : ℕ) → place < length (batch_replies cards state batch) → reply_at book place ≡ slice_get (batch_replies cards state batch) place
+filed_in_order cards state batch footprints book declared runs filed place below =
+    let count = length-fold_replies (steps_at cards batch.moment) state.rows state.next batch.requests in
+    filed place (omega (arith, below, count))
+    ∙ ap (λ (fs : List (Footprint Granule)). find nat_cmp (state.next + place) (levels.run_replies (tpcc cards batch.moment) state.rows (levels_by state.next batch.requests fs))) declared
+    ∙ runs.replies place
+
+pub as_many : (cards : Cards) (state : State) (batch : Batch) (book : Book) → length book.replies ≡ length batch.requests → length book.replies ≡ length (batch_replies cards state batch)
+as_many cards state batch book size = size ∙ sym (length-fold_replies (steps_at cards batch.moment) state.rows state.next batch.requests)

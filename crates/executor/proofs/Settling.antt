@@ -1,0 +1,27 @@
+-- What a level's outcomes come to.
+use Rattle.std.proofs.Common.{◌≡◌, ℕ, ◌+◌, ◌≤◌, ◌<◌, List, [], ◌∷◌, length, map, get_or, refl, sym, ap, subst, ◌∙◌, arith}
+use Rattle.std.proofs.lemmas.List.{get_or-map, length-map}
+use Rattle.std.specs.FinMap.{entries}
+use Rattle.std.specs.List.{All, flat_map}
+use Rattle.serializability.specs.Changes.{apply}
+use Rattle.serializability.proofs.Changes.{apply-append}
+use Rattle.tpcc_rows.specs.Changing.{after}
+use Rattle.tpcc_rows.specs.RowMap.{Rows}
+use Rattle.gather.specs.Merged.{after_each}
+use Rattle.workers.specs.declared.job.PlaceOutcome.{PlaceOutcome}
+
+-- the changes of each outcome in turn are all of them
+pub after_outcomes : (outcomes : List PlaceOutcome) (rows : Rows) → after_each rows (map (λ done. done.changes) outcomes) ≡ apply (flat_map (λ done. entries done.changes) outcomes) rows
+unfolding after
+after_outcomes [] rows = refl
+after_outcomes (done ∷ outcomes) rows =
+    after_outcomes outcomes (after rows done.changes)
+    ∙ sym (apply-append (entries done.changes) (flat_map (λ later. entries later.changes) outcomes) rows)
+
+-- their numbers are within the limit where their places are those of the batch
+pub numbers_within : (outcomes : List PlaceOutcome) (places : List ℕ) (first count : ℕ) → map (λ done. done.place) outcomes ≡ places → All (λ place. place < count) places → first + count ≤ 1000000000000000 → All (λ done. first + done.place < 1000000000000000) outcomes
+numbers_within outcomes places first count is within high i done below =
+    let there : i < length places = subst (λ (ps : List ℕ). i < length ps) is (omega (arith, below, length-map outcomes (λ (d : PlaceOutcome). d.place))) in
+    let place : get_or places i done.place ≡ (get_or outcomes i done).place = ap (λ (ps : List ℕ). get_or ps i done.place) (sym is) ∙ get_or-map (λ (d : PlaceOutcome). d.place) outcomes i done done.place below in
+    let low = within i done.place there in
+    omega (arith, low, place, high)

@@ -1,0 +1,14 @@
+use Rattle.std.proofs.Common.{◌≡◌, ◌≤◌, length, take}
+use Rattle.std.specs.Vec.{vec_capacity}
+use Rattle.executor.specs.Runs.{AreRecordsOf, line_after}
+use Rattle.executor.specs.States.{IsSoundState}
+use Rattle.executor.proofs.executor.Executor.run.Given as goal
+
+abbrev pub invariant-loop-batch : goal.invariant-loop-batch
+invariant-loop-batch g l = record {
+  counted : length l.records.items ≡ l.batch-index;
+  room : length l.batches ≤ vec_capacity l.records;
+  records : AreRecordsOf l.fn.self.cards l.fn.self.present l.batches l.records.items;
+  line : l.self ≡ line_after l.fn.self (take l.batch-index l.batches);
+  sound : IsSoundState l.self.cards l.self.present;
+}

@@ -1,0 +1,23 @@
+use Rattle.std.proofs.Common.{◌≡◌, true, false, None, subst, sym, ◌∙◌}
+use Rattle.serializability.specs.Footprints.{Footprint}
+use Rattle.tpcc_rows.specs.RowMap.{Rows}
+use Rattle.tpcc_rows.specs.declared.granule.Granule.{Granule}
+use Rattle.tpcc_model.specs.Touches.{touch}
+use Rattle.transactions.specs.Outcomes.{IsErrorWithin}
+use Rattle.transactions.specs.declared.exec_error.ExecError.{ExecError}
+use Rattle.transactions.specs.declared.exec_error.ExecError.TheVariants as exec_error
+use Rattle.worker_rows.specs.Views.{View, covers}
+use Rattle.worker_rows.proofs.AllCovered.{covers_whole}
+use Rattle.executor.proofs.in_turn.executed.Goals as goal
+
+-- on all rows nothing strays
+none_strays : (rows : Rows) (touch : Footprint Granule) (e : ExecError) → e ≡ exec_error.Strayed → IsErrorWithin (let view : View = record { rows = rows; bounds = None } in covers view touch) e → ⊥
+none_strays rows touch e is error =
+    let view : View = record { rows = rows; bounds = None } in
+    let no : true ≡ false = sym (covers_whole rows touch) ∙ subst (IsErrorWithin (covers view touch)) is error in
+    cc
+
+pub unreachable-requires : goal.unreachable-requires
+unreachable-requires c =
+    let rows = c.args.store.now.rows in
+    none_strays rows (touch (record { cards = c.args.catalog.now; rows = rows }) c.args.request.now) c.in-Err-Strayed.field-0 c.in-Err-Strayed.field-0-is c.in-Err-Strayed.ensures

@@ -1,0 +1,20 @@
+use Rattle.std.proofs.Common.{◌≡◌, drop, length, map}
+use Rattle.serializability.specs.Levels.{jobs, jobs_at, run_replies, run_rows, strays}
+use Rattle.tpcc_model.specs.Machine.{tpcc}
+use Rattle.gather.specs.Books.{blank}
+use Rattle.executor.specs.LevelRuns.{cut_by, levels_by}
+use Rattle.executor.proofs.Filing.{FilesRest}
+use Rattle.executor.proofs.levelled.run_levels.Given as goal
+
+-- the levels that are left come to what all come to
+abbrev pub invariant-loop-level : goal.invariant-loop-level
+invariant-loop-level g l =
+    let machine = tpcc l.catalog l.batch.moment in
+    let all = levels_by l.first l.batch.requests l.footprints in
+    let left = map (jobs_at (jobs l.first l.batch.requests l.footprints)) (drop l.level (cut_by l.footprints)) in
+    record {
+      within : strays machine l.store.rows left ≡ strays machine l.fn.store.rows all;
+      rows : run_rows machine l.store.rows left ≡ run_rows machine l.fn.store.rows all;
+      filed : FilesRest (run_replies machine l.fn.store.rows all) (run_replies machine l.store.rows left) (blank l.first (length l.batch.requests)) l.book;
+      points : l.store.points ≡ l.fn.store.points;
+    }

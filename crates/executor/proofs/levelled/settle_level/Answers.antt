@@ -1,0 +1,31 @@
+use Rattle.std.proofs.Common.{◌∙◌, ap, length}
+use Rattle.serializability.specs.Levels.{jobs, jobs_at}
+use Rattle.gather.specs.Merged.{after_each}
+use Rattle.workers.specs.LevelEnds.{AreDone, IsStray}
+use Rattle.workers.proofs.Ends.{level_strays, rows_after_level}
+use Rattle.executor.proofs.Settling.{after_outcomes, numbers_within}
+use Rattle.executor.proofs.levelled.settle_level.Goals as goal
+
+pub file_replies-requires-clause-high : goal.file_replies-requires-clause-high
+file_replies-requires-clause-high g c =
+    let all = jobs c.args.first c.args.batch.now.requests c.args.footprints.now in
+    let are : AreDone c.args.catalog.now c.args.store.now.rows c.args.batch.now.moment c.args.first (jobs_at all c.args.places.now) c.args.places.now c.in-Done.outcomes.items = rw c.in-Done.is at c.in_ok-run_level.ensures in
+    numbers_within c.in-Done.outcomes.items c.args.places.now c.args.first (length c.args.batch.now.requests) are.in_order c.requires.there c.requires.high
+
+pub returns-in-Strayed-clause-err : goal.returns-in-Strayed-clause-err
+returns-in-Strayed-clause-err g c =
+    let all = jobs c.args.first c.args.batch.now.requests c.args.footprints.now in
+    let stray : IsStray c.args.catalog.now c.args.store.now.rows c.args.batch.now.moment all c.args.places.now c.in-Strayed.field-0 = rw c.in-Strayed.is at c.in_ok-run_level.ensures in
+    level_strays c.args.catalog.now c.args.store.now.rows c.args.batch.now.moment all c.args.places.now c.in-Strayed.field-0 stray
+
+pub returns-in_ok-apply-in-Done-clause-rows : goal.returns-in_ok-apply-in-Done-clause-rows
+returns-in_ok-apply-in-Done-clause-rows g c =
+    let all = jobs c.args.first c.args.batch.now.requests c.args.footprints.now in
+    let rows = c.args.store.now.rows in
+    let outcomes = c.in-Done.outcomes.items in
+    let are : AreDone c.args.catalog.now rows c.args.batch.now.moment c.args.first (jobs_at all c.args.places.now) c.args.places.now outcomes = rw c.in-Done.is at c.in_ok-run_level.ensures in
+    c.in_ok-apply-in-Done.ensures.ok
+    ∙ c.in_ok-changes-in-Done.ensures.in_turn rows
+    ∙ ap (after_each rows) c.in_ok-deltas-in-Done.ensures.changes
+    ∙ after_outcomes outcomes rows
+    ∙ rows_after_level c.args.catalog.now rows c.args.batch.now.moment c.args.first (jobs_at all c.args.places.now) c.args.places.now outcomes are

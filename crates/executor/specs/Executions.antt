@@ -1,0 +1,42 @@
+-- What the calls of an executor answer.
+use Rattle.std.specs.Prelude.{◌≡◌, ℕ, ◌+◌, Bool, ◌||◌, nat_lt, if◌then◌else◌, length, Option, Some, None}
+use Rattle.catalog.specs.CardMap.{Cards}
+use Rattle.requests.specs.declared.request.Batch.{Batch}
+use Rattle.tpcc_model.specs.Serial.{State, after_batch, batch_replies}
+use Rattle.executor.specs.Lines.{Line}
+use Rattle.executor.specs.Paths.{path_of}
+use Rattle.executor.specs.declared.path.Path.{Path}
+use Rattle.executor.specs.declared.path.Path.TheVariants as path
+use Rattle.executor.specs.declared.record.Record.{Record}
+use Rattle.executor.specs.declared.refusal.Refusal.{Refusal}
+use Rattle.executor.specs.declared.refusal.Refusal.TheVariants as refusal
+
+-- the number of the batch, or that of one of its requests, would pass its limit
+abbrev pub exhausts : State → Batch → Bool
+exhausts state batch = nat_lt 999999999999999 (state.sequence + 1) || nat_lt 1000000000000000 (state.next + length batch.requests)
+
+-- why the batch isn't executed, whatever memory there is; so many batches may be uncommitted
+abbrev pub refusal_for : ℕ → Line → Batch → Option Refusal
+refusal_for most line batch =
+    if nat_lt 1024 (length batch.requests) then Some refusal.BatchTooLong
+    else if exhausts line.present batch then Some refusal.NumbersExhausted
+    else if nat_lt (length line.earlier) most then None
+    else Some refusal.PointsFull
+
+-- a call that is refused for this reason, or else for memory
+abbrev pub IsRefusedFor : Option Refusal → Refusal → Type 0
+IsRefusedFor None e = e ≡ refusal.Memory
+IsRefusedFor (Some reason) e = e ≡ reason
+
+-- one request after the other, or level by level
+abbrev pub path_in : {W : Type 0} → Option W → Cards → State → Batch → Path
+path_in None cards state batch = path.Sequential
+path_in (Some workers) cards state batch = path_of cards state batch
+
+-- the record of a batch that a state met
+pub record IsRecordOf (cards : Cards) (state : State) (batch : Batch) (how : Path) (r : Record) : Type 0 where
+  pub sequence : r.sequence ≡ state.sequence + 1
+  pub first : r.first ≡ state.next
+  pub replies : r.replies.items ≡ batch_replies cards state batch
+  pub token : r.token ≡ (after_batch cards state batch).token
+  pub path : r.path ≡ how

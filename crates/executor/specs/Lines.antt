@@ -1,0 +1,61 @@
+-- What an executor stands for: the states that it can go back to, and the present one.
+use Rattle.std.specs.Prelude.{◌≡◌, ℕ, ◌≤◌, List, [], ◌∷◌, ◌++◌, drop, length, map, refl}
+use Rattle.std.specs.List.{zip}
+use Rattle.std.specs.Coded.{Coded, code_by, coded×, coded_list, coded_ℕ}
+use Rattle.catalog.specs.CardBytes.{catalog_digest}
+use Rattle.catalog.specs.CardMap.{Cards, cards_code}
+use Rattle.requests.specs.declared.request.Batch.{Batch}
+use Rattle.tpcc_model.specs.Serial.{State, after_batch, opening}
+use Rattle.tpcc_rows.specs.Limits.{IsBetween}
+use Rattle.tpcc_rows.specs.RowMap.{Rows, rows_code}
+use Rattle.executor.specs.States.{IsSoundState}
+use Rattle.executor.specs.declared.stamp.Stamp.{Stamp}
+
+-- the cards; the last committed state and those after it, the oldest first, without the present one; the present state
+pub record Line : Type 0 where
+  pub cards : Cards
+  pub earlier : List State
+  pub present : State
+
+abbrev pub state_code : Coded State
+state_code = code_by (Rows × (ℕ × (ℕ × List ℕ))) (coded× rows_code (coded× coded_ℕ (coded× coded_ℕ (coded_list coded_ℕ))))
+    (λ s. (s.rows, (s.next, (s.sequence, s.token))))
+    (λ p. record { rows = p.0; next = p.1.0; sequence = p.1.1.0; token = p.1.1.1 }) (λ _. refl)
+
+abbrev pub line_code : Coded Line
+line_code = code_by (Cards × (List State × State)) (coded× cards_code (coded× (coded_list state_code) state_code))
+    (λ l. (l.cards, (l.earlier, l.present)))
+    (λ p. record { cards = p.0; earlier = p.1.0; present = p.1.1 }) (λ _. refl)
+
+abbrev pub state_of : Rows → Stamp → State
+state_of rows stamp = record { rows = rows; next = stamp.next; sequence = stamp.sequence; token = stamp.token }
+
+-- the states at points, of which what is kept beside the rows stands apart
+abbrev pub states_of : List Rows → List Stamp → List State
+states_of points stamps = map (λ kept. state_of kept.0 kept.1) (zip points stamps)
+
+-- ---- from line to line
+-- before any batch
+abbrev pub opening_line : Cards → Rows → Line
+opening_line cards rows = record { cards = cards; earlier = []; present = opening cards rows }
+
+-- after a batch
+abbrev pub extended : Line → Batch → Line
+extended line batch = record { cards = line.cards; earlier = line.earlier ++ line.present ∷ []; present = after_batch line.cards line.present batch }
+
+-- after the oldest batch that wasn't was committed
+abbrev pub committed : Line → Line
+committed line = record { cards = line.cards; earlier = drop 1 line.earlier; present = line.present }
+
+-- all states, the last committed one first
+abbrev pub states : Line → List State
+states line = line.earlier ++ line.present ∷ []
+
+-- ---- what an executor keeps of itself: the digest is the catalog's, each point has its stamp, the present state is sound, and
+-- its numbers are within their limits
+pub record IsExecutor (cards : Cards) (digest : List ℕ) (rows : Rows) (points : List Rows) (stamps : List Stamp) (stamp : Stamp) : Type 0 where
+  pub of_catalog : digest ≡ catalog_digest cards
+  pub stamped : length stamps ≡ length points
+  pub sound : IsSoundState cards (state_of rows stamp)
+  pub next_within : IsBetween 1 1000000000000000 stamp.next
+  pub sequence_within : stamp.sequence ≤ 999999999999999

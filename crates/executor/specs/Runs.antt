@@ -1,0 +1,40 @@
+-- A run of batches, each committed before the next.
+use Rattle.std.specs.Prelude.{◌≡◌, ◌⊎◌, ℕ, List, [], ◌∷◌, drop, length, take, Option, Some, None}
+use Rattle.catalog.specs.CardMap.{Cards}
+use Rattle.requests.specs.declared.request.Batch.{Batch}
+use Rattle.tpcc_model.specs.Serial.{State, after_batch, serial}
+use Rattle.executor.specs.Executions.{IsRecordOf, IsRefusedFor, refusal_for}
+use Rattle.executor.specs.Lines.{Line}
+use Rattle.executor.specs.Paths.{path_of}
+use Rattle.executor.specs.declared.record.Record.{Record}
+use Rattle.executor.specs.declared.refusal.Refusal.{Refusal}
+use Rattle.executor.specs.declared.refusal.Refusal.TheVariants as refusal
+use Rattle.executor.specs.declared.run.RunEnd.{RunEnd}
+
+-- the present state alone: all batches are committed
+abbrev pub alone : Line → Line
+alone line = record { cards = line.cards; earlier = []; present = line.present }
+
+-- after these batches, all committed; as it was, where there are none
+abbrev pub line_after : Line → List Batch → Line
+line_after line [] = line
+line_after line (batch ∷ batches) = record { cards = line.cards; earlier = []; present = serial line.cards line.present (batch ∷ batches) }
+
+-- the records of the first of the batches, each of which met the state that those before it left
+abbrev pub AreRecordsOf : Cards → State → List Batch → List Record → Type 0
+AreRecordsOf cards state batches [] = Unit {0}
+AreRecordsOf cards state [] (r ∷ records) = ⊥
+AreRecordsOf cards state (batch ∷ batches) (r ∷ records) = IsRecordOf cards state batch (path_of cards state batch) r × AreRecordsOf cards (after_batch cards state batch) batches records
+
+-- why no batch of those that are left was executed: there is none; room for the records was refused, so that there is none
+-- either; or the next batch is refused, on this line
+abbrev pub IsStopAt : ℕ → Line → List Record → List Batch → Option Refusal → Type 0
+IsStopAt most line records left None = left ≡ []
+IsStopAt most line records left (Some e) =
+    ((records ≡ []) × (e ≡ refusal.Memory)) ⊎ ((batch : Batch) × (rest : List Batch) × (left ≡ batch ∷ rest) × IsRefusedFor (refusal_for most line batch) e)
+
+-- so many batches may be uncommitted
+pub record IsRunOf (most : ℕ) (old new : Line) (batches : List Batch) (end : RunEnd) : Type 0 where
+  pub records : AreRecordsOf old.cards old.present batches end.records.items
+  pub line : new ≡ line_after old (take (length end.records.items) batches)
+  pub stop : IsStopAt most new end.records.items (drop (length end.records.items) batches) end.stop

@@ -1,0 +1,258 @@
+//! The execution of batches on one database.
+ghost use Rattle.std.specs.Prelude.{◌≡◌, ◌↔◌, ◌≢◌, [], Err, IfErr, IfOk, IsErr, OnErr, OnOk, None, Some, map, slice_get};
+ghost use Rattle.executor.specs.Executions.{IsRecordOf, IsRefusedFor, path_in, refusal_for};
+ghost use Rattle.executor.specs.Lines.{committed, extended, opening_line, states};
+ghost use Rattle.executor.specs.Paths.{path_of};
+ghost use Rattle.executor.specs.States.{IsSoundState};
+ghost use Rattle.executor.specs.declared.path.Path.TheVariants as path;
+ghost use Rattle.executor.specs.declared.refusal.Refusal.TheVariants as refusal;
+ghost use Rattle.tpcc_model.specs.Soundness.{IsSound};
+
+use crate::attempt::attempt;
+use crate::laws::sound_states;
+use crate::limits::requests_within;
+use crate::opening::next_number;
+use crate::record::Record;
+use crate::refusal::Refusal;
+use crate::stamp::Stamp;
+use arrayvec::ArrayVec;
+use catalog::Catalog;
+use merkle::Tree;
+use requests::request::Batch;
+use rollback::{POINTS, PointedStore};
+use std::alloc::Global;
+use std::marker::Model;
+use std::thread::Threads;
+use token::{TokenParts, reply_digest};
+use tpcc_rows::memory::Memory;
+use workers::{Gate, NoGate, Workers};
+
+/// The last number of a request, and of a batch.
+pub(crate) const LAST_NUMBER: u64 = 999_999_999_999_999;
+
+/// A batch has at most so many requests.
+const MOST_REQUESTS: usize = 1024;
+
+/// A database between two batches, and the states before its uncommitted ones. A batch is uncommitted from its execution
+/// until it is committed.
+#[derive(Drop)]
+pub struct Executor {
+    catalog: Catalog,
+    catalog_digest: [u8; 32],
+    store: PointedStore,
+    /// What was kept at each point of the store, the oldest first.
+    earlier: ArrayVec<Stamp, POINTS>,
+    present: Stamp,
+}
+
+impl Model for Executor {
+    ghost use Rattle.executor.specs.Lines.{IsExecutor, Line, line_code, state_of, states_of};
+
+    ghost Value = { Line };
+
+    ghost coded = { line_code };
+
+    ghost view = { λ e. record {
+      cards = e.catalog;
+      earlier = states_of e.store.points e.earlier.items;
+      present = state_of e.store.rows e.present;
+    } };
+
+    ghost invariant = { λ e. IsExecutor e.catalog e.catalog_digest e.store.rows e.store.points e.earlier.items e.present };
+}
+
+impl Executor {
+    /// A database before any batch. The number of its first request is one more than the greatest of HISTORY.
+    pub fn new<R: Threads + Sync>(
+        rt: &R,
+        alloc: Global,
+        catalog: Catalog,
+        store: PointedStore,
+    ) -> Result<Executor, Memory>
+        requires sound { IsSound (record { cards = catalog; rows = store.rows }) }
+        requires points { store.points ≡ [] }
+        ensures line { IfOk result (λ e. e ≡ opening_line catalog store.rows) }
+        ensures sound { IfOk result (λ e. IsSoundState e.cards e.present) }
+    {
+        sound_states();
+        let catalog_digest = catalog.digest();
+        let next = next_number(&store);
+        let tree = Tree::build(rt, alloc, &store)?;
+        let parts = TokenParts {
+            sequence: 0,
+            prior: [0; 32],
+            catalog: catalog_digest,
+            root: tree.root(),
+            replies: reply_digest(next, &[]),
+        };
+        Ok(Executor {
+            catalog,
+            catalog_digest,
+            store,
+            earlier: ArrayVec::new(),
+            present: Stamp {
+                next,
+                sequence: 0,
+                token: parts.token(),
+            },
+        })
+    }
+
+    pub fn catalog(&self) -> &Catalog
+        ensures { result.now ≡ self.now.cards }
+    {
+        &self.catalog
+    }
+
+    pub fn store(&self) -> &PointedStore
+        ensures { result.now.rows ≡ self.now.present.rows }
+    {
+        &self.store
+    }
+
+    /// The number of the last batch; 0 before the first.
+    pub fn sequence(&self) -> u64
+        ensures { result ≡ self.now.present.sequence }
+    {
+        self.present.sequence
+    }
+
+    /// The token of the last batch.
+    pub fn token(&self) -> [u8; 32]
+        ensures { result ≡ self.now.present.token }
+    {
+        self.present.token
+    }
+
+    /// The number of the next request.
+    pub fn next_number(&self) -> u64
+        ensures { result ≡ self.now.present.next }
+    {
+        self.present.next
+    }
+
+    /// The present state is sound.
+    pub(crate) fn keep_sound(&self)
+        ensures { IsSoundState self.now.cards self.now.present }
+    {
+        let _ = &self.catalog;
+    }
+
+    /// Why the batch isn't executed, whatever memory there is.
+    fn refusal_for(&self, batch: &Batch) -> Option<Refusal>
+        ensures { result ≡ refusal_for POINTS self.now batch.now }
+    {
+        let count = batch.requests.len();
+        if count > MOST_REQUESTS {
+            Some(Refusal::BatchTooLong)
+        } else if self.present.sequence == LAST_NUMBER
+            || count as u64 > LAST_NUMBER + 1 - self.present.next
+        {
+            Some(Refusal::NumbersExhausted)
+        } else if self.earlier.len() >= POINTS {
+            Some(Refusal::PointsFull)
+        } else {
+            None
+        }
+    }
+
+    fn execute_by<R: Threads + Sync, G: Gate>(
+        &mut self,
+        rt: &R,
+        alloc: Global,
+        batch: &Batch,
+        workers: Option<Workers>,
+        gate: &G,
+    ) -> Result<Record, Refusal>
+        ensures admitted { OnOk result (refusal_for POINTS self.old batch.now ≡ None) }
+        ensures line { OnOk result (self.new ≡ extended self.old batch.now) }
+        ensures record { IfOk result (IsRecordOf self.old.cards self.old.present batch.now (path_in workers self.old.cards self.old.present batch.now)) }
+        ensures refused { IfErr result (IsRefusedFor (refusal_for POINTS self.old batch.now)) }
+        ensures sound { IsSoundState self.new.cards self.new.present }
+        ensures err { OnErr result (self.new ≡ self.old) }
+    {
+        if let Some(refusal) = self.refusal_for(batch) {
+            return Err(refusal);
+        }
+        sound_states();
+        requests_within(batch.requests.as_slice());
+        batch.moment.seconds();
+        let record = attempt(
+            rt,
+            alloc,
+            &self.catalog,
+            self.catalog_digest,
+            &mut self.store,
+            &self.present,
+            batch,
+            workers,
+            gate,
+        )?;
+        let token = record.token;
+        self.earlier.push(self.present);
+        self.present = Stamp {
+            next: self.present.next + batch.requests.len() as u64,
+            sequence: record.sequence,
+            token,
+        };
+        Ok(record)
+    }
+
+    /// Executes a batch on so many workers. Its requests run level by level, cut by what they declare; where one strays, or
+    /// where the verdict asks for it, the rows go back and the requests run once more, one after the other. The gate is told
+    /// of each execution.
+    pub fn execute<R: Threads + Sync, G: Gate>(
+        &mut self,
+        rt: &R,
+        alloc: Global,
+        batch: &Batch,
+        workers: Workers,
+        gate: &G,
+    ) -> Result<Record, Refusal>
+        ensures admitted { OnOk result (refusal_for POINTS self.old batch.now ≡ None) }
+        ensures line { OnOk result (self.new ≡ extended self.old batch.now) }
+        ensures record { IfOk result (IsRecordOf self.old.cards self.old.present batch.now (path_of self.old.cards self.old.present batch.now)) }
+        ensures refused { IfErr result (IsRefusedFor (refusal_for POINTS self.old batch.now)) }
+        ensures sound { IsSoundState self.new.cards self.new.present }
+        ensures err { OnErr result (self.new ≡ self.old) }
+    {
+        self.execute_by(rt, alloc, batch, Some(workers), gate)
+    }
+
+    /// Executes a batch, one request after the other.
+    pub fn execute_sequential<R: Threads + Sync>(
+        &mut self,
+        rt: &R,
+        alloc: Global,
+        batch: &Batch,
+    ) -> Result<Record, Refusal>
+        ensures admitted { OnOk result (refusal_for POINTS self.old batch.now ≡ None) }
+        ensures line { OnOk result (self.new ≡ extended self.old batch.now) }
+        ensures record { IfOk result (IsRecordOf self.old.cards self.old.present batch.now path.Sequential) }
+        ensures refused { IfErr result (IsRefusedFor (refusal_for POINTS self.old batch.now)) }
+        ensures sound { IsSoundState self.new.cards self.new.present }
+        ensures err { OnErr result (self.new ≡ self.old) }
+    {
+        self.execute_by(rt, alloc, batch, None, &NoGate)
+    }
+
+    /// Commits the oldest uncommitted batch; the answer is its number. It takes no memory.
+    pub fn commit(&mut self) -> Result<u64, Refusal>
+        ensures line { OnOk result (self.new ≡ committed self.old) }
+        ensures sequence { IfOk result (λ sequence. slice_get (map (λ state. state.sequence) (states self.old)) 1 ≡ Some sequence) }
+        ensures none { IsErr result ↔ (self.old.earlier ≡ []) }
+        ensures refused { IfErr result (λ e. e ≡ refusal.NoSuchPoint) }
+        ensures err { OnErr result (self.new ≡ self.old) }
+    {
+        if self.earlier.is_empty() {
+            return Err(Refusal::NoSuchPoint);
+        }
+        let committed = match self.earlier.get(1) {
+            Some(next) => next.sequence,
+            None => self.present.sequence,
+        };
+        self.store.drop_oldest().unwrap();
+        self.earlier.remove(0);
+        Ok(committed)
+    }
+}

@@ -1,0 +1,65 @@
+//! The requests of a batch, executed one after the other.
+ghost use Rattle.std.specs.Prelude.{◌≡◌, ◌+◌, ◌≤◌, length, IfOk, OnOk};
+ghost use Rattle.tpcc_model.specs.Steps.{replies, rows_after, step};
+ghost use Rattle.transactions.specs.Outcomes.{IsOutcome};
+
+use catalog::Catalog;
+use requests::reply::Reply;
+use requests::request::{Batch, Request};
+use rollback::PointedStore;
+use std::alloc::Global;
+use tpcc_rows::delta::Delta;
+use tpcc_rows::id::RequestNumber;
+use tpcc_rows::memory::Memory;
+use tpcc_rows::number::Moment;
+use transactions::{ExecError, execute};
+use worker_rows::Whole;
+use workers::Gate;
+
+/// The outcome of a request on all rows, where nothing strays.
+fn executed(
+    alloc: Global,
+    catalog: &Catalog,
+    request: &Request,
+    number: RequestNumber,
+    moment: Moment,
+    store: &PointedStore,
+) -> Result<(Reply, Delta), Memory>
+    ensures { IfOk result (IsOutcome (step (record { cards = catalog.now; rows = store.now.rows }) request.now number moment)) }
+{
+    match execute(alloc, catalog, request, number, moment, &Whole { store }) {
+        Ok(done) => Ok(done),
+        Err(ExecError::Memory) => Err(Memory),
+        Err(ExecError::Strayed) => unreachable!(),
+    }
+}
+
+/// Executes the requests of a batch one after the other, the first with this number, and makes the changes of each
+/// before the next. Where memory was refused, a beginning of the changes is made. The gate is told of each execution.
+#[tactic(auto, unfolding(tpcc_rows::specs::Changing::after))]
+pub(crate) fn execute_in_turn<G: Gate>(
+    alloc: Global,
+    catalog: &Catalog,
+    store: &mut PointedStore,
+    batch: &Batch,
+    first: u64,
+    gate: &G,
+) -> Result<Vec<Reply>, Memory>
+    requires low { 1 ≤ first }
+    requires high { first + length batch.now.requests ≤ 1000000000000000 }
+    ensures replies { IfOk result (λ v. v.items ≡ replies (record { cards = catalog.now; rows = store.old.rows }) batch.now.moment first batch.now.requests) }
+    ensures rows { OnOk result (store.new.rows ≡ rows_after (record { cards = catalog.now; rows = store.old.rows }) batch.now.moment first batch.now.requests) }
+    ensures points { store.new.points ≡ store.old.points }
+{
+    let mut replies = Vec::with_capacity(alloc, batch.requests.len())?;
+    for (place, request) in batch.requests.as_slice().iter().enumerate() {
+        let number = RequestNumber::new(first + place as u64).unwrap();
+        gate.enter(place);
+        let done = executed(alloc, catalog, request, number, batch.moment, store);
+        gate.leave(place);
+        let (reply, delta) = done?;
+        store.apply(&delta)?;
+        replies.push(reply)?;
+    }
+    Ok(replies)
+}

@@ -1,0 +1,67 @@
+//! Batches that are executed and committed one after the other.
+ghost use Rattle.std.specs.Prelude.{◌≡◌};
+ghost use Rattle.executor.specs.Runs.{IsRunOf, alone};
+ghost use Rattle.executor.specs.States.{IsSoundState};
+
+use crate::executor::Executor;
+use crate::record::Record;
+use crate::refusal::Refusal;
+use requests::request::Batch;
+use rollback::POINTS;
+use std::alloc::Global;
+use std::thread::Threads;
+use workers::{Gate, Workers};
+
+/// How a run of batches ended: the records of those that were executed, and why the next one wasn't; None after the last.
+#[derive(Drop)]
+pub struct RunEnd {
+    pub records: Vec<Record>,
+    pub stop: Option<Refusal>,
+}
+
+impl Executor {
+    /// Executes each batch on so many workers, and commits it and all that weren't, until one is refused. Room for all records
+    /// is made first.
+    pub fn run<R: Threads + Sync, G: Gate>(
+        &mut self,
+        rt: &R,
+        alloc: Global,
+        batches: &[Batch],
+        workers: Workers,
+        gate: &G,
+    ) -> RunEnd
+        ensures run { IsRunOf POINTS self.old self.new batches.now result }
+        ensures sound { IsSoundState self.new.cards self.new.present }
+    {
+        self.keep_sound();
+        let Ok(mut records) = Vec::with_capacity(alloc, batches.len()) else {
+            return RunEnd {
+                records: Vec::new(alloc),
+                stop: Some(Refusal::Memory),
+            };
+        };
+        for batch in batches {
+            match self.execute(rt, alloc, batch, workers, gate) {
+                Ok(record) => records.push_reserved(record),
+                Err(refusal) => {
+                    return RunEnd {
+                        records,
+                        stop: Some(refusal),
+                    };
+                }
+            }
+            self.commit_all();
+        }
+        RunEnd {
+            records,
+            stop: None,
+        }
+    }
+
+    /// Commits all batches that aren't.
+    fn commit_all(&mut self)
+        ensures { self.new ≡ alone self.old }
+    {
+        while self.commit().is_ok() {}
+    }
+}
