@@ -16,6 +16,7 @@ use std::time::{Duration, Instant};
 use tpcc_rows::id::RequestNumber;
 use transactions::execute;
 use worker_rows::Whole;
+use workers::{NoGate, Workers};
 
 const BATCHES: u32 = 3;
 
@@ -163,6 +164,8 @@ fn run<R: Clock + AllocGlobal + Threads + Sync>(
         &mut BytesSource::new(image, 65_536),
         &mut BytesSource::new(text, 65_536),
         &mut sink,
+        Workers::new(1).unwrap(),
+        &NoGate,
     );
     let time = start.elapsed(rt)?;
     ran.map_err(|_| invalid())?;

@@ -12,6 +12,7 @@ use std::thread::Threads;
 use std::time::{Duration, Instant};
 use tpcc_rows::id::{CustomerId, RequestNumber};
 use tpcc_rows::number::Cents;
+use workers::{NoGate, Workers};
 
 const BATCHES: u32 = 100;
 
@@ -71,6 +72,8 @@ fn whole<R: Clock + AllocGlobal + Threads + Sync>(
         &mut BytesSource::new(image, 65_536),
         &mut BytesSource::new(text, 65_536),
         &mut sink,
+        Workers::new(1).unwrap(),
+        &NoGate,
     );
     let time = start.elapsed(rt)?;
     match ran {

@@ -11,6 +11,7 @@ use std::process::ExitCode;
 use std::rt::{Env, Files};
 use std::thread::Threads;
 use std::{env, fs, io, str};
+use workers::{NoGate, Workers};
 
 fn cannot_open(rt: &impl Eprint, path: &str) -> ExitCode {
     let _ = eprintln!(rt; "eve-tpcc: cannot open {path}");
@@ -50,6 +51,8 @@ where
         &mut image_source,
         &mut batches_source,
         &mut output,
+        Workers::new(1).unwrap(),
+        &NoGate,
     ) {
         Ok(_) => ExitCode::SUCCESS,
         Err(fault) => report(rt, &fault),

@@ -5,13 +5,15 @@
 //! output. Anything else is printed as wrong.
 #![tactic(auto)]
 
+use executor::Refusal;
 use loader::{LoadError, make, store_image};
 use requests::{BytesSink, BytesSource, ReadError};
-use runner::{BatchRefusal, RunFault, check_text, run_text};
+use runner::{RunFault, check_text, run_text};
 use std::alloc::Global;
 use std::process::ExitCode;
 use std::thread::Threads;
 use tpcc_rows::memory::Memory;
+use workers::{NoGate, Workers};
 
 const BATCHES: &[u8] = b"B,100,commit,6
 N,1,1,1,1,1,1,2,1,1,3,1,1,4,1,1,5,1,1
@@ -34,9 +36,9 @@ const TEXT: &str = "1,new-order,ok,1,1553,10,G,100,11,G,200,12,G,300,13,G,400,14
 4,delivery,ok,1,-,-,-,-,-,-,-,-,-
 5,stock-level,ok,2
 6,payment,refused,2,Unknown key
-batch,1,sequential,9b5fd4983a60fe341d8c32e2474b27401e590f9bdd7c4e367670963d3243df78
+batch,1,reran,9b5fd4983a60fe341d8c32e2474b27401e590f9bdd7c4e367670963d3243df78
 7,payment,ok,1,-600,GC
-batch,2,sequential,edf328309a7e38ae0fce86a3ae788c8d2d4835676dc5c93ad5560a77a094ee8e
+batch,2,parallel,edf328309a7e38ae0fce86a3ae788c8d2d4835676dc5c93ad5560a77a094ee8e
 ";
 
 /// What comes of a call.
@@ -64,7 +66,7 @@ fn is_memory(fault: &RunFault) -> bool {
         fault,
         RunFault::Load(LoadError::Memory)
             | RunFault::Read(ReadError::Memory)
-            | RunFault::Exec(BatchRefusal::Memory)
+            | RunFault::Exec(Refusal::Memory)
             | RunFault::Memory
             | RunFault::Write
     )
@@ -94,7 +96,15 @@ fn ran<R: Threads + Sync + AllocGlobal>(rt: &R, image: &[u8]) -> Outcome {
     let mut image = BytesSource::new(image, 64);
     let mut batches = BytesSource::new(BATCHES, 64);
     let mut sink = BytesSink::new(rt.alloc(), 64);
-    let answer = run_text(rt, rt.alloc(), &mut image, &mut batches, &mut sink);
+    let answer = run_text(
+        rt,
+        rt.alloc(),
+        &mut image,
+        &mut batches,
+        &mut sink,
+        Workers::new(1).unwrap(),
+        &NoGate,
+    );
     outcome_of(&answer, &2, sink.bytes.as_slice(), TEXT)
 }
 

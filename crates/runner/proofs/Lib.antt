@@ -1,4 +1,5 @@
 pub mod RunLemmas
 pub mod WholeLemmas
-pub mod Numbers
 pub mod FieldLemmas
+pub mod ShortBatches
+pub mod ExecutedBatches

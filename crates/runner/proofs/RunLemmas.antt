@@ -1,10 +1,12 @@
 -- Runs of batches, and one batch more.
-use Rattle.std.proofs.Common.{◌≡◌, ◌∙◌, ◌+◌, ℕ, List, [], ◌∷◌, ◌++◌, length, Option, Some, None, inl, inr, refl, sym, ap, subst, append_assoc}
+use Rattle.std.proofs.Common.{◌≡◌, ◌≤◌, ◌∙◌, ◌+◌, ℕ, List, [], ◌∷◌, ◌++◌, length, Option, Some, None, inl, inr, refl, sym, ap, subst, append_assoc, arith}
 use Rattle.std.specs.Prelude.{◌==◌, Result, Ok, Err}
 use Rattle.std.proofs.lemmas.Bool.{cases_Bool}
 use Rattle.std.proofs.lemmas.List.{append-nil}
 use Rattle.std.specs.Io.KnownBytes.{Appends, Keeps}
 use Rattle.catalog.specs.CardMap.{Cards}
+use Rattle.executor.specs.Lines.{Line, committed, extended}
+use Rattle.executor.specs.declared.refusal.Refusal.TheVariants as refusal
 use Rattle.requests.specs.BatchRecords.{head_at, request_at}
 use Rattle.requests.specs.Batches.{End, Place, Reading, StopsBy, batches, begun, between, clean, continued, fault, fault_of, reading_from, settled, with_front, within}
 use Rattle.requests.specs.Fields.{Fields}
@@ -16,13 +18,12 @@ use Rattle.requests.specs.declared.request.Request.{Request}
 use Rattle.requests.specs.Ends.{AppendsFront}
 use Rattle.requests.specs.declared.request.Batch.{Batch}
 use Rattle.requests.proofs.EndsLemmas.{appends_twice}
-use Rattle.runner.specs.Engines.{Running, next_of}
 use Rattle.runner.specs.Runs.{AllFit, Began, IsOfRecords, LeavesBatch, Left, NumbersFit, Taken}
 use Rattle.runner.specs.Text.{batch_text, text}
-use Rattle.runner.specs.declared.fault.BatchRefusal.TheVariants as refusal
 use Rattle.runner.specs.declared.fault.RunFault.{RunFault}
 use Rattle.runner.specs.declared.fault.RunFault.TheVariants as run_fault
-use Rattle.tpcc_model.specs.Serial.{State, after_batch, serial}
+use Rattle.tpcc_model.specs.Serial.{State, after_batch, next_number, opening, serial}
+use Rattle.tpcc_rows.specs.RowMap.{Rows}
 
 -- nothing was appended
 pub then_kept : (old mid new : Option (List ℕ)) (bytes : List ℕ) → Appends old mid bytes → Keeps mid new → Appends old new bytes
@@ -32,16 +33,25 @@ then_kept (Some xs) (Some ys) None bytes a k = absurd k
 then_kept (Some xs) (Some ys) (Some zs) bytes a k = k ∙ a
 
 -- ---- more batches
--- what a state leads to by batches
-abbrev pub running_on : Cards → State → List Batch → Running
-running_on cards state done = record { cards = cards; state = serial cards state done }
+-- what a state leads to by batches, each of which was committed
+abbrev pub line_on : Cards → State → List Batch → Line
+line_on cards state done = record { cards = cards; earlier = []; present = serial cards state done }
 
 pub serial-more : (cards : Cards) (state : State) (done : List Batch) (batch : Batch) → serial cards state (done ++ batch ∷ []) ≡ after_batch cards (serial cards state done) batch
 serial-more cards state [] batch = refl
 serial-more cards state (b ∷ done) batch = serial-more cards (after_batch cards state b) done batch
 
-pub running-more : (cards : Cards) (state : State) (done : List Batch) (batch : Batch) → next_of (running_on cards state done) batch ≡ running_on cards state (done ++ batch ∷ [])
-running-more cards state done batch = ap (λ (s : State). let r : Running = record { cards = cards; state = s } in r) (sym (serial-more cards state done batch))
+pub line-more : (cards : Cards) (state : State) (done : List Batch) (batch : Batch) → committed (extended (line_on cards state done) batch) ≡ line_on cards state (done ++ batch ∷ [])
+line-more cards state done batch = ap (λ (s : State). let l : Line = record { cards = cards; earlier = []; present = s } in l) (sym (serial-more cards state done batch))
+
+-- the numbers of requests begin at 1
+pub next-opening : (cards : Cards) (rows : Rows) → 1 ≤ (opening cards rows).next
+unfolding next_number
+next-opening cards rows = omega arith
+
+pub next-serial : (cards : Cards) (state : State) (done : List Batch) → 1 ≤ state.next → 1 ≤ (serial cards state done).next
+next-serial cards state [] low = low
+next-serial cards state (b ∷ done) low = let more : 1 ≤ state.next + length b.requests = omega (arith, low) in next-serial cards (after_batch cards state b) done more
 
 pub text-both : (cards : Cards) (state : State) (done more : List Batch) → text cards state (done ++ more) ≡ text cards state done ++ text cards (serial cards state done) more
 text-both cards state [] more = refl
@@ -89,6 +99,9 @@ module _ (cards : Cards) (state : State) (all : Reading) (done : List Batch) (ba
   pub left_in_batch : (e : RunFault) → LeavesBatch e cards (serial cards state done) batch mid new → Left e cards state all old new
   left_in_batch (run_fault.Exec refusal.NumbersExhausted) h = (done, batch, rest, began h.1, h.0)
   left_in_batch (run_fault.Exec refusal.Memory) h = (done, batch ∷ rest, began h)
+  left_in_batch (run_fault.Exec refusal.BatchTooLong) h = absurd h
+  left_in_batch (run_fault.Exec refusal.PointsFull) h = absurd h
+  left_in_batch (run_fault.Exec refusal.NoSuchPoint) h = absurd h
   left_in_batch run_fault.Memory h = (done, batch ∷ rest, began h)
   left_in_batch run_fault.Write h = front_written h.1
   left_in_batch (run_fault.Read e) h = absurd h

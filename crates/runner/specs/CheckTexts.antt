@@ -6,17 +6,16 @@ use Rattle.std.specs.List.{filter_map}
 use Rattle.catalog.specs.CardMap.{Cards}
 use Rattle.catalog.specs.declared.card.CardKey.{CardKey}
 use Rattle.catalog.specs.declared.card.CardKey.TheVariants as card_key
+use Rattle.executor.specs.declared.refusal.Refusal.TheVariants as refusal
 use Rattle.loader.specs.Image.{image}
 use Rattle.requests.specs.Ends.{AppendsFront}
-use Rattle.runner.specs.Engines.{Running}
 use Rattle.runner.specs.Runs.{Taken}
 use Rattle.runner.specs.Text.{token_digits}
 use Rattle.runner.specs.WholeRuns.{IsImageFault}
-use Rattle.runner.specs.declared.fault.BatchRefusal.TheVariants as refusal
 use Rattle.runner.specs.declared.fault.RunFault.{RunFault}
 use Rattle.runner.specs.declared.fault.RunFault.TheVariants as run_fault
 use Rattle.tpcc_model.specs.Database.{Database}
-use Rattle.tpcc_model.specs.Serial.{opening}
+use Rattle.tpcc_model.specs.Serial.{State, opening}
 
 abbrev pub warehouse_pick : CardKey → Option ℕ
 warehouse_pick (card_key.Warehouse w) = Some w
@@ -26,12 +25,12 @@ abbrev pub warehouse_count : Cards → ℕ
 warehouse_count cards = length (filter_map (λ e. warehouse_pick e.0) (map.entries cards))
 
 -- `ok WAREHOUSES ROWS TOKEN`
-abbrev pub check_text : Running → List ℕ
-check_text running = codes "ok " ++ decimal (warehouse_count running.cards) ++ codes " " ++ decimal (length (map.entries running.state.rows)) ++ codes " " ++ token_digits running.state.token ++ codes "\n"
+abbrev pub check_text : Cards → State → List ℕ
+check_text cards state = codes "ok " ++ decimal (warehouse_count cards) ++ codes " " ++ decimal (length (map.entries state.rows)) ++ codes " " ++ token_digits state.token ++ codes "\n"
 
 -- the line of a database before any batch
 abbrev pub opening_text : Database → List ℕ
-opening_text db = check_text (record { cards = db.cards; state = opening db.cards db.rows })
+opening_text db = check_text db.cards (opening db.cards db.rows)
 
 -- the image gives a database, whose line was written
 abbrev pub ChecksImage : List ℕ → Taken → Taken → Type 0
@@ -44,4 +43,7 @@ LeavesCheck (run_fault.Exec refusal.Memory) bytes old new = Keeps old new
 LeavesCheck run_fault.Memory bytes old new = Keeps old new
 LeavesCheck run_fault.Write bytes old new = (db : Database) × (image bytes ≡ Ok db) × AppendsFront old new (opening_text db)
 LeavesCheck (run_fault.Exec refusal.NumbersExhausted) bytes old new = ⊥
+LeavesCheck (run_fault.Exec refusal.BatchTooLong) bytes old new = ⊥
+LeavesCheck (run_fault.Exec refusal.PointsFull) bytes old new = ⊥
+LeavesCheck (run_fault.Exec refusal.NoSuchPoint) bytes old new = ⊥
 LeavesCheck (run_fault.Read e) bytes old new = ⊥

@@ -1,20 +1,11 @@
 -- The line that reports a fault of a run.
 use Rattle.std.specs.Prelude.{ℕ, List, [], ◌∷◌, ◌++◌, codes, decimal, Option, Some, None}
+use Rattle.executor.specs.Refusals.{refusal_code, refusal_name}
 use Rattle.loader.specs.Faults as image
 use Rattle.loader.specs.declared.fault.LoadError.TheVariants as load_error
 use Rattle.requests.specs.Faults as batches
-use Rattle.runner.specs.declared.fault.BatchRefusal.{BatchRefusal}
-use Rattle.runner.specs.declared.fault.BatchRefusal.TheVariants as refusal
 use Rattle.runner.specs.declared.fault.RunFault.{RunFault}
 use Rattle.runner.specs.declared.fault.RunFault.TheVariants as run_fault
-
-abbrev pub refusal_code : BatchRefusal → ℕ
-refusal_code refusal.Memory = 1
-refusal_code refusal.NumbersExhausted = 5
-
-abbrev pub refusal_name : BatchRefusal → List ℕ
-refusal_name refusal.Memory = codes "Memory"
-refusal_name refusal.NumbersExhausted = codes "NumbersExhausted"
 
 abbrev pub part_of : RunFault → List ℕ
 part_of (run_fault.Load e) = codes "image"

@@ -1,5 +1,4 @@
 pub mod Text
-pub mod Engines
 pub mod Runs
 pub mod FaultText
 pub mod WholeRuns

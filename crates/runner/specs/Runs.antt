@@ -2,13 +2,13 @@
 use Rattle.std.specs.Prelude.{◌≡◌, ◌⊎◌, ℕ, ◌+◌, ◌<◌, ◌≤◌, Bool, true, false, List, [], ◌∷◌, ◌++◌, length, Option, Result, Ok, Err}
 use Rattle.std.specs.Io.KnownBytes.{Appends, Keeps}
 use Rattle.catalog.specs.CardMap.{Cards}
+use Rattle.executor.specs.declared.refusal.Refusal.TheVariants as refusal
 use Rattle.requests.specs.Batches.{Reading, clean, fault}
 use Rattle.requests.specs.Ends.{AppendsFront}
 use Rattle.requests.specs.declared.fault.ReadError.{ReadError}
 use Rattle.requests.specs.declared.fault.ReadError.TheVariants as read_error
 use Rattle.requests.specs.declared.request.Batch.{Batch}
 use Rattle.runner.specs.Text.{batch_text, text}
-use Rattle.runner.specs.declared.fault.BatchRefusal.TheVariants as refusal
 use Rattle.runner.specs.declared.fault.RunFault.{RunFault}
 use Rattle.runner.specs.declared.fault.RunFault.TheVariants as run_fault
 use Rattle.tpcc_model.specs.Serial.{State, after_batch, serial}
@@ -49,21 +49,27 @@ abbrev pub TookUntilExhausted : Cards → State → List Batch → Taken → Tak
 TookUntilExhausted cards state batches old new =
     (done : List Batch) × (batch : Batch) × (rest : List Batch) × Began cards state batches old new done (batch ∷ rest) × NumbersExhaust (serial cards state done) batch
 
--- what a fault in one batch leaves
+-- what a fault in one batch leaves that isn't too long and has none before it uncommitted
 abbrev pub LeavesBatch : RunFault → Cards → State → Batch → Taken → Taken → Type 0
 LeavesBatch (run_fault.Exec refusal.NumbersExhausted) cards state batch old new = NumbersExhaust state batch × Keeps old new
 LeavesBatch (run_fault.Exec refusal.Memory) cards state batch old new = Keeps old new
+LeavesBatch (run_fault.Exec refusal.BatchTooLong) cards state batch old new = ⊥
+LeavesBatch (run_fault.Exec refusal.PointsFull) cards state batch old new = ⊥
+LeavesBatch (run_fault.Exec refusal.NoSuchPoint) cards state batch old new = ⊥
 LeavesBatch run_fault.Memory cards state batch old new = Keeps old new
 LeavesBatch run_fault.Write cards state batch old new = NumbersFit state batch × AppendsFront old new (batch_text cards state batch)
 LeavesBatch (run_fault.Read e) cards state batch old new = ⊥
 LeavesBatch (run_fault.Load e) cards state batch old new = ⊥
 
--- what a run leaves that ended early
+-- what a run leaves that ended early; no batch that was read is too long, and none before it is left uncommitted
 abbrev pub Left : RunFault → Cards → State → Reading → Taken → Taken → Type 0
 Left (run_fault.Read e) cards state reading old new =
     ((reading.1 ≡ fault e) × AllFit cards state reading.0 × Appends old new (text cards state reading.0)) ⊎ ((e ≡ read_error.Memory) × TookSome cards state reading.0 old new)
 Left (run_fault.Exec refusal.NumbersExhausted) cards state reading old new = TookUntilExhausted cards state reading.0 old new
 Left (run_fault.Exec refusal.Memory) cards state reading old new = TookSome cards state reading.0 old new
+Left (run_fault.Exec refusal.BatchTooLong) cards state reading old new = ⊥
+Left (run_fault.Exec refusal.PointsFull) cards state reading old new = ⊥
+Left (run_fault.Exec refusal.NoSuchPoint) cards state reading old new = ⊥
 Left run_fault.Memory cards state reading old new = TookSome cards state reading.0 old new
 Left run_fault.Write cards state reading old new = AppendsFront old new (text cards state reading.0)
 Left (run_fault.Load e) cards state reading old new = ⊥

@@ -2,6 +2,9 @@
 use Rattle.std.specs.Prelude.{ℕ, ◌+◌, List, [], ◌∷◌, ◌++◌, codes, decimal}
 use Rattle.hex.specs.Hex.{encode_lower}
 use Rattle.catalog.specs.CardMap.{Cards}
+use Rattle.executor.specs.Paths.{path_of}
+use Rattle.executor.specs.declared.path.Path.{Path}
+use Rattle.executor.specs.declared.path.Path.TheVariants as path
 use Rattle.requests.specs.Fields.{Fields}
 use Rattle.requests.specs.Replies.{reply_text}
 use Rattle.requests.specs.Spelling.{text_of_record}
@@ -18,16 +21,24 @@ replies_text number (reply ∷ replies) = reply_text number reply ++ replies_tex
 unfoldable pub token_digits : List ℕ → List ℕ
 token_digits token = encode_lower token
 
--- the record of a batch: its number, how it was executed, and its token
-abbrev pub batch_record_fields : ℕ → List ℕ → Fields
-batch_record_fields sequence token = codes "batch" ∷ decimal sequence ∷ codes "sequential" ∷ token_digits token ∷ []
+-- the word of a path
+abbrev pub path_word : Path → List ℕ
+path_word path.Parallel = codes "parallel"
+path_word path.Reran = codes "reran"
+path_word path.Verdict = codes "verdict"
+path_word path.Sequential = codes "sequential"
 
-abbrev pub batch_record_text : ℕ → List ℕ → List ℕ
-batch_record_text sequence token = text_of_record (batch_record_fields sequence token)
+-- the record of a batch: its number, how it was executed, and its token
+abbrev pub batch_record_fields : ℕ → Path → List ℕ → Fields
+batch_record_fields sequence path token = codes "batch" ∷ decimal sequence ∷ path_word path ∷ token_digits token ∷ []
+
+abbrev pub batch_record_text : ℕ → Path → List ℕ → List ℕ
+batch_record_text sequence path token = text_of_record (batch_record_fields sequence path token)
 
 -- the records of the replies, and that of the batch
-abbrev pub batch_text : Cards → State → Batch → List ℕ
-batch_text cards state batch = replies_text state.next (batch_replies cards state batch) ++ batch_record_text (state.sequence + 1) (after_batch cards state batch).token
+unfoldable pub batch_text : Cards → State → Batch → List ℕ
+batch_text cards state batch =
+    replies_text state.next (batch_replies cards state batch) ++ batch_record_text (state.sequence + 1) (path_of cards state batch) (after_batch cards state batch).token
 
 -- the texts of batches, from this state on
 abbrev pub text : Cards → State → List Batch → List ℕ

@@ -5,11 +5,11 @@ ghost use Rattle.runner.specs.CheckTexts.{ChecksImage, LeavesCheck, check_text, 
 ghost use Rattle.runner.specs.Runs.{is_write};
 ghost use Rattle.runner.specs.WholeRuns.{is_image_read};
 
-use crate::engine::Engine;
-use crate::fault::{BatchRefusal, RunFault};
+use crate::fault::RunFault;
 use crate::text::digits_of;
 use catalog::Catalog;
 use catalog::card::CardKey;
+use executor::{Executor, Refusal};
 use itoa::Buffer;
 use loader::load;
 use requests::ends::{Sink, Source};
@@ -33,17 +33,21 @@ fn warehouse_count(catalog: &Catalog) -> usize
 }
 
 /// The line of a database before any batch.
-fn line_of(alloc: Global, engine: &Engine) -> Result<Vec<u8>, Memory>
-    ensures { IfOk result (λ line. line.items ≡ check_text engine.now) }
+fn line_of(alloc: Global, executor: &Executor) -> Result<Vec<u8>, Memory>
+    ensures { IfOk result (λ line. line.items ≡ check_text executor.now.cards executor.now.present) }
 {
     let mut line = Vec::new(alloc);
     let mut buffer = Buffer::new();
     line.extend_from_slice(b"ok ")?;
-    line.extend_from_slice(buffer.format(warehouse_count(engine.catalog())).as_bytes())?;
+    line.extend_from_slice(
+        buffer
+            .format(warehouse_count(executor.catalog()))
+            .as_bytes(),
+    )?;
     line.extend_from_slice(b" ")?;
-    line.extend_from_slice(buffer.format(engine.store().len()).as_bytes())?;
+    line.extend_from_slice(buffer.format(executor.store().len()).as_bytes())?;
     line.extend_from_slice(b" ")?;
-    line.extend_from_slice(&digits_of(&engine.token()))?;
+    line.extend_from_slice(&digits_of(&executor.token()))?;
     line.extend_from_slice(b"\n")?;
     Ok(line)
 }
@@ -66,10 +70,10 @@ pub fn check_text<R: Threads + Sync, I: Source, S: Sink>(
         Ok(database) => database,
         Err(error) => return Err(RunFault::Load(error)),
     };
-    let Ok(engine) = Engine::new(rt, alloc, catalog, store) else {
-        return Err(RunFault::Exec(BatchRefusal::Memory));
+    let Ok(executor) = Executor::new(rt, alloc, catalog, store) else {
+        return Err(RunFault::Exec(Refusal::Memory));
     };
-    let Ok(line) = line_of(alloc, &engine) else {
+    let Ok(line) = line_of(alloc, &executor) else {
         return Err(RunFault::Memory);
     };
     if push_all(sink, line.as_slice()).is_err() {

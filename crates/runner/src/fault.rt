@@ -1,56 +1,14 @@
 //! Why a run ends early, and the line that says so.
 ghost use Rattle.std.specs.Prelude.{◌≡◌, ◌++◌, OnOk, OnErr, IfOk};
-ghost use Rattle.runner.specs.FaultText.{code_of, condition_of, fault_text, name_of, part_of, place_of, refusal_code, refusal_name, condition_text, place_text};
+ghost use Rattle.runner.specs.FaultText.{code_of, condition_of, fault_text, name_of, part_of, place_of, condition_text, place_text};
 
+use executor::Refusal;
 use itoa::Buffer;
 use loader::LoadError;
 use requests::fault::ReadError;
 use std::alloc::Global;
 use thiserror::Error;
 use tpcc_rows::memory::Memory;
-
-/// Why a batch isn't executed.
-#[derive(Clone, Copy, Debug, PartialEq, Eq, Error)]
-pub enum BatchRefusal {
-    /// Memory was refused.
-    #[error("memory was refused")]
-    Memory,
-    /// The number of one of its requests would pass the limit.
-    #[error("the numbers of requests are used up")]
-    NumbersExhausted,
-}
-
-impl From<Memory> for BatchRefusal {
-    ghost use Rattle.runner.specs.declared.fault.BatchRefusal.TheVariants as refused;
-
-    ghost from_gives = { λ _ refusal. refusal ≡ refused.Memory };
-
-    fn from(_: Memory) -> BatchRefusal {
-        BatchRefusal::Memory
-    }
-}
-
-impl BatchRefusal {
-    /// The number by which the refusal is reported.
-    pub fn code(self) -> u8
-        ensures { result ≡ refusal_code self }
-    {
-        match self {
-            BatchRefusal::Memory => 1,
-            BatchRefusal::NumbersExhausted => 5,
-        }
-    }
-
-    /// The name by which the refusal is reported.
-    pub fn name(self) -> &'static str
-        ensures { result.now ≡ refusal_name self }
-    {
-        match self {
-            BatchRefusal::Memory => "Memory",
-            BatchRefusal::NumbersExhausted => "NumbersExhausted",
-        }
-    }
-}
 
 /// Why a run ends early.
 #[derive(Clone, Copy, Debug, PartialEq, Eq, Error)]
@@ -63,7 +21,7 @@ pub enum RunFault {
     Read(ReadError),
     /// A batch isn't executed.
     #[error("the run: {0}")]
-    Exec(BatchRefusal),
+    Exec(Refusal),
     /// The sink failed.
     #[error("the output couldn't be written")]
     Write,

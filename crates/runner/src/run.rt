@@ -1,30 +1,37 @@
 //! From the bytes of an image and of batches to the bytes of the replies.
-ghost use Rattle.std.specs.Prelude.{◌≡◌, ◌+◌, ◌<◌, ◌^◌, IfErr, IfOk, IfSome, if◌then◌else◌};
+ghost use Rattle.std.specs.Prelude.{◌≡◌, ◌+◌, ◌<◌, ◌^◌, [], IfErr, IfOk, IfSome, if◌then◌else◌};
 ghost use Rattle.runner.specs.WholeRuns.{IsOfDatabase, LeavesDatabase, LeavesRun, RanOn, RanWhole, is_batches_read, is_image_read};
 ghost use Rattle.runner.specs.Runs.{is_write};
+ghost use Rattle.tpcc_model.specs.Soundness.{IsSound};
 
 use crate::fault::RunFault;
 use crate::serving::run_batches;
 use catalog::Catalog;
+use executor::{Executor, Refusal};
 use loader::load;
 use requests::ends::{Sink, Source};
 use requests::whole::slurp;
 use rollback::PointedStore;
 use std::alloc::Global;
 use std::thread::Threads;
+use workers::{Gate, Workers};
 
 /// The most bytes of batches.
 const MOST_BATCH_BYTES: usize = 1_073_741_824;
 
 /// Reads all bytes of batches, and runs them on a database.
-fn run_database<R: Threads + Sync, B: Source, S: Sink>(
+fn run_database<R: Threads + Sync, B: Source, S: Sink, G: Gate>(
     rt: &R,
     alloc: Global,
     catalog: Catalog,
     store: PointedStore,
     batches: &mut B,
     sink: &mut S,
+    workers: Workers,
+    gate: &G,
 ) -> Result<u64, RunFault>
+    requires sound { IsSound (record { cards = catalog; rows = store.rows }) }
+    requires points { store.points ≡ [] }
     requires batches { B.failed batches.old < 2 ^ 63 }
     requires sink { S.failed sink.old < 2 ^ 63 }
     ensures ok { IfOk result (λ count. IfSome (B.left batches.old) (λ batch_bytes. RanOn (record { cards = catalog; rows = store.rows }) batch_bytes (S.taken sink.old) (S.taken sink.new) count)) }
@@ -33,21 +40,34 @@ fn run_database<R: Threads + Sync, B: Source, S: Sink>(
     ensures batches_failures { B.failed batches.new ≡ B.failed batches.old + (if is_batches_read result then 1 else 0) }
     ensures sink_failures { S.failed sink.new ≡ S.failed sink.old + (if is_write result then 1 else 0) }
 {
+    let Ok(mut executor) = Executor::new(rt, alloc, catalog, store) else {
+        return Err(RunFault::Exec(Refusal::Memory));
+    };
     let text = match slurp(alloc, batches, MOST_BATCH_BYTES) {
         Ok(text) => text,
         Err(error) => return Err(RunFault::Read(error)),
     };
-    run_batches(rt, alloc, catalog, store, text.as_slice(), sink)
+    run_batches(
+        rt,
+        alloc,
+        &mut executor,
+        text.as_slice(),
+        sink,
+        workers,
+        gate,
+    )
 }
 
-/// Loads an image, reads all bytes of batches, and then reads, executes and writes batch after batch. The answer is the
-/// number of batches.
-pub fn run_text<R: Threads + Sync, I: Source, B: Source, S: Sink>(
+/// Loads an image, reads all bytes of batches, and then reads, executes, commits and writes batch after batch. The answer is
+/// the number of batches. What is written is the same for every number of workers, and whoever is told of the executions.
+pub fn run_text<R: Threads + Sync, I: Source, B: Source, S: Sink, G: Gate>(
     rt: &R,
     alloc: Global,
     image: &mut I,
     batches: &mut B,
     sink: &mut S,
+    workers: Workers,
+    gate: &G,
 ) -> Result<u64, RunFault>
     requires image { I.failed image.old < 2 ^ 63 }
     requires batches { B.failed batches.old < 2 ^ 63 }
@@ -64,5 +84,5 @@ pub fn run_text<R: Threads + Sync, I: Source, B: Source, S: Sink>(
         Ok(database) => database,
         Err(error) => return Err(RunFault::Load(error)),
     };
-    run_database(rt, alloc, catalog, store, batches, sink)
+    run_database(rt, alloc, catalog, store, batches, sink, workers, gate)
 }

@@ -1,43 +1,47 @@
-//! Batch after batch: read, executed and written before the next is read.
-ghost use Rattle.std.specs.Prelude.{◌≡◌, ◌+◌, ◌<◌, ◌^◌, length, IfErr, IfOk, OnOk, if◌then◌else◌};
+//! Batch after batch: read, executed, committed and written before the next is read.
+ghost use Rattle.std.specs.Prelude.{◌≡◌, ◌+◌, ◌<◌, ◌≤◌, ◌^◌, [], length, IfErr, IfOk, OnOk, if◌then◌else◌};
 ghost use Rattle.std.specs.Io.KnownBytes.{Appends};
+ghost use Rattle.executor.specs.Lines.{committed, extended};
 ghost use Rattle.requests.specs.Batches.{batches};
-ghost use Rattle.runner.specs.Engines.{next_of};
 ghost use Rattle.runner.specs.Runs.{IsOfBatches, LeavesBatch, Left, NumbersFit, Ran, is_write};
 ghost use Rattle.runner.specs.Text.{batch_text};
-ghost use Rattle.tpcc_model.specs.Serial.{opening};
 
-use crate::engine::Engine;
-use crate::fault::{BatchRefusal, RunFault};
+use crate::fault::RunFault;
 use crate::text::batch_text;
-use catalog::Catalog;
+use executor::Executor;
 use requests::batch_reader::BatchReader;
 use requests::ends::Sink;
 use requests::request::Batch;
 use requests::whole::push_all;
-use rollback::PointedStore;
 use std::alloc::Global;
 use std::thread::Threads;
+use workers::{Gate, Workers};
 
-/// Executes a batch, and writes its replies and its own record.
-fn serve_batch<R: Threads + Sync, S: Sink>(
+/// Executes a batch where all before it are committed, commits it, and writes its replies and its own record.
+fn serve_batch<R: Threads + Sync, S: Sink, G: Gate>(
     rt: &R,
     alloc: Global,
-    engine: &mut Engine,
+    executor: &mut Executor,
     batch: &Batch,
     sink: &mut S,
+    workers: Workers,
+    gate: &G,
 ) -> Result<(), RunFault>
-    requires { S.failed sink.old < 2 ^ 63 }
-    ensures fits { OnOk result (NumbersFit engine.old.state batch.now) }
-    ensures state { OnOk result (engine.new ≡ next_of engine.old batch.now) }
-    ensures text { OnOk result (Appends (S.taken sink.old) (S.taken sink.new) (batch_text engine.old.cards engine.old.state batch.now)) }
-    ensures err { IfErr result (λ e. LeavesBatch e engine.old.cards engine.old.state batch.now (S.taken sink.old) (S.taken sink.new)) }
+    requires alone { executor.old.earlier ≡ [] }
+    requires low { 1 ≤ executor.old.present.next }
+    requires few { length batch.now.requests ≤ 1024 }
+    requires count { S.failed sink.old < 2 ^ 63 }
+    ensures fits { OnOk result (NumbersFit executor.old.present batch.now) }
+    ensures line { OnOk result (executor.new ≡ committed (extended executor.old batch.now)) }
+    ensures text { OnOk result (Appends (S.taken sink.old) (S.taken sink.new) (batch_text executor.old.cards executor.old.present batch.now)) }
+    ensures err { IfErr result (λ e. LeavesBatch e executor.old.cards executor.old.present batch.now (S.taken sink.old) (S.taken sink.new)) }
     ensures failures { S.failed sink.new ≡ S.failed sink.old + (if is_write result then 1 else 0) }
 {
-    let record = match engine.execute(rt, alloc, batch) {
+    let record = match executor.execute(rt, alloc, batch, workers, gate) {
         Ok(record) => record,
         Err(refusal) => return Err(RunFault::Exec(refusal)),
     };
+    executor.commit().unwrap();
     let Ok(text) = batch_text(alloc, &record) else {
         return Err(RunFault::Memory);
     };
@@ -47,26 +51,26 @@ fn serve_batch<R: Threads + Sync, S: Sink>(
     Ok(())
 }
 
-/// Reads the batches of a text in turn, executes each on what the ones before it left, and writes its replies and its
-/// record before the next is read. The answer is the number of batches.
-pub(crate) fn run_batches<R: Threads + Sync, S: Sink>(
+/// Reads the batches of a text in turn, executes each on what the ones before it left, commits it, and writes its replies and
+/// its record before the next is read. The answer is the number of batches.
+pub(crate) fn run_batches<R: Threads + Sync, S: Sink, G: Gate>(
     rt: &R,
     alloc: Global,
-    catalog: Catalog,
-    store: PointedStore,
+    executor: &mut Executor,
     text: &[u8],
     sink: &mut S,
+    workers: Workers,
+    gate: &G,
 ) -> Result<u64, RunFault>
+    requires alone { executor.old.earlier ≡ [] }
+    requires low { 1 ≤ executor.old.present.next }
     requires small { length text.now < 2 ^ 32 }
     requires count { S.failed sink.old < 2 ^ 63 }
-    ensures ok { IfOk result (Ran catalog (opening catalog store.rows) (batches text.now) (S.taken sink.old) (S.taken sink.new)) }
-    ensures err { IfErr result (λ e. Left e catalog (opening catalog store.rows) (batches text.now) (S.taken sink.old) (S.taken sink.new)) }
+    ensures ok { IfOk result (Ran executor.old.cards executor.old.present (batches text.now) (S.taken sink.old) (S.taken sink.new)) }
+    ensures err { IfErr result (λ e. Left e executor.old.cards executor.old.present (batches text.now) (S.taken sink.old) (S.taken sink.new)) }
     ensures kinds { IfErr result IsOfBatches }
     ensures failures { S.failed sink.new ≡ S.failed sink.old + (if is_write result then 1 else 0) }
 {
-    let Ok(mut engine) = Engine::new(rt, alloc, catalog, store) else {
-        return Err(RunFault::Exec(BatchRefusal::Memory));
-    };
     let mut reader = match BatchReader::new(alloc, text) {
         Ok(reader) => reader,
         Err(error) => return Err(RunFault::Read(error)),
@@ -78,7 +82,7 @@ pub(crate) fn run_batches<R: Threads + Sync, S: Sink>(
             Ok(None) => break,
             Err(error) => return Err(RunFault::Read(error)),
         };
-        if let Err(fault) = serve_batch(rt, alloc, &mut engine, &batch, sink) {
+        if let Err(fault) = serve_batch(rt, alloc, executor, &batch, sink, workers, gate) {
             return Err(fault);
         }
         done += 1;

@@ -2,12 +2,11 @@
 ghost use Rattle.std.specs.Prelude.{◌≡◌, ◌++◌, ◌+◌, ◌≤◌, ◌∷◌, [], length, IfOk, OnOk};
 ghost use Rattle.csv.specs.Records.{partial_of};
 ghost use Rattle.requests.specs.Spelling.{AddsFields};
-ghost use Rattle.runner.specs.Engines.{HasNumbers};
-ghost use Rattle.runner.specs.Text.{batch_record_fields, batch_record_text, replies_text, token_digits};
+ghost use Rattle.runner.specs.Text.{batch_record_fields, batch_record_text, path_word, replies_text, token_digits};
 
-use crate::batch::LAST_NUMBER;
-use crate::engine::Record;
 use csv::ByteRecord;
+use executor::Record;
+use executor::path::Path;
 use requests::record_text::{push, push_number, record_text};
 use requests::reply::Reply;
 use requests::reply_text::write_reply;
@@ -23,7 +22,7 @@ fn write_replies(
     text: &mut Vec<u8>,
 ) -> Result<(), Memory>
     requires low { 1 ≤ first }
-    requires high { first + length replies.now ≤ LAST_NUMBER + 1 }
+    requires high { first + length replies.now ≤ 1000000000000000 }
     ensures { OnOk result (text.new.items ≡ text.old.items ++ replies_text first replies.now) }
 {
     let mut next = first;
@@ -53,33 +52,64 @@ fn push_token(fields: &mut ByteRecord, token: &[u8; 32]) -> Result<(), Memory>
     push(fields, digits_of(token).as_slice())
 }
 
-/// Adds the fields of the record of a batch that was executed one request after the other.
-fn push_batch(fields: &mut ByteRecord, sequence: u64, token: &[u8; 32]) -> Result<(), Memory>
+/// The word by which a path is written.
+fn word_of(path: Path) -> &'static str
+    ensures { result.now ≡ path_word path }
+{
+    match path {
+        Path::Parallel => "parallel",
+        Path::Reran => "reran",
+        Path::Verdict => "verdict",
+        Path::Sequential => "sequential",
+    }
+}
+
+/// Adds the word of a path.
+fn push_path(fields: &mut ByteRecord, path: Path) -> Result<(), Memory>
     requires { partial_of fields.old ≡ [] }
-    ensures { OnOk result (AddsFields fields.old fields.new (batch_record_fields sequence token.now)) }
+    ensures { OnOk result (AddsFields fields.old fields.new (path_word path ∷ [])) }
+{
+    push(fields, word_of(path).as_bytes())
+}
+
+/// Adds the fields of the record of a batch that was executed this way.
+fn push_batch(
+    fields: &mut ByteRecord,
+    sequence: u64,
+    path: Path,
+    token: &[u8; 32],
+) -> Result<(), Memory>
+    requires { partial_of fields.old ≡ [] }
+    ensures { OnOk result (AddsFields fields.old fields.new (batch_record_fields sequence path token.now)) }
 {
     push(fields, b"batch")?;
     push_number(fields, sequence)?;
-    push(fields, b"sequential")?;
+    push_path(fields, path)?;
     push_token(fields, token)
 }
 
-fn batch_record_text(alloc: Global, sequence: u64, token: &[u8; 32]) -> Result<Vec<u8>, Memory>
-    ensures { IfOk result (λ v. v.items ≡ batch_record_text sequence token.now) }
+fn batch_record_text(
+    alloc: Global,
+    sequence: u64,
+    path: Path,
+    token: &[u8; 32],
+) -> Result<Vec<u8>, Memory>
+    ensures { IfOk result (λ v. v.items ≡ batch_record_text sequence path token.now) }
 {
     let mut fields = ByteRecord::new(alloc);
-    push_batch(&mut fields, sequence, token)?;
+    push_batch(&mut fields, sequence, path, token)?;
     record_text(alloc, &fields)
 }
 
 /// The text of a batch that did this.
 pub(crate) fn batch_text(alloc: Global, done: &Record) -> Result<Vec<u8>, Memory>
-    requires { HasNumbers done.now }
-    ensures { IfOk result (λ v. v.items ≡ replies_text done.now.first done.now.replies.items ++ batch_record_text done.now.sequence done.now.token) }
+    requires low { 1 ≤ done.now.first }
+    requires high { done.now.first + length done.now.replies.items ≤ 1000000000000000 }
+    ensures { IfOk result (λ v. v.items ≡ replies_text done.now.first done.now.replies.items ++ batch_record_text done.now.sequence done.now.path done.now.token) }
 {
     let mut text = Vec::new(alloc);
     write_replies(alloc, done.first, done.replies.as_slice(), &mut text)?;
-    let last = batch_record_text(alloc, done.sequence, &done.token)?;
+    let last = batch_record_text(alloc, done.sequence, done.path, &done.token)?;
     text.extend_from_slice(last.as_slice())?;
     Ok(text)
 }

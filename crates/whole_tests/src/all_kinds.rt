@@ -6,7 +6,7 @@ use std::test::Fail;
 const RUNS: [(&str, &str); 7] = [
     (
         "B,0,commit,0\n",
-        "batch,1,sequential,14d8cd9fe8932d130c8b81f645c25608d4b1dc94dc9e84a11a02775e6cb1a463\n",
+        "batch,1,parallel,14d8cd9fe8932d130c8b81f645c25608d4b1dc94dc9e84a11a02775e6cb1a463\n",
     ),
     // The middle one of four customers, and of five, in the order of C_FIRST.
     (
@@ -16,7 +16,7 @@ P,1,1,1,1,L,NAME3,1000
 ",
         "1,payment,ok,37,-2000,GC
 2,payment,ok,33,-2000,GC
-batch,1,sequential,1dab96773ef97c1cc19d42a2da1840e5bcb5fe779cd23d0604af9b563b2e9e62
+batch,1,parallel,1dab96773ef97c1cc19d42a2da1840e5bcb5fe779cd23d0604af9b563b2e9e62
 ",
     ),
     // Districts without a new order are skipped.
@@ -39,9 +39,9 @@ D,1,5
 5,new-order,ok,1,1553,97,G,100,98,G,200,99,G,300,100,G,400,10,G,500
 6,new-order,ok,1,1553,96,G,100,97,G,200,98,G,300,99,G,400,100,G,500
 7,new-order,ok,1,1553,95,G,100,96,G,200,97,G,300,98,G,400,99,G,500
-batch,1,sequential,75688dda53449674cf265023ad0735da221368c01600f2ce2cf585a3d1b626f2
+batch,1,parallel,75688dda53449674cf265023ad0735da221368c01600f2ce2cf585a3d1b626f2
 8,delivery,ok,1,1,1,1,1,1,1,-,-,-
-batch,2,sequential,13bf0355497b606916f6fd4e3118447b1166b65c61c9aac85980524e7eb339ba
+batch,2,parallel,13bf0355497b606916f6fd4e3118447b1166b65c61c9aac85980524e7eb339ba
 ",
     ),
     // The oldest order is delivered first.
@@ -55,10 +55,10 @@ D,1,4
 ",
         "1,new-order,ok,1,1553,10,G,100,11,G,200,12,G,300,13,G,400,14,G,500
 2,new-order,ok,2,1553,100,G,100,10,G,200,11,G,300,12,G,400,13,G,500
-batch,1,sequential,b6a9ba07bb7b264e600a253f9a89f1028d2b48491ff2efa555cadc1e51688612
+batch,1,parallel,b6a9ba07bb7b264e600a253f9a89f1028d2b48491ff2efa555cadc1e51688612
 3,delivery,ok,1,-,-,-,-,-,-,-,-,-
 4,delivery,ok,2,-,-,-,-,-,-,-,-,-
-batch,2,sequential,709efd5c89513247d6da7f3e1931e4127096c47f811ed3b0d020dec9657173f5
+batch,2,reran,709efd5c89513247d6da7f3e1931e4127096c47f811ed3b0d020dec9657173f5
 ",
     ),
     // An order of the same batch is delivered, and its items are counted.
@@ -69,7 +69,7 @@ D,1,5
 ",
         "1,new-order,ok,1,1553,10,G,100,11,G,200,12,G,300,13,G,400,14,G,500
 2,delivery,ok,1,-,-,-,-,-,-,-,-,-
-batch,1,sequential,e9656c90eda6145fc392edc8d6f85a4258de0e08473bff0393ede3e119b9fd69
+batch,1,reran,e9656c90eda6145fc392edc8d6f85a4258de0e08473bff0393ede3e119b9fd69
 ",
     ),
     (
@@ -79,7 +79,7 @@ S,1,1,12
 ",
         "1,new-order,ok,1,1553,10,G,100,11,G,200,12,G,300,13,G,400,14,G,500
 2,stock-level,ok,2
-batch,1,sequential,72e6d09b7db4323c2510ac856dd6b6ce2c2d7167a568606653537804da48b93d
+batch,1,reran,72e6d09b7db4323c2510ac856dd6b6ce2c2d7167a568606653537804da48b93d
 ",
     ),
     // A customer with an order, and one without.
@@ -91,10 +91,10 @@ O,1,1,I,1
 O,1,1,I,2
 ",
         "1,new-order,ok,1,1553,10,G,100,11,G,200,12,G,300,13,G,400,14,G,500
-batch,1,sequential,e72dccebded73bf54baae4accdbf9cac3e8d234c0e61364e141c7a5ccdb32ad3
+batch,1,parallel,e72dccebded73bf54baae4accdbf9cac3e8d234c0e61364e141c7a5ccdb32ad3
 2,order-status,ok,1,F9,OE,NAME1,-1000,1,100,-,1,1,1,100,-,2,1,1,200,-,3,1,1,300,-,4,1,1,400,-,5,1,1,500,-
 3,order-status,ok,2,F9,OE,NAME2,-1000,-
-batch,2,sequential,8c34c422333f773abec04d9b41fe6747b50b85daa416f70ad09b733fc5a9412b
+batch,2,parallel,8c34c422333f773abec04d9b41fe6747b50b85daa416f70ad09b733fc5a9412b
 ",
     ),
 ];
@@ -118,7 +118,7 @@ fn a_payment_of_bad_credit(rt: HostRuntime) -> Result<(), Fail> {
     let mut wanted = b"1,payment,ok,10,-2000,BC,10 1 1 1 1 1000|".to_vec(rt.alloc())?;
     wanted.extend_from_slice(&[b'x'; 184])?;
     wanted.extend_from_slice(
-        b"\nbatch,1,sequential,8a702acd704783f479767bb604fd2d0bd4f2216327c2f9fe12dec1f464fef895\n",
+        b"\nbatch,1,parallel,8a702acd704783f479767bb604fd2d0bd4f2216327c2f9fe12dec1f464fef895\n",
     )?;
     assert_eq!(rt; text.as_slice(), wanted.as_slice());
     Ok(())
@@ -133,12 +133,12 @@ const LEVELS: [(usize, &[u8], &[u8]); 2] = [
     (
         19,
         b"B,0,commit,21\n",
-        b"\n21,stock-level,ok,5\nbatch,1,sequential,a32de3dc54f5ec354ab0a1d3d857adb056194c1c488a0aad71c7b18150dfab33\n",
+        b"\n21,stock-level,ok,5\nbatch,1,reran,a32de3dc54f5ec354ab0a1d3d857adb056194c1c488a0aad71c7b18150dfab33\n",
     ),
     (
         20,
         b"B,0,commit,22\n",
-        b"\n22,stock-level,ok,0\nbatch,1,sequential,c68306f36869aa7be9bbf0773edf08b2e7491220bbc567628b113941961aa5a5\n",
+        b"\n22,stock-level,ok,0\nbatch,1,reran,c68306f36869aa7be9bbf0773edf08b2e7491220bbc567628b113941961aa5a5\n",
     ),
 ];
 
@@ -169,7 +169,7 @@ const EACH_KIND: [&[u8]; 5] = [
 /// The delivery of the 205th order, and the record of the batch.
 const LAST_OF_FULL: &[u8] = b"
 1024,delivery,ok,205,-,-,-,-,-,-,-,-,-
-batch,1,sequential,c1be20a84449bf23a5dea83c173cbcdc64399f334c931be38027affabadd2749
+batch,1,reran,c1be20a84449bf23a5dea83c173cbcdc64399f334c931be38027affabadd2749
 ";
 
 /// As many requests as a batch may have.

@@ -1,21 +1,36 @@
 //! Ends that fail, and ends that give or take a byte a call.
-use crate::small::{IMAGE, PAYMENTS, PRINTED};
+ghost use Rattle.std.specs.Prelude.{◌<◌, ◌^◌};
+
+use crate::small::{IMAGE, PAYMENTS, PRINTED, one_worker};
 use loader::LoadError;
 use requests::{BytesSink, BytesSource, FailAt, ReadError, Sink, Source};
 use runner::{RunFault, run_text};
 use std::test::Fail;
+use std::thread::Threads;
+use workers::NoGate;
 
 const STEP: usize = 50;
+
+/// What a run between these ends by one worker answers.
+fn run_between<R: Threads + Sync + AllocGlobal, I: Source, B: Source, S: Sink>(
+    rt: &R,
+    image: &mut I,
+    batches: &mut B,
+    sink: &mut S,
+) -> Result<u64, RunFault>
+    requires image { I.failed image.old < 2 ^ 63 }
+    requires batches { B.failed batches.old < 2 ^ 63 }
+    requires sink { S.failed sink.old < 2 ^ 63 }
+{
+    run_text(rt, rt.alloc(), image, batches, sink, one_worker(), &NoGate)
+}
 
 #[test]
 fn a_byte_a_call(rt: HostRuntime) -> Result<(), Fail> {
     let mut image = BytesSource::new(IMAGE, 1);
     let mut batches = BytesSource::new(PAYMENTS, 1);
     let mut sink = BytesSink::new(rt.alloc(), 1);
-    assert_eq!(rt;
-        run_text(&rt, rt.alloc(), &mut image, &mut batches, &mut sink)?,
-        1
-    );
+    assert_eq!(rt; run_between(&rt, &mut image, &mut batches, &mut sink)?, 1);
     assert_eq!(rt; sink.bytes.as_slice(), PRINTED);
     Ok(())
 }
@@ -27,7 +42,7 @@ fn the_image_fails_at_each_call(rt: HostRuntime) -> Result<(), Fail> {
         let mut image = FailAt::new(BytesSource::new(IMAGE, STEP), at);
         let mut batches = BytesSource::new(PAYMENTS, STEP);
         let mut sink = BytesSink::new(rt.alloc(), STEP);
-        match run_text(&rt, rt.alloc(), &mut image, &mut batches, &mut sink) {
+        match run_between(&rt, &mut image, &mut batches, &mut sink) {
             Ok(_) => {
                 assert_eq!(rt; image.failures(), 0);
                 assert_eq!(rt; sink.bytes.as_slice(), PRINTED);
@@ -52,7 +67,7 @@ fn the_batches_fail_at_each_call(rt: HostRuntime) -> Result<(), Fail> {
         let mut image = BytesSource::new(IMAGE, STEP);
         let mut batches = FailAt::new(BytesSource::new(PAYMENTS, STEP), at);
         let mut sink = BytesSink::new(rt.alloc(), STEP);
-        match run_text(&rt, rt.alloc(), &mut image, &mut batches, &mut sink) {
+        match run_between(&rt, &mut image, &mut batches, &mut sink) {
             Ok(_) => assert_eq!(rt; sink.bytes.as_slice(), PRINTED),
             Err(fault) => {
                 assert_eq!(rt; fault, RunFault::Read(ReadError::Read));
@@ -73,7 +88,7 @@ fn the_sink_fails_at_each_call(rt: HostRuntime) -> Result<(), Fail> {
         let mut image = BytesSource::new(IMAGE, STEP);
         let mut batches = BytesSource::new(PAYMENTS, STEP);
         let mut sink = FailAt::new(BytesSink::new(rt.alloc(), STEP), at);
-        let answer = run_text(&rt, rt.alloc(), &mut image, &mut batches, &mut sink);
+        let answer = run_between(&rt, &mut image, &mut batches, &mut sink);
         let written = sink.inner.bytes.as_slice();
         if answer.is_ok() {
             assert_eq!(rt; written, PRINTED);

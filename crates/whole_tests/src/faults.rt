@@ -1,13 +1,14 @@
 //! The lines of faults, and what was written before them.
 use crate::small::{IMAGE, PAYMENTS, PRINTED, run};
+use executor::Refusal;
 use loader::LoadError;
 use requests::ReadError;
-use runner::{BatchRefusal, RunFault, fault_line};
+use runner::{RunFault, fault_line};
 use std::test::Fail;
 
 #[test]
 fn lines(rt: HostRuntime) -> Result<(), Fail> {
-    let cases: [(RunFault, &[u8]); 12] = [
+    let cases: [(RunFault, &[u8]); 15] = [
         (
             RunFault::Load(LoadError::BadRecord(15)),
             b"eve-tpcc: image: 1 BadRecord at record 15\n",
@@ -41,11 +42,23 @@ fn lines(rt: HostRuntime) -> Result<(), Fail> {
             b"eve-tpcc: batches: 8 InputTooLong\n",
         ),
         (
-            RunFault::Exec(BatchRefusal::Memory),
+            RunFault::Exec(Refusal::Memory),
             b"eve-tpcc: run: 1 Memory\n",
         ),
         (
-            RunFault::Exec(BatchRefusal::NumbersExhausted),
+            RunFault::Exec(Refusal::BatchTooLong),
+            b"eve-tpcc: run: 2 BatchTooLong\n",
+        ),
+        (
+            RunFault::Exec(Refusal::PointsFull),
+            b"eve-tpcc: run: 3 PointsFull\n",
+        ),
+        (
+            RunFault::Exec(Refusal::NoSuchPoint),
+            b"eve-tpcc: run: 4 NoSuchPoint\n",
+        ),
+        (
+            RunFault::Exec(Refusal::NumbersExhausted),
             b"eve-tpcc: run: 5 NumbersExhausted\n",
         ),
         (RunFault::Write, b"eve-tpcc: output: 1 Write\n"),

@@ -24,7 +24,7 @@ const IMAGES: [(Edit, &str, &str); 9] = [
         USED_UP,
         ORDER,
         "1,new-order,refused,3,Limit reached
-batch,1,sequential,12af840e546c3100cdf7c14600851078ca6e372b4842631fadf08dd9ec34da03
+batch,1,parallel,12af840e546c3100cdf7c14600851078ca6e372b4842631fadf08dd9ec34da03
 ",
     ),
     (
@@ -37,7 +37,7 @@ batch,1,sequential,12af840e546c3100cdf7c14600851078ca6e372b4842631fadf08dd9ec34d
         ],
         ORDER,
         "1,new-order,refused,2,Unknown key
-batch,1,sequential,d53904a2efe2d6a5c4d5a491319c12df2b22e763d532a71ec43f30722a05e423
+batch,1,parallel,d53904a2efe2d6a5c4d5a491319c12df2b22e763d532a71ec43f30722a05e423
 ",
     ),
     (

@@ -1,7 +1,7 @@
 //! The made databases that the tests run on, images that differ from theirs, and what a run leaves of them.
 ghost use Rattle.tpcc_rows.specs.Limits.{IsBetween};
 
-use crate::small::run;
+use crate::small::{one_worker, run_by};
 use catalog::Catalog;
 use loader::{load, store_image};
 use requests::request::Batch;
@@ -14,6 +14,7 @@ use std::thread::Threads;
 use tpcc_rows::id::RequestNumber;
 use transactions::execute;
 use worker_rows::Whole;
+use workers::Workers;
 
 /// Lines of an image, each with the lines that stand in its place.
 pub type Edit = &'static [(&'static str, &'static str)];
@@ -45,17 +46,27 @@ pub fn edited(alloc: Global, image: &[u8], edit: Edit) -> Result<Vec<u8>, AllocE
     Ok(text)
 }
 
-/// What a run of these batches prints: its text, and the line of its fault.
+/// What a run of these batches by so many workers prints: its text, and the line of its fault.
+pub fn printed_by<R: Threads + Sync + AllocGlobal>(
+    rt: &R,
+    workers: Workers,
+    image: &[u8],
+    batches: &[u8],
+) -> Result<Vec<u8>, Fail> {
+    let (answer, mut text) = run_by(rt, workers, image, batches);
+    if let Err(fault) = answer {
+        fault_line(rt.alloc(), &fault, &mut text)?;
+    }
+    Ok(text)
+}
+
+/// The same by one worker.
 pub fn printed<R: Threads + Sync + AllocGlobal>(
     rt: &R,
     image: &[u8],
     batches: &[u8],
 ) -> Result<Vec<u8>, Fail> {
-    let (answer, mut text) = run(rt, image, batches);
-    if let Err(fault) = answer {
-        fault_line(rt.alloc(), &fault, &mut text)?;
-    }
-    Ok(text)
+    printed_by(rt, one_worker(), image, batches)
 }
 
 /// The most bytes that batches may have.

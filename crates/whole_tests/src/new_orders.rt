@@ -10,7 +10,7 @@ const ORDERS: [(&str, &str); 6] = [
 N,1,1,1,1,1,1,2,1,1,3,1,1,4,1,1,5,1,1
 ",
         "1,new-order,ok,1,1553,10,G,100,11,G,200,12,G,300,13,G,400,14,G,500
-batch,1,sequential,e72dccebded73bf54baae4accdbf9cac3e8d234c0e61364e141c7a5ccdb32ad3
+batch,1,parallel,e72dccebded73bf54baae4accdbf9cac3e8d234c0e61364e141c7a5ccdb32ad3
 ",
     ),
     // Stocks at both sides of the rule that fills them up.
@@ -19,7 +19,7 @@ batch,1,sequential,e72dccebded73bf54baae4accdbf9cac3e8d234c0e61364e141c7a5ccdb32
 N,1,1,1,10,1,10,9,1,10,1,1,1,2,1,1,3,1,1
 ",
         "1,new-order,ok,1,20286,10,G,10000,100,G,9000,10,G,100,11,G,200,12,G,300
-batch,1,sequential,64b09134cc91f31f94412f34c8f419518025fb63be29afd3ad878e166501983a
+batch,1,parallel,64b09134cc91f31f94412f34c8f419518025fb63be29afd3ad878e166501983a
 ",
     ),
     // An item on two lines, and one of the brand.
@@ -28,7 +28,7 @@ batch,1,sequential,64b09134cc91f31f94412f34c8f419518025fb63be29afd3ad878e1665019
 N,1,1,1,15,1,10,15,1,10,20,1,1,1,1,1,2,1,1
 ",
         "1,new-order,ok,1,33431,15,G,15000,96,G,15000,29,B,2000,10,G,100,11,G,200
-batch,1,sequential,0bfef8207f9a5fb407d0b97d41d60a2a26712c2224ab6ab50ef2142dd86aa009
+batch,1,parallel,0bfef8207f9a5fb407d0b97d41d60a2a26712c2224ab6ab50ef2142dd86aa009
 ",
     ),
     // An unused item changes nothing, the next order has the first number.
@@ -39,7 +39,7 @@ N,1,1,1,1,1,1,2,1,1,3,1,1,4,1,1,5,1,1
 ",
         "1,new-order,refused,1,Item number is not valid
 2,new-order,ok,1,1553,10,G,100,11,G,200,12,G,300,13,G,400,14,G,500
-batch,1,sequential,23114f00d24567a089ae72d4fe50c968fa4750d88a106c8964bc3b7adf151f63
+batch,1,parallel,23114f00d24567a089ae72d4fe50c968fa4750d88a106c8964bc3b7adf151f63
 ",
     ),
     // The input ends within the batch.
@@ -77,7 +77,7 @@ fn a_remote_supply(rt: HostRuntime) -> Result<(), Fail> {
         b"B,0,commit,1\nN,1,1,1,1,2,1,2,1,1,3,1,1,4,1,1,5,1,1\n",
     )?;
     let wanted: &[u8] = b"1,new-order,ok,1,1553,10,G,100,11,G,200,12,G,300,13,G,400,14,G,500
-batch,1,sequential,45db677f69aedede50db779ab59dc1e0128832f1427af16d09d8db3c2b681e7b
+batch,1,parallel,45db677f69aedede50db779ab59dc1e0128832f1427af16d09d8db3c2b681e7b
 ";
     assert_eq!(rt; text.as_slice(), wanted);
     Ok(())

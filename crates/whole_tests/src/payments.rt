@@ -1,7 +1,8 @@
 //! Payments by the customer's number, byte for byte.
 use crate::made::after;
 use crate::small::{IMAGE, PAYMENTS, PRINTED, run};
-use runner::{BatchRefusal, RunFault};
+use executor::Refusal;
+use runner::RunFault;
 use std::test::Fail;
 use tpcc_rows::id::{DistrictId, RequestNumber, WarehouseId};
 use tpcc_rows::key::RowKey;
@@ -20,7 +21,7 @@ fn an_empty_batch(rt: HostRuntime) -> Result<(), Fail> {
     let (answer, text) = run(&rt, IMAGE, b"B,0,commit,0\n");
     assert_eq!(rt; answer?, 1);
     let wanted: &[u8] =
-        b"batch,1,sequential,a6a6242c5ad8551d2d29c4fdbc72f84212e38782ca058b26ab1f0de903fac3fb\n";
+        b"batch,1,parallel,a6a6242c5ad8551d2d29c4fdbc72f84212e38782ca058b26ab1f0de903fac3fb\n";
     assert_eq!(rt; text.as_slice(), wanted);
     Ok(())
 }
@@ -40,10 +41,10 @@ fn numbers_go_on_from_batch_to_batch(rt: HostRuntime) -> Result<(), Fail> {
     let (answer, text) = run(&rt, IMAGE, batches);
     assert_eq!(rt; answer?, 2);
     let wanted: &[u8] = b"1,payment,ok,1,-2000,GC
-batch,1,sequential,26dd872b74606cb15e3edcb6015d1999b5fd2723a015e159ff5b7b794eaecc97
+batch,1,parallel,26dd872b74606cb15e3edcb6015d1999b5fd2723a015e159ff5b7b794eaecc97
 2,payment,ok,1,-2100,GC
 3,payment,refused,2,Unknown key
-batch,2,sequential,53c03af8678e9a043340a8b5300f0716b528baa9ca68c5490651cb0cd93a1956
+batch,2,verdict,53c03af8678e9a043340a8b5300f0716b528baa9ca68c5490651cb0cd93a1956
 ";
     assert_eq!(rt; text.as_slice(), wanted);
     Ok(())
@@ -69,7 +70,7 @@ E,12
     let (answer, text) = run(&rt, image, b"B,0,commit,1\nP,1,2,1,1,I,1,100\n");
     assert_eq!(rt; answer?, 1);
     let wanted: &[u8] = b"1,payment,refused,3,Limit reached
-batch,1,sequential,f401e903db5d035d6c2545077f016a3e34b2507b36fd8b4714595eded59ef8a8
+batch,1,parallel,f401e903db5d035d6c2545077f016a3e34b2507b36fd8b4714595eded59ef8a8
 ";
     assert_eq!(rt; text.as_slice(), wanted);
     Ok(())
@@ -81,7 +82,7 @@ fn the_numbers_of_requests_end(rt: HostRuntime) -> Result<(), Fail> {
     image.extend_from_slice(&IMAGE[11..IMAGE.len() - 5])?;
     image.extend_from_slice(b"H,999999999999999,1,1,1,1,1,0,1000,W1    D1\nE,14\n")?;
     let wanted: &[u8] =
-        b"batch,1,sequential,b8eb8dd69b0475ff434d4dc51ab3bfaa9db28915b4955e1c71ff7c4d28112906\n";
+        b"batch,1,parallel,b8eb8dd69b0475ff434d4dc51ab3bfaa9db28915b4955e1c71ff7c4d28112906\n";
     let (answer, text) = run(&rt, image.as_slice(), b"B,0,commit,0\n");
     assert_eq!(rt; answer?, 1);
     assert_eq!(rt; text.as_slice(), wanted);
@@ -90,7 +91,7 @@ fn the_numbers_of_requests_end(rt: HostRuntime) -> Result<(), Fail> {
         image.as_slice(),
         b"B,0,commit,0\nB,0,commit,1\nP,1,1,1,1,I,1,100\n",
     );
-    assert_eq!(rt; answer, Err(RunFault::Exec(BatchRefusal::NumbersExhausted)));
+    assert_eq!(rt; answer, Err(RunFault::Exec(Refusal::NumbersExhausted)));
     assert_eq!(rt; text.as_slice(), wanted);
     Ok(())
 }

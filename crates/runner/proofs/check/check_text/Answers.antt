@@ -1,34 +1,29 @@
-use Rattle.std.proofs.Common.{rules, ◌≡◌, ◌∙◌, ap, ap₂, subst}
+use Rattle.std.proofs.Common.{rules, ◌≡◌, ◌∙◌, ap, subst}
 use Rattle.std.specs.Io.KnownBytes.{Appends}
-use Rattle.catalog.specs.CardMap.{Cards}
+use Rattle.executor.specs.Lines.{Line}
 use Rattle.requests.specs.Ends.{AppendsFront}
 use Rattle.runner.specs.CheckTexts.{check_text, opening_text}
-use Rattle.runner.specs.Engines.{Running}
 use Rattle.loader.specs.Tables.{loaded}
 use Rattle.runner.proofs.WholeLemmas.{appends_front, checks_image, leaves_check}
-use Rattle.tpcc_model.specs.Serial.{State}
 use Rattle.runner.proofs.check.check_text.Goals as goal
 
 pub returns-then-is_err-clause-err : goal.returns-then-is_err-clause-err
 returns-then-is_err-clause-err g c =
     let db = loaded c.in-Ok.database in
-    let engine = ap₂ (λ (cards : Cards) (state : State). let r : Running = record { cards = cards; state = state } in r) c.in-Ok-new.ensures.cards c.in-Ok-new.ensures.state in
-    let line : c.as_slice.result.now ≡ opening_text db = c.as_slice.ensures.value ∙ c.in-Ok-line_of.ensures ∙ ap check_text engine in
+    let line : c.as_slice.result.now ≡ opening_text db = c.as_slice.ensures.value ∙ c.in-Ok-line_of.ensures ∙ ap (λ (l : Line). check_text l.cards l.present) c.in-Ok-new.ensures.line in
     let front : AppendsFront (g.S.Sink.taken c.args.sink.now) (g.S.Sink.taken c.push_all.new.sink) c.as_slice.result.now = search rules in
     leaves_check (g.I.Source.left c.args.image.now) db _ _ c.in-Ok.ensures.ok (subst (AppendsFront (g.S.Sink.taken c.args.sink.now) (g.S.Sink.taken c.push_all.new.sink)) line front)
 
 pub returns-then-is_err-2-clause-err : goal.returns-then-is_err-2-clause-err
 returns-then-is_err-2-clause-err g c =
     let db = loaded c.in-Ok.database in
-    let engine = ap₂ (λ (cards : Cards) (state : State). let r : Running = record { cards = cards; state = state } in r) c.in-Ok-new.ensures.cards c.in-Ok-new.ensures.state in
-    let line : c.as_slice.result.now ≡ opening_text db = c.as_slice.ensures.value ∙ c.in-Ok-line_of.ensures ∙ ap check_text engine in
+    let line : c.as_slice.result.now ≡ opening_text db = c.as_slice.ensures.value ∙ c.in-Ok-line_of.ensures ∙ ap (λ (l : Line). check_text l.cards l.present) c.in-Ok-new.ensures.line in
     let written : Appends (g.S.Sink.taken c.args.sink.now) (g.S.Sink.taken c.push_all.new.sink) c.as_slice.result.now = search rules in
     leaves_check (g.I.Source.left c.args.image.now) db _ _ c.in-Ok.ensures.ok (appends_front _ _ _ (opening_text db) (subst (Appends (g.S.Sink.taken c.args.sink.now) (g.S.Sink.taken c.push_all.new.sink)) line written) c.flush.ensures.bytes)
 
 pub returns-clause-ok : goal.returns-clause-ok
 returns-clause-ok g c =
     let db = loaded c.in-Ok.database in
-    let engine = ap₂ (λ (cards : Cards) (state : State). let r : Running = record { cards = cards; state = state } in r) c.in-Ok-new.ensures.cards c.in-Ok-new.ensures.state in
-    let line : c.as_slice.result.now ≡ opening_text db = c.as_slice.ensures.value ∙ c.in-Ok-line_of.ensures ∙ ap check_text engine in
+    let line : c.as_slice.result.now ≡ opening_text db = c.as_slice.ensures.value ∙ c.in-Ok-line_of.ensures ∙ ap (λ (l : Line). check_text l.cards l.present) c.in-Ok-new.ensures.line in
     let written : Appends (g.S.Sink.taken c.args.sink.now) (g.S.Sink.taken c.flush.new.self) c.as_slice.result.now = search rules in
     checks_image (g.I.Source.left c.args.image.now) db _ _ c.in-Ok.ensures.ok (subst (Appends (g.S.Sink.taken c.args.sink.now) (g.S.Sink.taken c.flush.new.self)) line written)

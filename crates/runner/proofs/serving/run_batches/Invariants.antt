@@ -4,19 +4,18 @@ use Rattle.requests.specs.Batches.{batches}
 use Rattle.requests.specs.declared.request.Batch.{Batch}
 use Rattle.runner.specs.Runs.{AllFit}
 use Rattle.runner.specs.Text.{text}
-use Rattle.runner.proofs.RunLemmas.{running_on}
+use Rattle.runner.proofs.RunLemmas.{line_on}
 use Rattle.runner.proofs.serving.run_batches.Given as goal
-use Rattle.tpcc_model.specs.Serial.{opening}
 
--- some batches are executed and written; the others are left to be read
+-- some batches are executed, committed and written; the others are left to be read
 abbrev pub invariant-batches : goal.invariant-batches
 invariant-batches g l = (g.S.Sink.failed l.sink ≡ g.S.Sink.failed l.initial.sink)
     × (written : List Batch)
     × (batches l.text ≡ (written ++ l.reader.0, l.reader.1))
     × (length written ≡ l.done)
-    × (l.engine ≡ running_on l.fn.catalog (opening l.fn.catalog l.fn.store.rows) written)
-    × AllFit l.fn.catalog (opening l.fn.catalog l.fn.store.rows) written
-    × Appends (g.S.Sink.taken l.initial.sink) (g.S.Sink.taken l.sink) (text l.fn.catalog (opening l.fn.catalog l.fn.store.rows) written)
+    × (l.executor ≡ line_on l.initial.executor.cards l.initial.executor.present written)
+    × AllFit l.initial.executor.cards l.initial.executor.present written
+    × Appends (g.S.Sink.taken l.initial.sink) (g.S.Sink.taken l.sink) (text l.initial.executor.cards l.initial.executor.present written)
 
 abbrev pub decreases-batches : goal.decreases-batches
 decreases-batches g l = length l.reader.0
