@@ -207,15 +207,14 @@ pub fn encode_row(key: &RowKey, row: &Row, out: &mut RowBuf)
     append_row(key, row, out);
 }
 
-/// How many bytes suffice for a row, whatever its key: for a customer's the bytes that it has, for any other those of the
-/// longest order line.
+/// How many bytes suffice for a row of its kind, whatever its key and its texts.
 #[tactic(auto, using(crate::proofs::Lengths::lengths), unfolding(crate::specs::Encodings::row_bytes))]
 pub fn enough_bytes(row: &Row) -> usize
     ensures enough { (k : RowKey) → length (row_bytes k row.now) ≤ result }
     ensures small { result ≤ 536 }
 {
     match row {
-        Row::Customer(row) => 36 + row.data.as_bytes().len(),
+        Row::Customer(row) => 36 + row.data.capacity(),
         Row::OrderLine(row) => 30 + row.district_info.capacity(),
         Row::History(row) => 30 + row.data.capacity(),
         _ => 54,
