@@ -3,6 +3,7 @@ ghost use Rattle.std.specs.Prelude.{IfOk};
 ghost use Rattle.command_line.specs.CommandLine.{IsArgument, IsCommand, bare_app, batches_rule};
 ghost use Rattle.command_line.specs.CommandLine.{check_app, customers_rule, image_rule, items_rule};
 ghost use Rattle.command_line.specs.CommandLine.{make_app, program_app, run_app, warehouses_rule};
+ghost use Rattle.command_line.specs.CommandLine.{workers_rule};
 
 use clap::{Arg, Command, value_parser};
 use std::alloc::{AllocError, Global};
@@ -21,6 +22,16 @@ fn batches<'a>(alloc: Global) -> Arg<'a>
     Arg::new(alloc, "BATCHES")
         .required(true)
         .help("The file of the batches")
+}
+
+fn workers<'a>(alloc: Global) -> Arg<'a>
+    ensures { IsArgument workers_rule result }
+{
+    Arg::new(alloc, "workers")
+        .long("workers")
+        .value_name("N")
+        .value_parser(value_parser!(u8).range(1..=64))
+        .help("The number of workers, 1 to 64; without it, one request after the other")
 }
 
 fn warehouses<'a>(alloc: Global) -> Arg<'a>
@@ -56,7 +67,8 @@ fn run<'a>(alloc: Global) -> Result<Command<'a>, AllocError>
     Command::new(alloc, "run")
         .about("Executes the batches of a file on the database of an image")
         .arg(image(alloc))?
-        .arg(batches(alloc))
+        .arg(batches(alloc))?
+        .arg(workers(alloc))
 }
 
 fn check<'a>(alloc: Global) -> Result<Command<'a>, AllocError>

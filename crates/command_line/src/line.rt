@@ -19,6 +19,8 @@ pub enum Line {
         image: String,
         /// The path of the batches.
         batches: String,
+        /// The number of workers, where it was given.
+        workers: Option<u8>,
     },
     /// To check the image of a database.
     Check {

@@ -38,7 +38,12 @@ fn run_in(alloc: Global, matches: &ArgMatches) -> Result<Line, AllocError>
 {
     let image = text_of(alloc, matches, "IMAGE")?;
     let batches = text_of(alloc, matches, "BATCHES")?;
-    Ok(Line::Run { image, batches })
+    let workers = matches.get_one("workers");
+    Ok(Line::Run {
+        image,
+        batches,
+        workers,
+    })
 }
 
 fn check_in(alloc: Global, matches: &ArgMatches) -> Result<Line, AllocError>

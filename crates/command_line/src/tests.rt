@@ -34,12 +34,27 @@ fn printed(alloc: Global, line: &str) -> Result<String, Fail> {
 
 #[test]
 fn takes_a_run(rt: HostRuntime) -> Result<(), Fail> {
-    let words = words(rt.alloc(), "eve-tpcc run image.csv batches.csv")?;
-    let Line::Run { image, batches } = line_of(rt.alloc(), words)? else {
-        return Err(Fail::new("another line"));
-    };
-    assert_eq!(rt; image.as_str(), "image.csv");
-    assert_eq!(rt; batches.as_str(), "batches.csv");
+    for (line, wanted) in [
+        ("eve-tpcc run image.csv batches.csv", None),
+        ("eve-tpcc run image.csv batches.csv --workers 2", Some(2)),
+        ("eve-tpcc run image.csv batches.csv --workers=64", Some(64)),
+        ("eve-tpcc run image.csv --workers +03 batches.csv", Some(3)),
+        ("eve-tpcc run --workers 1 image.csv batches.csv", Some(1)),
+        ("eve-tpcc run --workers 1 -- image.csv batches.csv", Some(1)),
+    ] {
+        let words = words(rt.alloc(), line)?;
+        let Line::Run {
+            image,
+            batches,
+            workers,
+        } = line_of(rt.alloc(), words)?
+        else {
+            return Err(Fail::new("another line"));
+        };
+        assert_eq!(rt; image.as_str(), "image.csv", "at {line}");
+        assert_eq!(rt; batches.as_str(), "batches.csv", "at {line}");
+        assert_eq!(rt; workers, wanted, "at {line}");
+    }
     Ok(())
 }
 
@@ -84,13 +99,31 @@ fn refuses_other_words(rt: HostRuntime) -> Result<(), Fail> {
         ("eve-tpcc run", ErrorKind::MissingRequiredArgument),
         ("eve-tpcc run a", ErrorKind::MissingRequiredArgument),
         ("eve-tpcc run a b c", ErrorKind::UnknownArgument),
-        ("eve-tpcc run a b --workers 2", ErrorKind::UnknownArgument),
+        (
+            "eve-tpcc run a --workers 2",
+            ErrorKind::MissingRequiredArgument,
+        ),
+        ("eve-tpcc run a b --worker 2", ErrorKind::UnknownArgument),
+        ("eve-tpcc run a b --workers 0", ErrorKind::ValueValidation),
+        ("eve-tpcc run a b --workers 65", ErrorKind::ValueValidation),
+        ("eve-tpcc run a b --workers x", ErrorKind::ValueValidation),
+        ("eve-tpcc run a b --workers=", ErrorKind::ValueValidation),
+        ("eve-tpcc run a b --workers", ErrorKind::InvalidValue),
+        (
+            "eve-tpcc run a b --workers 1 --workers 2",
+            ErrorKind::ArgumentConflict,
+        ),
         ("eve-tpcc check", ErrorKind::MissingRequiredArgument),
         ("eve-tpcc check a b", ErrorKind::UnknownArgument),
         ("eve-tpcc check --all a", ErrorKind::UnknownArgument),
+        ("eve-tpcc check a --workers 2", ErrorKind::UnknownArgument),
         ("eve-tpcc make", ErrorKind::MissingRequiredArgument),
         ("eve-tpcc make 1 1", ErrorKind::MissingRequiredArgument),
         ("eve-tpcc make 1 1 1 1", ErrorKind::UnknownArgument),
+        (
+            "eve-tpcc make 1 1 1 --workers 2",
+            ErrorKind::UnknownArgument,
+        ),
         ("eve-tpcc make -1 1 1", ErrorKind::UnknownArgument),
         ("eve-tpcc make 0 1 1", ErrorKind::ValueValidation),
         ("eve-tpcc make 101 1 1", ErrorKind::ValueValidation),
@@ -121,6 +154,7 @@ fn helps(rt: HostRuntime) -> Result<(), Fail> {
         "eve-tpcc help run",
         "eve-tpcc run --help",
         "eve-tpcc run a -h",
+        "eve-tpcc run --workers 2 -h",
         "eve-tpcc help check",
         "eve-tpcc check --help",
         "eve-tpcc check a -h",
@@ -138,14 +172,15 @@ fn helps(rt: HostRuntime) -> Result<(), Fail> {
 const RUN_HELP: &str = "\
 Executes the batches of a file on the database of an image
 
-Usage: eve-tpcc run <IMAGE> <BATCHES>
+Usage: eve-tpcc run [OPTIONS] <IMAGE> <BATCHES>
 
 Arguments:
   <IMAGE>    The file of the database's image
   <BATCHES>  The file of the batches
 
 Options:
-  -h, --help  Print help
+      --workers <N>  The number of workers, 1 to 64; without it, one request after the other
+  -h, --help         Print help
 ";
 
 const CHECK_HELP: &str = "\
@@ -165,6 +200,15 @@ error: the following required arguments were not provided:
   <BATCHES>
 
 Usage: eve-tpcc run <IMAGE> <BATCHES>
+
+For more information, try '--help'.
+";
+
+const NO_BATCHES_FOR_WORKERS: &str = "\
+error: the following required arguments were not provided:
+  <BATCHES>
+
+Usage: eve-tpcc run --workers <N> <IMAGE> <BATCHES>
 
 For more information, try '--help'.
 ";
@@ -189,6 +233,7 @@ fn names_the_program_whatever_it_was_started_as(rt: HostRuntime) -> Result<(), F
         ("out/eve_tpcc run --help", RUN_HELP),
         ("out/eve_tpcc check --help", CHECK_HELP),
         ("out/eve_tpcc run a", NO_BATCHES),
+        ("out/eve_tpcc run a --workers 2", NO_BATCHES_FOR_WORKERS),
         ("out/eve_tpcc make --help", MAKE_HELP),
     ] {
         assert_eq!(rt; printed(rt.alloc(), line)?.as_str(), text);
@@ -208,11 +253,34 @@ error: invalid value 'one' for '<W>': invalid digit found in string
 For more information, try '--help'.
 ";
 
+const TOO_MANY_WORKERS: &str = "\
+error: invalid value '65' for '--workers <N>': 65 is not in 1..=64
+
+For more information, try '--help'.
+";
+
+const WORKERS_TWICE: &str = "\
+error: the argument '--workers <N>' cannot be used multiple times
+
+Usage: eve-tpcc run [OPTIONS] <IMAGE> <BATCHES>
+
+For more information, try '--help'.
+";
+
+const NO_WORKERS: &str = "\
+error: a value is required for '--workers <N>' but none was supplied
+
+For more information, try '--help'.
+";
+
 #[test]
 fn says_why_a_number_is_refused(rt: HostRuntime) -> Result<(), Fail> {
     for (line, text) in [
         ("eve-tpcc make 1 0 1", NO_CUSTOMER),
         ("eve-tpcc make one 1 1", NO_NUMBER),
+        ("eve-tpcc run a b --workers 65", TOO_MANY_WORKERS),
+        ("eve-tpcc run a b --workers 1 --workers 2", WORKERS_TWICE),
+        ("eve-tpcc run a b --workers", NO_WORKERS),
     ] {
         assert_eq!(rt; printed(rt.alloc(), line)?.as_str(), text);
     }
