@@ -2,11 +2,12 @@
 //! thin layer over the crates below: it opens files, and prints what they answer.
 #![tactic(auto)]
 
+ghost use Rattle.std.specs.Prelude.{IfSome};
 ghost use Rattle.tpcc_rows.specs.Limits.{IsBetween};
 
 use command_line::{Line, LineFault, line_of, line_status};
 use requests::ends::Counting;
-use runner::{RunFault, check_text, fault_line, make_text, run_text};
+use runner::{RunFault, check_text, fault_line, make_text, run_text, run_text_sequential};
 use std::process::ExitCode;
 use std::rt::{Env, Files};
 use std::thread::Threads;
@@ -28,13 +29,16 @@ fn report<R: Eprint + AllocGlobal>(rt: &R, fault: &RunFault) -> ExitCode {
     ExitCode::FAILURE
 }
 
+/// In levels on so many workers, where a number of workers is given; else one request after the other.
 fn run<R: Files + Print + Eprint + AllocGlobal + Threads + Sync>(
     rt: &R,
     image: &str,
     batches: &str,
+    workers: Option<u8>,
 ) -> ExitCode
 where
     R::File: Drop,
+    requires { IfSome workers (IsBetween 1 64) }
 {
     let Ok(image_file) = fs::open(rt, image) else {
         return cannot_open(rt, image);
@@ -45,15 +49,25 @@ where
     let mut image_source = Counting::new(image_file);
     let mut batches_source = Counting::new(batches_file);
     let mut output = Counting::new(io::writer(rt));
-    match run_text(
-        rt,
-        rt.alloc(),
-        &mut image_source,
-        &mut batches_source,
-        &mut output,
-        Workers::new(1).unwrap(),
-        &NoGate,
-    ) {
+    let ran = match workers {
+        Some(count) => run_text(
+            rt,
+            rt.alloc(),
+            &mut image_source,
+            &mut batches_source,
+            &mut output,
+            Workers::new(usize::from(count)).unwrap(),
+            &NoGate,
+        ),
+        None => run_text_sequential(
+            rt,
+            rt.alloc(),
+            &mut image_source,
+            &mut batches_source,
+            &mut output,
+        ),
+    };
+    match ran {
         Ok(_) => ExitCode::SUCCESS,
         Err(fault) => report(rt, &fault),
     }
@@ -100,7 +114,13 @@ fn main(rt: HostRuntime) -> ExitCode {
         return ExitCode::from(2);
     };
     match line_of(rt.alloc(), words) {
-        Ok(Line::Run { image, batches }) => run(&rt, image.as_str(), batches.as_str()),
+        Ok(
+            Line::Run {
+                image,
+                batches,
+                workers,
+            },
+        ) => run(&rt, image.as_str(), batches.as_str(), workers),
         Ok(Line::Check { image }) => check(&rt, image.as_str()),
         Ok(
             Line::Make {

@@ -14,6 +14,8 @@ mod faults;
 #[cfg(test)]
 mod images;
 #[cfg(test)]
+mod in_turn;
+#[cfg(test)]
 mod made;
 #[cfg(test)]
 mod new_orders;
