@@ -81,6 +81,15 @@ fn encode_alone(rt: &impl Clock, store: &PointedStore) -> io::Result<(Duration, 
     Ok((start.elapsed(rt)?, count))
 }
 
+/// The least of ten times, since it waits for memory, which others use too.
+fn least_encoding(rt: &impl Clock, store: &PointedStore) -> io::Result<Duration> {
+    let mut least = encode_alone(rt, store)?.0;
+    for _ in 0..9u32 {
+        least = least.min(encode_alone(rt, store)?.0);
+    }
+    Ok(least)
+}
+
 fn build<R: Clock + AllocGlobal + Threads + Sync>(
     rt: &R,
     store: &PointedStore,
@@ -166,11 +175,11 @@ fn measure_tree<R: Clock + Eprint + AllocGlobal + Threads + Sync>(
 ) -> io::Result<()> {
     let bytes = encoded(rt.alloc(), store)?;
     let mut alone = hash_alone(rt, &bytes)?.0;
-    let mut encode = encode_alone(rt, store)?.0;
+    let mut encode = least_encoding(rt, store)?;
     let mut built = build(rt, store)?.0;
     for _ in 0..ROUNDS {
         alone = alone.min(hash_alone(rt, &bytes)?.0);
-        encode = encode.min(encode_alone(rt, store)?.0);
+        encode = encode.min(least_encoding(rt, store)?);
         built = built.min(build(rt, store)?.0);
     }
     let _ = eprintln!(rt; "{what}: {} bytes of rows", bytes.len());
@@ -189,8 +198,8 @@ fn measure_full_scale<R: Clock + Eprint + AllocGlobal + Threads + Sync>(rt: &R) 
 }
 
 /// A warehouse of full scale, and the database of `make 1 3000 100000`, the one let go before the other is made: each the
-/// best of twenty, the look-ups of five. How much faster more processors are is seen by running it on one, two and four of
-/// them.
+/// best of twenty, the encoder of two hundred, the look-ups of five. How much faster more processors are is seen by running
+/// it on one, two and four of them.
 pub fn measure<R: Clock + Eprint + AllocGlobal + Threads + Sync>(rt: &R) -> io::Result<()> {
     measure_full_scale(rt)?;
     let (_, made) = make(rt.alloc(), 1, 3000, 100_000).map_err(|_| invalid())?;
