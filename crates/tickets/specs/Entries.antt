@@ -1,0 +1,44 @@
+-- What is known of a worker: the entry in the view of its seat.
+use Rattle.std.specs.Prelude.{ℕ, zero, suc, Bool, true, false, ltb, ◌||◌, if◌then◌else◌, List, [], ◌∷◌, ◌++◌, Option, None, is_some}
+use Rattle.std.specs.List.{last_or}
+use Rattle.tickets.specs.declared.entry.Entry.{Entry}
+
+-- the entry of worker k before it has drawn
+abbrev pub blank : ℕ → ℕ → Entry
+blank places k = record { worker = k; places = places; drawn = []; past = false; raised = None; saw = false }
+
+-- the entries of n workers from k on
+abbrev pub blanks : ℕ → ℕ → ℕ → List Entry
+blanks places k zero = []
+blanks places k (suc n) = blank places k ∷ blanks places (suc k) n
+
+-- it drew past the end, raised a place, or saw that all are to stop
+abbrev pub has_stopped : Entry → Bool
+has_stopped e = e.past || (is_some e.raised || e.saw)
+
+abbrev pub last_drawn : Entry → Option ℕ
+last_drawn e = last_or None e.drawn
+
+-- the place in its hand is the one that it drew last, until it raised or drew past the end
+abbrev pub in_hand : Entry → Option ℕ
+in_hand e = if e.past || is_some e.raised then None else last_drawn e
+
+-- it has drawn one place more
+abbrev pub with_place : ℕ → Entry → Entry
+with_place p e = record e { drawn = e.drawn ++ p ∷ [] }
+
+-- it has drawn past the end
+abbrev pub with_end : Entry → Entry
+with_end e = record e { past = true }
+
+-- it has drawn this ticket
+abbrev pub with_draw : ℕ → Entry → Entry
+with_draw ticket e = if ltb ticket e.places then with_place ticket e else with_end e
+
+-- it has raised the place that it drew last
+abbrev pub with_raise : Entry → Entry
+with_raise e = record e { raised = last_drawn e }
+
+-- it has looked, and seen or not that all are to stop
+abbrev pub with_look : Bool → Entry → Entry
+with_look seen e = record e { saw = e.saw || seen }

@@ -1,0 +1,6 @@
+pub mod World
+pub mod Once
+pub mod Playing
+pub mod Entries
+pub mod Rule
+pub mod Seats

@@ -1,0 +1,62 @@
+//! The rule over the words and the views of a desk, and its steps.
+use crate::entry::View;
+use crate::size::Size;
+use atomic_table::{Join, Play, Split, TableRule};
+
+/// Some events lead to a world that words and views show.
+pub struct ShowsWorld;
+
+impl TableRule<u8, View, Size> for ShowsWorld {
+    ghost use Rattle.tickets.specs.Entries.{blanks};
+    ghost use Rattle.tickets.specs.Rule.{IsKept};
+
+    ghost holds = { λ size s. IsKept size s.words s.views };
+
+    ghost first = { λ size. blanks size.places 0 size.workers };
+}
+
+/// A worker draws the next place, or past the end.
+pub struct Draws;
+
+impl Play<u8, View> for Draws {
+    ghost use Rattle.tickets.specs.Rule.{Drew};
+
+    ghost then = { Drew };
+}
+
+/// A worker raises the place that it drew last.
+pub struct Raises;
+
+impl Play<u8, View> for Raises {
+    ghost use Rattle.tickets.specs.Rule.{Raised};
+
+    ghost then = { Raised };
+}
+
+/// A worker looks whether all are to stop.
+pub struct Looks;
+
+impl Play<u8, View> for Looks {
+    ghost use Rattle.tickets.specs.Rule.{Looked};
+
+    ghost then = { Looked };
+}
+
+/// The first entry goes to a seat of its own, and seats come together.
+pub struct Deals;
+
+impl Split<View> for Deals {
+    ghost use Rattle.std.specs.Prelude.{drop, take};
+
+    ghost left = { drop 1 };
+
+    ghost right = { take 1 };
+}
+
+impl Join<View> for Deals {
+    ghost use Rattle.std.specs.Prelude.{◌++◌, []};
+
+    ghost both = { λ v w. v ++ w };
+
+    ghost spent = { [] };
+}
