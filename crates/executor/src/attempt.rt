@@ -54,7 +54,8 @@ fn rewind(alloc: Global, store: &mut PointedStore, point: usize) -> Result<(), M
 
 /// The replies to a batch on the rows of the newest point, and how it was executed: level by level on so many workers, where
 /// there are any, unless a request strays or the verdict asks for a rerun; else one request after the other.
-fn replies_of<G: Gate>(
+fn replies_of<R: Threads + Sync, G: Gate>(
+    rt: &R,
     alloc: Global,
     catalog: &Catalog,
     store: &mut PointedStore,
@@ -79,7 +80,7 @@ fn replies_of<G: Gate>(
         let replies = execute_in_turn(alloc, catalog, store, batch, stamp.next, gate)?;
         return Ok((replies, Path::Sequential));
     };
-    let path = match execute_levels(alloc, catalog, store, stamp, batch, workers, gate) {
+    let path = match execute_levels(rt, alloc, catalog, store, stamp, batch, workers, gate) {
         Ok(replies) => match batch.verdict {
             Verdict::Commit => return Ok((replies, Path::Parallel)),
             Verdict::Rerun => Path::Verdict,
@@ -144,7 +145,9 @@ fn recorded<R: Threads + Sync, G: Gate>(
     ensures rows { OnOk result (store.new.rows ≡ batch_rows catalog.now (state_of store.old.rows stamp.now) batch.now) }
     ensures points { store.new.points ≡ store.old.points }
 {
-    let (replies, path) = replies_of(alloc, catalog, store, stamp, batch, workers, gate, point)?;
+    let (replies, path) = replies_of(
+        rt, alloc, catalog, store, stamp, batch, workers, gate, point,
+    )?;
     let token = token_of(rt, alloc, digest, stamp, &replies, store)?;
     Ok(Record {
         sequence: stamp.sequence + 1,

@@ -26,6 +26,7 @@ use requests::reply::Reply;
 use requests::request::{Batch, Request};
 use rollback::PointedStore;
 use std::alloc::Global;
+use std::thread::Threads;
 use tpcc_rows::delta::Delta;
 use tpcc_rows::footprint::Footprint;
 use tpcc_rows::id::RequestNumber;
@@ -73,7 +74,8 @@ fn file_replies(
 }
 
 /// Runs a level, files its replies and makes its changes. Where a request strays, nothing is changed.
-fn settle_level<G: Gate>(
+fn settle_level<R: Threads + Sync, G: Gate>(
+    rt: &R,
     alloc: Global,
     catalog: &Catalog,
     store: &mut PointedStore,
@@ -86,6 +88,7 @@ fn settle_level<G: Gate>(
     book: &mut ReplyBook,
 ) -> Result<(), ExecError>
     requires some { 1 ≤ length places.now }
+    requires few { length places.now ≤ 1024 }
     requires rising { IsStrictlyIncreasing places.now }
     requires there { All (λ place. place < length batch.now.requests) places.now }
     requires each { length footprints.now ≡ length batch.now.requests }
@@ -99,7 +102,7 @@ fn settle_level<G: Gate>(
     ensures points { store.new.points ≡ store.old.points }
 {
     match run_level(
-        alloc, catalog, store, batch, first, places, footprints, workers, gate,
+        rt, alloc, catalog, store, batch, first, places, footprints, workers, gate,
     )? {
         LevelEnd::Strayed(_) => Err(ExecError::Strayed),
         LevelEnd::Done(outcomes) => {
@@ -112,7 +115,8 @@ fn settle_level<G: Gate>(
 }
 
 /// Runs the levels of a batch by these footprints, one after the other, until one strays.
-fn run_levels<G: Gate>(
+fn run_levels<R: Threads + Sync, G: Gate>(
+    rt: &R,
     alloc: Global,
     catalog: &Catalog,
     store: &mut PointedStore,
@@ -141,7 +145,7 @@ fn run_levels<G: Gate>(
     for level in 0..cut.depth() {
         let places = cut.level(level).unwrap();
         settle_level(
-            alloc, catalog, store, batch, first, places, footprints, workers, gate, &mut book,
+            rt, alloc, catalog, store, batch, first, places, footprints, workers, gate, &mut book,
         )?;
     }
     Ok(book)
@@ -149,7 +153,8 @@ fn run_levels<G: Gate>(
 
 /// Executes the requests of a batch level by level, as they declare on the rows that the batch meets. It ends where one
 /// strays; then, and where memory was refused, the rows are those of no one state.
-pub(crate) fn execute_levels<G: Gate>(
+pub(crate) fn execute_levels<R: Threads + Sync, G: Gate>(
+    rt: &R,
     alloc: Global,
     catalog: &Catalog,
     store: &mut PointedStore,
@@ -177,6 +182,7 @@ pub(crate) fn execute_levels<G: Gate>(
     batch.moment.seconds();
     let footprints = declare_all(alloc, catalog, store, requests)?;
     let book = run_levels(
+        rt,
         alloc,
         catalog,
         store,

@@ -1,3 +1,6 @@
 pub mod Jobs
-pub mod Rest
 pub mod Ends
+pub mod Raising
+pub mod Gathering
+pub mod Slots
+pub mod Outcomes

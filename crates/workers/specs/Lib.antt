@@ -1,1 +1,2 @@
 pub mod LevelEnds
+pub mod Parts

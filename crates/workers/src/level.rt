@@ -1,18 +1,24 @@
 //! The run of a level.
-ghost use Rattle.std.specs.Prelude.{◌≡◌, ◌+◌, ◌<◌, ◌≤◌, All, length, IfOk};
+ghost use Rattle.std.specs.Prelude.{◌≡◌, ◌+◌, ◌<◌, ◌≤◌, All, IfOk, length, vec_len};
 ghost use Rattle.std.specs.List.Sorted.{IsStrictlyIncreasing};
+ghost use Rattle.tickets.specs.Seats.{IsNewSeatOf, places_of};
 ghost use Rattle.workers.specs.LevelEnds.{IsEndOf};
+ghost use Rattle.workers.specs.Parts.{AreWorked, IsPartOf};
 
 use crate::count::Workers;
+use crate::filing::{gathered, in_order, stray_among};
 use crate::gate::Gate;
-use crate::job::{PlaceOutcome, execute_job, job_at};
+use crate::job::PlaceOutcome;
+use crate::part::{Outcome, run_part};
 use catalog::Catalog;
 use requests::request::Batch;
 use rollback::PointedStore;
 use std::alloc::Global;
+use std::thread;
+use std::thread::Threads;
+use tickets::{Desk, Seat};
 use tpcc_rows::footprint::Footprint;
 use tpcc_rows::memory::Memory;
-use transactions::ExecError;
 
 /// How the run of a level ended.
 #[derive(Drop)]
@@ -23,10 +29,9 @@ pub enum LevelEnd {
     Strayed(usize),
 }
 
-/// Executes the requests at some places of a batch, whose first request has this number, each on the rows of the store
-/// as far as its footprint lends them. The store stays as it is. The calling thread executes them all, in the order of
-/// their places, whatever the number of workers, and ends at the first that strays. The gate is told of each execution.
-pub fn run_level<G: Gate>(
+/// Runs a worker on each seat. All seats are given back, and all that was drawn.
+fn run_workers<R: Threads + Sync, G: Gate>(
+    rt: &R,
     alloc: Global,
     catalog: &Catalog,
     store: &PointedStore,
@@ -34,10 +39,52 @@ pub fn run_level<G: Gate>(
     first: u64,
     places: &[usize],
     footprints: &[Footprint],
-    _: Workers,
+    desk: &Desk,
+    seats: Vec<Seat>,
+    gate: &G,
+) -> Result<(Vec<Seat>, Vec<(usize, Outcome)>), Memory>
+    requires own { All (IsNewSeatOf desk.now) seats.items }
+    requires size { places_of desk.now ≡ length places.now }
+    requires there { All (λ place. place < length batch.now.requests) places.now }
+    requires each { length footprints.now ≡ length batch.now.requests }
+    requires low { 1 ≤ first }
+    requires high { first + length batch.now.requests ≤ 1000000000000000 }
+    ensures { IfOk result (λ all. AreWorked desk.now catalog.now store.now.rows batch.now first footprints.now places.now (vec_len seats) all.0.items all.1.items) }
+{
+    let parts = thread::map_vec(
+        rt,
+        seats,
+        &|seat: Seat| -> Result<(Seat, Vec<(usize, Outcome)>), Memory>
+            requires { IsNewSeatOf desk.now seat × (places_of desk.now ≡ length places.now) × All (λ place. place < length batch.now.requests) places.now × (length footprints.now ≡ length batch.now.requests) × (1 ≤ first) × (first + length batch.now.requests ≤ 1000000000000000) }
+            ensures { IsPartOf desk.entry.now catalog.entry.now store.entry.now.rows batch.entry.now first footprints.entry.now places.entry.now result }
+        {
+            run_part(
+                alloc, catalog, store, batch, first, places, footprints, desk, seat, gate,
+            )
+        },
+    )?;
+    gathered(alloc, parts)
+}
+
+/// Executes the requests at some places of a batch, whose first request has this number, each on the rows of the store
+/// as far as its footprint lends them. The store stays as it is. There are as many workers as places, or fewer where fewer
+/// are allowed; each draws one place after the other, on a thread of its own, or on the calling thread where it is the only
+/// one or no thread can be started. Once a request strays no worker draws a further place. The gate is told of each
+/// execution.
+pub fn run_level<R: Threads + Sync, G: Gate>(
+    rt: &R,
+    alloc: Global,
+    catalog: &Catalog,
+    store: &PointedStore,
+    batch: &Batch,
+    first: u64,
+    places: &[usize],
+    footprints: &[Footprint],
+    workers: Workers,
     gate: &G,
 ) -> Result<LevelEnd, Memory>
     requires some { 1 ≤ length places.now }
+    requires few { length places.now ≤ 1024 }
     requires rising { IsStrictlyIncreasing places.now }
     requires there { All (λ place. place < length batch.now.requests) places.now }
     requires each { length footprints.now ≡ length batch.now.requests }
@@ -45,14 +92,14 @@ pub fn run_level<G: Gate>(
     requires high { first + length batch.now.requests ≤ 1000000000000000 }
     ensures { IfOk result (IsEndOf catalog.now store.now.rows batch.now first footprints.now places.now) }
 {
-    let mut outcomes = Vec::with_capacity(alloc, places.len())?;
-    for place in places {
-        let job = job_at(batch, first, footprints, *place);
-        match execute_job(alloc, catalog, store, batch.moment, job, gate) {
-            Ok(outcome) => outcomes.push(outcome)?,
-            Err(ExecError::Strayed) => return Ok(LevelEnd::Strayed(*place)),
-            Err(ExecError::Memory) => return Err(Memory),
-        }
+    let count = workers.count().min(places.len());
+    let (desk, seats) = Desk::new(alloc, places.len(), count)?;
+    let (seats, drawn) = run_workers(
+        rt, alloc, catalog, store, batch, first, places, footprints, &desk, seats, gate,
+    )?;
+    if let Some(place) = stray_among(places, &drawn) {
+        return Ok(LevelEnd::Strayed(place));
     }
-    Ok(LevelEnd::Done(outcomes))
+    desk.close(seats);
+    Ok(LevelEnd::Done(in_order(alloc, places.len(), drawn)?))
 }

@@ -1,5 +1,10 @@
 //! Levels of few requests on a made database of two warehouses, with answers that were worked out by hand: each customer
 //! has a balance of -1,000 cents, each warehouse 30,000,000 cents of payments, and no district an order.
+mod gates;
+mod memory;
+mod threads;
+
+use self::gates::CountingGate;
 use crate::{Gate, LevelEnd, NoGate, PlaceOutcome, Workers, run_level};
 use catalog::Catalog;
 use loader::make;
@@ -7,14 +12,13 @@ use requests::request::Batch;
 use requests::{BatchReader, write_reply};
 use rollback::PointedStore;
 use std::alloc::Global;
-use std::sync::atomic::{AtomicU64, Ordering};
+use std::process::Abort;
 use std::test::Fail;
+use std::thread::Threads;
 use tpcc_rows::footprint::Footprint;
 use tpcc_rows::granule::Granule;
 use tpcc_rows::id::{CustomerId, DistrictId, ItemId, RequestNumber, WarehouseId};
 use tpcc_rows::key::RowKey;
-
-mod memory;
 
 fn made(alloc: Global) -> Option<(Catalog, PointedStore)> {
     make(alloc, 2, 2, 5).ok()
@@ -106,62 +110,27 @@ fn ordered_and_delivered(alloc: Global) -> Option<[Footprint; 2]> {
     Some([ordered(alloc)?, nothing_delivered(alloc)?])
 }
 
-// ---- gates
-
-/// Counts the calls for each of two places.
-#[derive(Drop)]
-struct CountingGate {
-    entered: [AtomicU64; 2],
-    left: [AtomicU64; 2],
-}
-
-impl Gate for CountingGate {
-    fn enter(&self, place: usize) {
-        if let Some(count) = self.entered.get(place) {
-            count.fetch_add(1, Ordering::SeqCst);
-        }
-    }
-
-    fn leave(&self, place: usize) {
-        if let Some(count) = self.left.get(place) {
-            count.fetch_add(1, Ordering::SeqCst);
-        }
-    }
-}
-
-impl CountingGate {
-    fn new() -> CountingGate {
-        CountingGate {
-            entered: [AtomicU64::new(0), AtomicU64::new(0)],
-            left: [AtomicU64::new(0), AtomicU64::new(0)],
-        }
-    }
-
-    /// How often each place was entered, and how often it was left.
-    fn counts(&self) -> ([u64; 2], [u64; 2]) {
-        let count = |count: &AtomicU64| count.load(Ordering::SeqCst);
-        (
-            [count(&self.entered[0]), count(&self.entered[1])],
-            [count(&self.left[0]), count(&self.left[1])],
-        )
-    }
-}
-
 // ---- runs
 
+/// The numbers of workers that the levels here are run on.
+const WORKERS: [usize; 4] = [1, 2, 8, 64];
+
 /// Both requests of a batch, in one level.
-fn run_both<G: Gate>(
+fn run_both<R: Threads + Sync, G: Gate>(
+    rt: &R,
     alloc: Global,
     db: &(Catalog, PointedStore),
     batch: &Batch,
     footprints: &[Footprint; 2],
+    workers: usize,
     gate: &G,
 ) -> Result<LevelEnd, Fail> {
-    let workers = Workers::new(2).ok_or("a number of workers")?;
+    let workers = Workers::new(workers).ok_or("a number of workers")?;
     if batch.requests.len() != 2 {
         return Err("two requests".into());
     }
     Ok(run_level(
+        rt,
         alloc,
         &db.0,
         &db.1,
@@ -175,18 +144,21 @@ fn run_both<G: Gate>(
 }
 
 /// One request of a batch of two.
-fn run_one(
+fn run_one<R: Threads + Sync, G: Gate>(
+    rt: &R,
     alloc: Global,
     db: &(Catalog, PointedStore),
     batch: &Batch,
     place: usize,
     footprints: &[Footprint; 2],
+    gate: &G,
 ) -> Result<LevelEnd, Fail> {
     let workers = Workers::new(64).ok_or("a number of workers")?;
     if batch.requests.len() != 2 || place > 1 {
         return Err("two requests".into());
     }
     Ok(run_level(
+        rt,
         alloc,
         &db.0,
         &db.1,
@@ -195,7 +167,7 @@ fn run_one(
         &[place],
         footprints,
         workers,
-        &NoGate,
+        gate,
     )?)
 }
 
@@ -230,6 +202,15 @@ fn has_history(outcome: &PlaceOutcome, number: u64) -> Result<bool, Fail> {
     Ok(outcome.changes.get(&RowKey::History { number }).is_some())
 }
 
+/// Asserts that the rows of HISTORY have the numbers of their places.
+fn check_history(rt: &impl Abort, outcomes: &[PlaceOutcome]) -> Result<(), Fail> {
+    let numbers = [7, 8];
+    for (outcome, number) in outcomes.iter().zip(numbers) {
+        assert!(rt; has_history(outcome, number)?);
+    }
+    Ok(())
+}
+
 #[test]
 fn numbers_of_workers(rt: HostRuntime) {
     for (count, want) in [(0, None), (1, Some(1)), (64, Some(64)), (65, None)] {
@@ -244,15 +225,15 @@ fn two_payments(rt: HostRuntime) -> Result<(), Fail> {
     let db = made(alloc).ok_or("a database")?;
     let batch = pair(alloc, PAYMENTS).ok_or("a batch")?;
     let footprints = both_paid(alloc, 2).ok_or("footprints")?;
-    let gate = CountingGate::new();
-    let outcomes = done(run_both(alloc, &db, &batch, &footprints, &gate)?)?;
-    let text = printed(alloc, outcomes.as_slice()).ok_or("a text")?;
-    let want = b"7,payment,ok,1,-2000,GC\n8,payment,ok,2,-2000,GC\n";
-    assert_eq!(rt; text.as_slice(), want.as_slice());
-    assert_eq!(rt; gate.counts(), ([1, 1], [1, 1]));
-    let numbers = [7, 8];
-    for (outcome, number) in outcomes.iter().zip(numbers) {
-        assert!(rt; has_history(outcome, number)?);
+    for workers in WORKERS {
+        let gate = CountingGate::new();
+        let end = run_both(&rt, alloc, &db, &batch, &footprints, workers, &gate)?;
+        let outcomes = done(end)?;
+        let text = printed(alloc, outcomes.as_slice()).ok_or("a text")?;
+        let want = b"7,payment,ok,1,-2000,GC\n8,payment,ok,2,-2000,GC\n";
+        assert_eq!(rt; text.as_slice(), want.as_slice(), "by {workers}");
+        assert_eq!(rt; gate.counts(), ([1, 1, 0], [1, 1, 0]), "by {workers}");
+        check_history(&rt, &outcomes)?;
     }
     Ok(())
 }
@@ -264,9 +245,11 @@ fn the_second_alone(rt: HostRuntime) -> Result<(), Fail> {
     let db = made(alloc).ok_or("a database")?;
     let batch = pair(alloc, PAYMENTS).ok_or("a batch")?;
     let footprints = both_paid(alloc, 2).ok_or("footprints")?;
-    let outcomes = done(run_one(alloc, &db, &batch, 1, &footprints)?)?;
+    let gate = CountingGate::new();
+    let outcomes = done(run_one(&rt, alloc, &db, &batch, 1, &footprints, &gate)?)?;
     let text = printed(alloc, outcomes.as_slice()).ok_or("a text")?;
     assert_eq!(rt; text.as_slice(), b"8,payment,ok,2,-2000,GC\n".as_slice());
+    assert_eq!(rt; gate.counts(), ([0, 1, 0], [0, 1, 0]));
     let [outcome] = outcomes.as_slice() else {
         return Err("one outcome".into());
     };
@@ -281,10 +264,11 @@ fn an_undeclared_customer(rt: HostRuntime) -> Result<(), Fail> {
     let db = made(alloc).ok_or("a database")?;
     let batch = pair(alloc, PAYMENTS).ok_or("a batch")?;
     let footprints = both_paid(alloc, 1).ok_or("footprints")?;
-    let gate = CountingGate::new();
-    let end = run_both(alloc, &db, &batch, &footprints, &gate)?;
-    assert_eq!(rt; strayed(&end), Some(1));
-    assert_eq!(rt; gate.counts(), ([1, 1], [1, 1]));
+    for workers in WORKERS {
+        let gate = CountingGate::new();
+        let end = run_both(&rt, alloc, &db, &batch, &footprints, workers, &gate)?;
+        assert_eq!(rt; strayed(&end), Some(1), "by {workers}");
+    }
     Ok(())
 }
 
@@ -295,20 +279,20 @@ fn a_delivery_after_an_order(rt: HostRuntime) -> Result<(), Fail> {
     let mut db = made(alloc).ok_or("a database")?;
     let batch = pair(alloc, ORDER_AND_DELIVERY).ok_or("a batch")?;
     let footprints = ordered_and_delivered(alloc).ok_or("footprints")?;
-    let end = run_one(alloc, &db, &batch, 1, &footprints)?;
+    let end = run_one(&rt, alloc, &db, &batch, 1, &footprints, &NoGate)?;
     let text = printed(alloc, done(end)?.as_slice()).ok_or("a text")?;
     assert_eq!(rt;
         text.as_slice(),
         b"8,delivery,ok,-,-,-,-,-,-,-,-,-,-\n".as_slice()
     );
-    let outcomes = done(run_one(alloc, &db, &batch, 0, &footprints)?)?;
+    let outcomes = done(run_one(&rt, alloc, &db, &batch, 0, &footprints, &NoGate)?)?;
     let text = printed(alloc, outcomes.as_slice()).ok_or("a text")?;
     let want = b"7,new-order,ok,1,1553,10,G,100,11,G,200,12,G,300,13,G,400,14,G,500\n";
     assert_eq!(rt; text.as_slice(), want.as_slice());
     for outcome in outcomes.as_slice() {
         db.1.apply(&outcome.changes)?;
     }
-    let end = run_one(alloc, &db, &batch, 1, &footprints)?;
+    let end = run_one(&rt, alloc, &db, &batch, 1, &footprints, &NoGate)?;
     assert_eq!(rt; strayed(&end), Some(1));
     Ok(())
 }

@@ -1,16 +1,17 @@
 //! Refused memory: with any one growth refused, the answer is that memory was refused, or that of ample memory.
 use super::{PAYMENTS, both_paid, made, pair, printed};
 use crate::{LevelEnd, NoGate, Workers, run_level};
+use std::alloc::Global;
+use std::process::Abort;
+use std::thread::Threads;
 use tpcc_rows::memory::Memory;
 
-#[test]
-fn run_or_refused(rt: HostRuntime) {
-    let alloc = rt.alloc();
+fn check_run<R: Threads + Sync + Abort>(rt: &R, alloc: Global, workers: usize) {
     let (Some(db), Some(batch), Some(footprints), Some(workers)) = (
         made(alloc),
         pair(alloc, PAYMENTS),
         both_paid(alloc, 2),
-        Workers::new(1),
+        Workers::new(workers),
     ) else {
         return;
     };
@@ -19,6 +20,7 @@ fn run_or_refused(rt: HostRuntime) {
     }
     let places = [0, 1];
     let ended = run_level(
+        rt,
         alloc,
         &db.0,
         &db.1,
@@ -40,4 +42,14 @@ fn run_or_refused(rt: HostRuntime) {
         Ok(LevelEnd::Strayed(_)) => assert!(rt; false, "no place strays"),
         Err(Memory) => {}
     }
+}
+
+#[test]
+fn one_worker_or_refused(rt: HostRuntime) {
+    check_run(&rt, rt.alloc(), 1);
+}
+
+#[test]
+fn two_workers_or_refused(rt: HostRuntime) {
+    check_run(&rt, rt.alloc(), 2);
 }

@@ -18,6 +18,15 @@ unwrap-places-requires g c =
     let below : c.loop-level.level < length c.in_ok-cut.cut = omega (arith, depth, before) in
     lent_at c.level.result (get_or c.in_ok-cut.cut c.loop-level.level (let none : List ℕ = [] in none)) (c.level.ensures ∙ slice_get-get_or c.in_ok-cut.cut c.loop-level.level (let none : List ℕ = [] in none) below)
 
+pub settle_level-requires-clause-few : goal.settle_level-requires-clause-few
+settle_level-requires-clause-few g c κs lives =
+    let at : slice_get (cut_by c.args.footprints.now) c.loop-level.level ≡ Some c.unwrap-places.result.now =
+    ap (λ (cut : List (List ℕ)). slice_get cut c.loop-level.level) (sym c.in_ok-cut.ensures) ∙ sym c.level.ensures ∙ ap option_copied c.unwrap-places.ensures in
+    let short = (c.cuts.ensures c.args.footprints.now).short c.loop-level.level c.unwrap-places.result.now at in
+    let few = c.requires.few in
+    let each = c.requires.each in
+    omega (arith, short, few, each)
+
 pub settle_level-requires-clause-there : goal.settle_level-requires-clause-there
 settle_level-requires-clause-there g c κs lives =
     let at : slice_get (cut_by c.args.footprints.now) c.loop-level.level ≡ Some c.unwrap-places.result.now =
