@@ -81,13 +81,16 @@ fn encode_alone(rt: &impl Clock, store: &PointedStore) -> io::Result<(Duration, 
     Ok((start.elapsed(rt)?, count))
 }
 
-/// The least of ten times, since it waits for memory, which others use too.
-fn least_encoding(rt: &impl Clock, store: &PointedStore) -> io::Result<Duration> {
-    let mut least = encode_alone(rt, store)?.0;
-    for _ in 0..9u32 {
-        least = least.min(encode_alone(rt, store)?.0);
+/// Encodes sixteen leaves over and over, as often as there are leaves: their rows are in the processor's cache.
+fn encode_in_cache(rt: &impl Clock, store: &PointedStore) -> io::Result<(Duration, u64)> {
+    let start = Instant::now(rt)?;
+    let mut count = 0u64;
+    for _ in 0..256u32 {
+        for leaf in 0..16 {
+            count = count.wrapping_add(encode_page(store.page(leaf)));
+        }
     }
-    Ok(least)
+    Ok((start.elapsed(rt)?, count))
 }
 
 fn build<R: Clock + AllocGlobal + Threads + Sync>(
@@ -168,23 +171,69 @@ fn measure_look_ups<R: Clock + Eprint + AllocGlobal>(
     Ok(())
 }
 
+/// What was taken of one round, or the least of several.
+#[derive(Clone, Copy)]
+struct Times {
+    hashing: Duration,
+    encoding: Duration,
+    encoding_in_cache: Duration,
+    building: Duration,
+}
+
+impl Times {
+    fn least(self, other: Times) -> Times {
+        Times {
+            hashing: self.hashing.min(other.hashing),
+            encoding: self.encoding.min(other.encoding),
+            encoding_in_cache: self.encoding_in_cache.min(other.encoding_in_cache),
+            building: self.building.min(other.building),
+        }
+    }
+}
+
+fn round<R: Clock + AllocGlobal + Threads + Sync>(
+    rt: &R,
+    store: &PointedStore,
+    bytes: &[u8],
+) -> io::Result<Times> {
+    let (hashing, _) = hash_alone(rt, bytes)?;
+    let (encoding, _) = encode_alone(rt, store)?;
+    let (encoding_in_cache, _) = encode_in_cache(rt, store)?;
+    let (building, _) = build(rt, store)?;
+    Ok(Times {
+        hashing,
+        encoding,
+        encoding_in_cache,
+        building,
+    })
+}
+
 fn measure_tree<R: Clock + Eprint + AllocGlobal + Threads + Sync>(
     rt: &R,
     what: &str,
     store: &PointedStore,
 ) -> io::Result<()> {
     let bytes = encoded(rt.alloc(), store)?;
-    let mut alone = hash_alone(rt, &bytes)?.0;
-    let mut encode = least_encoding(rt, store)?;
-    let mut built = build(rt, store)?.0;
+    let mut times = round(rt, store, &bytes)?;
     for _ in 0..ROUNDS {
-        alone = alone.min(hash_alone(rt, &bytes)?.0);
-        encode = encode.min(least_encoding(rt, store)?);
-        built = built.min(build(rt, store)?.0);
+        times = times.least(round(rt, store, &bytes)?);
     }
     let _ = eprintln!(rt; "{what}: {} bytes of rows", bytes.len());
-    print_ratio(rt, "building the tree", built, "SHA-256 alone", alone);
-    print_share(rt, "encoding alone, of hashing", encode, alone);
+    let alone = times.hashing;
+    print_ratio(
+        rt,
+        "building the tree",
+        times.building,
+        "SHA-256 alone",
+        alone,
+    );
+    print_share(rt, "encoding all rows, of hashing", times.encoding, alone);
+    print_share(
+        rt,
+        "encoding rows in the cache, as many leaves",
+        times.encoding_in_cache,
+        alone,
+    );
     Ok(())
 }
 
@@ -198,8 +247,8 @@ fn measure_full_scale<R: Clock + Eprint + AllocGlobal + Threads + Sync>(rt: &R) 
 }
 
 /// A warehouse of full scale, and the database of `make 1 3000 100000`, the one let go before the other is made: each the
-/// best of twenty, the encoder of two hundred, the look-ups of five. How much faster more processors are is seen by running
-/// it on one, two and four of them.
+/// best of twenty, the look-ups of five. Encoding all rows waits for memory; so as many bytes of rows that are in the cache
+/// are encoded too. How much faster more processors are is seen by running it on one, two and four of them.
 pub fn measure<R: Clock + Eprint + AllocGlobal + Threads + Sync>(rt: &R) -> io::Result<()> {
     measure_full_scale(rt)?;
     let (_, made) = make(rt.alloc(), 1, 3000, 100_000).map_err(|_| invalid())?;
