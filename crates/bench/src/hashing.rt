@@ -33,7 +33,7 @@ fn encoded(alloc: Global, store: &PointedStore) -> io::Result<Vec<u8>> {
     let mut buffer = RowBuf::new();
     for leaf in 0..LEAVES {
         for (key, row) in store.page(leaf).iter() {
-            encode_row(key, row.row(), &mut buffer);
+            encode_row(key, row, &mut buffer);
             bytes.extend_from_slice(buffer.as_slice())?;
         }
     }
@@ -50,7 +50,7 @@ fn hash_alone(rt: &impl Clock, bytes: &[u8]) -> io::Result<(Duration, u8)> {
 fn enough_for(page: &plain::RowStore) -> usize {
     let mut bytes = 0usize;
     for (_, row) in page.iter() {
-        bytes = bytes.saturating_add(enough_bytes(row.row()));
+        bytes = bytes.saturating_add(enough_bytes(row));
     }
     bytes
 }
@@ -67,15 +67,29 @@ fn encode_page(page: &plain::RowStore) -> u64 {
             count = count.wrapping_add(waiting.as_slice().len() as u64);
             waiting.clear();
         }
-        append_row(key, row.row(), &mut waiting);
+        append_row(key, row, &mut waiting);
     }
     count.wrapping_add(waiting.as_slice().len() as u64)
+}
+
+/// Looks at the first rows of eight leaves, as the tree does.
+fn look_at_firsts(store: &PointedStore, first: usize) -> u64 {
+    let mut bytes = 0u64;
+    for leaf in first..first.saturating_add(8).min(LEAVES) {
+        if let Some((_, row)) = store.page(leaf).iter().next() {
+            bytes = bytes.wrapping_add(enough_bytes(row) as u64);
+        }
+    }
+    bytes
 }
 
 fn encode_alone(rt: &impl Clock, store: &PointedStore) -> io::Result<(Duration, u64)> {
     let start = Instant::now(rt)?;
     let mut count = 0u64;
     for leaf in 0..LEAVES {
+        if leaf % 8 == 0 {
+            count = count.wrapping_add(look_at_firsts(store, leaf));
+        }
         count = count.wrapping_add(encode_page(store.page(leaf)));
     }
     Ok((start.elapsed(rt)?, count))
@@ -140,8 +154,9 @@ fn in_one_map(alloc: Global, store: &PointedStore) -> io::Result<plain::RowStore
     let mut rows = plain::RowStore::new(alloc);
     for leaf in 0..LEAVES {
         for (key, row) in store.page(leaf).iter() {
-            if fits(key, row.row()) {
-                rows.put(*key, row.row().copied()).map_err(|_| invalid())?;
+            if fits(key, row) {
+                let row = row.copied().map_err(|_| invalid())?;
+                rows.put(*key, row).map_err(|_| invalid())?;
             }
         }
     }

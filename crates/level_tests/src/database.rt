@@ -127,7 +127,7 @@ impl Database {
 fn push_page(page: &plain::RowStore, bytes: &mut Vec<u8>) -> Result<(), Memory> {
     let mut buffer = RowBuf::new();
     for (key, row) in page.iter() {
-        encode_row(key, row.row(), &mut buffer);
+        encode_row(key, row, &mut buffer);
         bytes.extend_from_slice(buffer.as_slice())?;
     }
     Ok(())

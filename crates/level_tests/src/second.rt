@@ -142,7 +142,7 @@ impl Books {
 
     fn take_page(&mut self, page: &plain::RowStore) -> Result<(), Memory> {
         for (key, row) in page.iter() {
-            self.take(key, row.row())?;
+            self.take(key, row)?;
         }
         Ok(())
     }

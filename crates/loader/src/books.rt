@@ -202,7 +202,7 @@ pub(crate) fn books_of(rows: &RowStore) -> Books
     let mut books = [Book::EMPTY; 1011];
     let _count = rows.len();
     for (key, row) in rows.iter() {
-        enter(&mut books, key, row.row());
+        enter(&mut books, key, row);
     }
     books
 }

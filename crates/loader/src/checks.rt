@@ -184,7 +184,7 @@ fn parents_there(catalog: &Catalog, rows: &RowStore) -> bool
         }
     }
     for (row_key, row) in rows.iter() {
-        if !row_has_parents(catalog, rows, row_key, row.row()) {
+        if !row_has_parents(catalog, rows, row_key, row) {
             return false;
         }
     }
@@ -219,7 +219,7 @@ fn district_sums(rows: &RowStore) -> Sums
     let mut sums = [0i128; 101];
     let _count = rows.len();
     for (key, row) in rows.iter() {
-        add_share(&mut sums, key, row.row());
+        add_share(&mut sums, key, row);
     }
     sums
 }
@@ -243,7 +243,7 @@ fn ytds_agree(rows: &RowStore) -> bool
 {
     let sums = district_sums(rows);
     for (key, row) in rows.iter() {
-        if !ytd_agrees(&sums, rows, key, row.row()) {
+        if !ytd_agrees(&sums, rows, key, row) {
             return false;
         }
     }

@@ -30,7 +30,8 @@ pub(crate) fn next_orders_agree(books: &Books, rows: &RowStore) -> bool
     requires { AreBooks books.now rows.now }
     ensures { result ≡ next_orders_agree rows.now }
 {
-    rows.iter().all(|(key, row)| next_order_agrees(books, rows, key, row.row()))
+    rows.iter()
+        .all(|(key, row)| next_order_agrees(books, rows, key, row))
 }
 
 fn span_agrees(books: &Books, rows: &RowStore, key: &RowKey, row: &Row) -> bool
@@ -56,7 +57,7 @@ pub(crate) fn spans_agree(books: &Books, rows: &RowStore) -> bool
     ensures { result ≡ spans_agree rows.now }
 {
     rows.iter()
-        .all(|(key, row)| span_agrees(books, rows, key, row.row()))
+        .all(|(key, row)| span_agrees(books, rows, key, row))
 }
 
 fn line_count_agrees(books: &Books, rows: &RowStore, key: &RowKey, row: &Row) -> bool
@@ -81,5 +82,6 @@ pub(crate) fn line_counts_agree(books: &Books, rows: &RowStore) -> bool
     requires { AreBooks books.now rows.now }
     ensures { result ≡ line_counts_agree rows.now }
 {
-    rows.iter().all(|(key, row)| line_count_agrees(books, rows, key, row.row()))
+    rows.iter()
+        .all(|(key, row)| line_count_agrees(books, rows, key, row))
 }

@@ -22,6 +22,7 @@ use tpcc_rows::row::Row;
 pub(crate) struct Tables {
     pub(crate) cards: CatalogBuilder,
     pub(crate) rows: RowStore,
+    alloc: Global,
 }
 
 /// The rows on the pages of their leaves, of which none has changed, without a point.
@@ -42,6 +43,7 @@ impl Tables {
         Tables {
             cards: CatalogBuilder::new(alloc),
             rows: RowStore::new(alloc),
+            alloc,
         }
     }
 
@@ -101,7 +103,8 @@ impl Tables {
                     district: card.district,
                     customer: card.customer,
                 };
-                self.add_both(Card::Customer(card), key, Row::Customer(row))
+                let row = Row::of_customer(self.alloc, row)?;
+                self.add_both(Card::Customer(card), key, row)
             }
             ImageRecord::Item { card } => self.cards.add(Card::Item(card)),
             ImageRecord::Stock { card, row } => {

@@ -72,24 +72,40 @@ impl Gathered {
     }
 }
 
-/// How many bytes suffice for the rows of a page. All rows are looked at here, right after each other, before the first is
-/// encoded: so they come from memory together, where the encoder would wait for each of them in its turn.
+/// How many bytes suffice for the rows of a page. A customer's row stands in a place of its own. Those of the page are looked
+/// at here, right after each other, before the first is encoded: so they come from memory together, where the encoder
+/// would wait for each of them in its turn.
 fn enough_for(page: &RowStore) -> usize {
     let mut bytes = 0usize;
     for (_, row) in page.iter() {
-        bytes = bytes.saturating_add(enough_bytes(row.row()));
+        bytes = bytes.saturating_add(enough_bytes(row));
     }
     bytes
+}
+
+/// How many bytes suffice for the first row of a page.
+pub(crate) fn enough_for_first(page: &RowStore) -> usize {
+    match page.iter().next() {
+        Some((_, row)) => enough_bytes(row),
+        None => 0,
+    }
 }
 
 /// The hash of a leaf, of its rows in key order.
 pub fn hash_leaf(page: &RowStore) -> [u8; 32]
     ensures { result ≡ sha256 (0 ∷ rows_bytes (map.entries page.now)) }
 {
+    hash_with_room(page, 0)
+}
+
+/// The hash of a leaf, whose buffer first makes room for so many bytes more than suffice, which no hash depends on.
+pub(crate) fn hash_with_room(page: &RowStore, more: usize) -> [u8; 32]
+    ensures { result ≡ sha256 (0 ∷ rows_bytes (map.entries page.now)) }
+{
     let mut gathered = Gathered::of_leaf();
-    gathered.make_room(enough_for(page));
+    gathered.make_room(enough_for(page).saturating_add(more));
     for (key, row) in page.iter() {
-        gathered.push_row(key, row.row());
+        gathered.push_row(key, row);
     }
     gathered.finish()
 }

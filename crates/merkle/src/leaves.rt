@@ -3,7 +3,7 @@ ghost use Rattle.std.specs.Prelude.{◌≡◌, ◌<◌, length, IfOk};
 ghost use Rattle.merkle.specs.Nodes.{IsOf};
 ghost use Rattle.tpcc_model.specs.Roots.{leaf_hash};
 
-use crate::hashing::hash_leaf;
+use crate::hashing::{enough_for_first, hash_with_room};
 use rayon::prelude::*;
 use rollback::PointedStore;
 use std::alloc::{AllocError, Global};
@@ -13,8 +13,36 @@ use tpcc_rows::codes::LEAVES;
 /// How many leaves one thread takes at least: few enough that all threads have work to the end.
 const LEAVES_AT_ONCE: usize = 64;
 
-/// The hashes of all leaves, from as many threads as there are processors.
+/// How many leaves have their first rows looked at together.
+const TOGETHER: usize = 8;
+
+/// How many bytes suffice for the first rows of the leaves from this one on. To find the rows of a leaf is to follow a few
+/// pointers one after the other; those of several leaves are followed here together, before the first is hashed.
+fn enough_for_firsts(store: &PointedStore, first: usize) -> usize
+    requires { first < 4096 }
+{
+    let mut bytes = 0usize;
+    for n in first..(first + TOGETHER).min(LEAVES) {
+        bytes = bytes.saturating_add(enough_for_first(store.page(n)));
+    }
+    bytes
+}
+
+/// The hash of a leaf.
 #[tactic(auto, unfolding(tpcc_model::specs::Roots::leaf_hash))]
+fn nth_hash(store: &PointedStore, n: usize) -> [u8; 32]
+    requires { n < 4096 }
+    ensures { result ≡ leaf_hash store.now.rows n }
+{
+    let more = if n % TOGETHER == 0 {
+        enough_for_firsts(store, n)
+    } else {
+        0
+    };
+    hash_with_room(store.page(n), more)
+}
+
+/// The hashes of all leaves, from as many threads as there are processors.
 pub(crate) fn leaf_hashes<R: Threads + Sync>(
     rt: &R,
     alloc: Global,
@@ -30,7 +58,7 @@ pub(crate) fn leaf_hashes<R: Threads + Sync>(
             |n: usize| -> [u8; 32]
                 requires { n < 4096 }
                 ensures { result ≡ leaf_hash store.entry.now.rows n }
-            { hash_leaf(store.page(n)) },
+            { nth_hash(store, n) },
         )
         .collect(rt, alloc)
 }

@@ -10,13 +10,13 @@ use tpcc_rows::codes::{LEAVES, leaf};
 use tpcc_rows::key::RowKey;
 use tpcc_rows::memory::Memory;
 use tpcc_rows::plain;
-use tpcc_rows::stored::StoredRow;
+use tpcc_rows::row::Row;
 
 /// A list of rows for each leaf. A page made of a whole list has full nodes next to each other, where one that took the
 /// same rows one by one, between those of other pages, would have half filled ones wherever there was room.
 #[derive(Drop)]
 pub(crate) struct LeafLists {
-    lists: Vec<Vec<(RowKey, StoredRow)>>,
+    lists: Vec<Vec<(RowKey, Row)>>,
 }
 
 impl Model for LeafLists {
@@ -46,7 +46,7 @@ impl LeafLists {
     }
 
     /// The key has this row from now on.
-    pub(crate) fn push(&mut self, key: RowKey, row: StoredRow) -> Result<(), Memory>
+    pub(crate) fn push(&mut self, key: RowKey, row: Row) -> Result<(), Memory>
         requires { fits key row ≡ true }
         ensures ok { OnOk result (self.new ≡ map.insert self.old key row) }
         ensures err { OnErr result (self.new ≡ self.old) }

@@ -16,13 +16,11 @@ use tpcc_rows::key::RowKey;
 use tpcc_rows::memory::Memory;
 use tpcc_rows::plain;
 use tpcc_rows::row::{CustomerRow, DistrictRow, Row, WarehouseRow};
-use tpcc_rows::stored::StoredRow;
 
 /// A finite map from keys to rows, each row of its key's kind and on the page of its key's leaf.
 #[derive(Drop)]
 pub struct RowStore {
     pages: Vec<plain::RowStore>,
-    alloc: Global,
 }
 
 impl Model for RowStore {
@@ -48,7 +46,7 @@ impl RowStore {
         for _ in 0..LEAVES {
             pages.push(plain::RowStore::new(alloc))?;
         }
-        Ok(RowStore { pages, alloc })
+        Ok(RowStore { pages })
     }
 
     /// The rows of a plain store, each moved to its page.
@@ -60,10 +58,10 @@ impl RowStore {
             lists.push(key, row)?;
         }
         let pages = lists.into_pages(alloc)?;
-        Ok(RowStore { pages, alloc })
+        Ok(RowStore { pages })
     }
 
-    /// A store with the same rows, each copied once.
+    /// A store with the same rows.
     pub fn copied(&self, alloc: Global) -> Result<RowStore, Memory>
         ensures { IfOk result (λ store. store ≡ self.now) }
     {
@@ -71,7 +69,7 @@ impl RowStore {
         for page in &self.pages {
             pages.push(page.copied(alloc)?)?;
         }
-        Ok(RowStore { pages, alloc })
+        Ok(RowStore { pages })
     }
 
     pub fn get(&self, key: &RowKey) -> Option<&Row>
@@ -81,24 +79,15 @@ impl RowStore {
         self.pages[leaf(key)].get(key)
     }
 
-    fn put_stored(&mut self, key: RowKey, row: StoredRow) -> Result<(), Memory>
-        requires { fits key row ≡ true }
-        ensures ok { OnOk result (self.new ≡ map.insert self.old key row) }
-        ensures err { OnErr result (self.new ≡ self.old) }
-    {
-        let n = leaf(&key);
-        let page = &mut self.pages[n];
-        page.put_stored(key, row)
-    }
-
     /// The key has this row from now on.
     pub fn put(&mut self, key: RowKey, row: Row) -> Result<(), Memory>
         requires { fits key row ≡ true }
         ensures ok { OnOk result (self.new ≡ map.insert self.old key row) }
         ensures err { OnErr result (self.new ≡ self.old) }
     {
-        let row = StoredRow::new(self.alloc, row)?;
-        self.put_stored(key, row)
+        let n = leaf(&key);
+        let page = &mut self.pages[n];
+        page.put(key, row)
     }
 
     /// The key has no row from now on; the answer is the one that it had.

@@ -161,7 +161,7 @@ impl PointedStore {
         ensures clean { KeepsCleanLeaves self.old self.new }
     {
         match new_row {
-            Some(row) => self.put(*key, row.copied()),
+            Some(row) => self.put(*key, row.copied()?),
             None => {
                 let _ = self.remove(key);
                 Ok(())

@@ -118,7 +118,7 @@ fn body(row: &Row, out: &mut Vec<u8>) -> Result<(), Memory> {
             out.extend_from_slice(&row.ytd.amount().to_be_bytes())?;
             out.extend_from_slice(&row.next_order.number().to_be_bytes())?;
         }
-        Row::Customer(row) => customer(row, out)?,
+        Row::Customer(shared) => customer(shared.row(), out)?,
         Row::Stock(row) => stock(row, out)?,
         Row::Order(row) => order(row, out)?,
         Row::NewOrder => {}

@@ -21,7 +21,7 @@ pub fn hash(text: &str) -> Result<[u8; 32], Fail> {
 fn stored(alloc: Global, pairs: &Pairs) -> Result<PointedStore, Fail> {
     let mut rows = RowStore::new(alloc)?;
     for (key, row) in pairs {
-        let row = row.copied();
+        let row = row.copied()?;
         if fits(key, &row) {
             rows.put(*key, row)?;
         }

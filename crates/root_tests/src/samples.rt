@@ -42,6 +42,7 @@ pub fn district(place: Place, ytd: i64, next: u32) -> Option<Pair> {
 
 /// A customer with a balance and payments, and the numbers of its payments and deliveries.
 pub fn customer(
+    alloc: Global,
     place: Place,
     number: u16,
     money: (i64, i64),
@@ -60,7 +61,7 @@ pub fn customer(
         delivery_count: Count::new(counts.1)?,
         data: Text::parse(data)?,
     };
-    Some((key, Row::Customer(row)))
+    Some((key, Row::of_customer(alloc, row).ok()?))
 }
 
 pub fn stock(warehouse: u8, item: u32, quantity: i16, counts: (u32, u32, u32)) -> Option<Pair> {
@@ -166,7 +167,9 @@ pub fn every_kind(alloc: Global) -> Result<Pairs, Fail> {
     let mut pairs = Vec::new(alloc);
     pairs.push(warehouse(2, 30_000_000).ok_or("a warehouse")?)?;
     pairs.push(district((2, 3), 3_000_000, 3_001).ok_or("a district")?)?;
-    pairs.push(customer((2, 3), 45, (-1_000, 2_000), (3, 4), b"hello").ok_or("a customer")?)?;
+    pairs.push(customer(alloc, (2, 3), 45, (-1_000, 2_000), (3, 4), b"hello").ok_or(
+        "a customer",
+    )?)?;
     pairs.push(stock(2, 99_999, -7, (8, 9, 10)).ok_or("a stock")?)?;
     pairs.push(order((2, 3), 3_000, 45, 1_700_000_000, 10, 15).ok_or("an order")?)?;
     pairs.push(order((2, 3), 3_001, 44, 0, 0, 5).ok_or("an order")?)?;
@@ -206,7 +209,7 @@ pub fn one_leaf(alloc: Global) -> Result<Pairs, Fail> {
     pairs.push(stock(2, 2_775, 4, (5, 6, 7)).ok_or("a stock")?)?;
     pairs.push(stock(1, 4_092, 3, (2, 1, 0)).ok_or("a stock")?)?;
     pairs.push(stock(1, 1_508, 1, (2, 3, 4)).ok_or("a stock")?)?;
-    pairs.push(customer((2, 1), 56, (1, 2), (3, 4), b"").ok_or("a customer")?)?;
+    pairs.push(customer(alloc, (2, 1), 56, (1, 2), (3, 4), b"").ok_or("a customer")?)?;
     Ok(pairs)
 }
 
@@ -218,7 +221,14 @@ pub fn long_leaf(alloc: Global) -> Result<Pairs, Fail> {
         for district in 1..11 {
             for number in 1..3001 {
                 let counts = (u32::from(number), 0);
-                let pair = customer((warehouse, district), number, (-5, 5), counts, &[b'x'; 500]);
+                let pair = customer(
+                    alloc,
+                    (warehouse, district),
+                    number,
+                    (-5, 5),
+                    counts,
+                    &[b'x'; 500],
+                );
                 let pair = pair.ok_or("a customer")?;
                 if leaf(&pair.0) == 7 {
                     pairs.push(pair)?;
@@ -252,7 +262,14 @@ fn random_pair(dice: &mut Dice, alloc: Global) -> Result<Option<Pair>, Fail> {
     Ok(match dice.below(8) {
         0 => warehouse(place.0, money),
         1 => district(place, money, number),
-        2 => customer(place, customer_number, (money, -money), counts, &text),
+        2 => customer(
+            alloc,
+            place,
+            customer_number,
+            (money, -money),
+            counts,
+            &text,
+        ),
         3 => stock(place.0, number, -5, (counts.0, counts.1, 3)),
         4 => order(place, number, customer_number, moment, place.1 - 1, lines),
         5 => new_order(place, number),

@@ -130,7 +130,7 @@ fn push_row<const N: usize>(row: &Row, out: &mut ByteBuf<N>)
     match row {
         Row::Warehouse(row) => push_warehouse(row, out),
         Row::District(row) => push_district(row, out),
-        Row::Customer(row) => push_customer(row, out),
+        Row::Customer(shared) => push_customer(shared.row(), out),
         Row::Stock(row) => push_stock(row, out),
         Row::Order(row) => push_order(row, out),
         Row::NewOrder => out.push_16(0),
@@ -162,10 +162,10 @@ fn append_customer_or_any<const N: usize>(key: &RowKey, row: &Row, out: &mut Byt
                 district,
                 customer,
             },
-            Row::Customer(row),
+            Row::Customer(shared),
         ) => {
             out.push_64(customer_code(*warehouse, *district, *customer));
-            push_customer(row, out);
+            push_customer(shared.row(), out);
         }
         _ => append_any(key, row, out),
     }
@@ -207,14 +207,14 @@ pub fn encode_row(key: &RowKey, row: &Row, out: &mut RowBuf)
     append_row(key, row, out);
 }
 
-/// How many bytes suffice for a row of its kind, whatever its key and its texts.
+/// How many bytes suffice for a row, whatever its key; of a customer's, whose text is long, as many as it has.
 #[tactic(auto, using(crate::proofs::Lengths::lengths), unfolding(crate::specs::Encodings::row_bytes))]
 pub fn enough_bytes(row: &Row) -> usize
     ensures enough { (k : RowKey) → length (row_bytes k row.now) ≤ result }
     ensures small { result ≤ 536 }
 {
     match row {
-        Row::Customer(row) => 36 + row.data.capacity(),
+        Row::Customer(shared) => 36 + shared.row().data.as_bytes().len(),
         Row::OrderLine(row) => 30 + row.district_info.capacity(),
         Row::History(row) => 30 + row.data.capacity(),
         _ => 54,

@@ -3,6 +3,7 @@
 #![tactic(auto)]
 
 pub mod codes;
+pub mod customer;
 pub mod delta;
 pub mod encoding;
 pub mod footprint;
@@ -16,7 +17,6 @@ pub mod plain;
 pub mod row;
 pub mod row_buf;
 mod searching;
-pub mod stored;
 #[cfg(test)]
 mod tests;
 pub mod text;

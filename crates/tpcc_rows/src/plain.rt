@@ -14,7 +14,6 @@ use crate::key::RowKey;
 use crate::memory::Memory;
 use crate::row::{CustomerRow, DistrictRow, Row, WarehouseRow};
 use crate::searching::{larger, lesser, new_pick, order_pick};
-use crate::stored::StoredRow;
 use std::alloc::Global;
 use std::collections::BTreeMap;
 use std::collections::btree_map::{IntoIter, Iter};
@@ -23,8 +22,7 @@ use std::marker::Model;
 /// A finite map from keys to rows, each row of its key's kind.
 #[derive(Drop)]
 pub struct RowStore {
-    rows: BTreeMap<RowKey, StoredRow>,
-    alloc: Global,
+    rows: BTreeMap<RowKey, Row>,
 }
 
 impl Model for RowStore {
@@ -48,41 +46,23 @@ impl RowStore {
     {
         RowStore {
             rows: BTreeMap::new(alloc),
-            alloc,
         }
     }
 
     /// The rows of a list. Of a key's the last one stays.
-    pub fn from_rows(alloc: Global, rows: Vec<(RowKey, StoredRow)>) -> Result<RowStore, Memory>
+    pub fn from_rows(alloc: Global, rows: Vec<(RowKey, Row)>) -> Result<RowStore, Memory>
         requires { list_all (λ row. fits row.0 row.1) rows.items ≡ true }
         ensures { IfOk result (λ store. store ≡ with_each rows.items map.empty) }
     {
         let rows = rows.into_iter().collect(alloc)?;
-        Ok(RowStore { rows, alloc })
-    }
-
-    fn stored(&self, key: &RowKey) -> Option<&StoredRow>
-        ensures value { option_copied result ≡ map.get self.now key.now }
-        ensures kind { IfSome (option_copied result) (λ row. fits key.now row ≡ true) }
-    {
-        self.rows.get(key)
+        Ok(RowStore { rows })
     }
 
     pub fn get(&self, key: &RowKey) -> Option<&Row>
         ensures value { option_copied result ≡ map.get self.now key.now }
         ensures kind { IfSome (option_copied result) (λ row. fits key.now row ≡ true) }
     {
-        Some(self.stored(key)?.row())
-    }
-
-    /// Puts a row that another store gave away.
-    pub fn put_stored(&mut self, key: RowKey, row: StoredRow) -> Result<(), Memory>
-        requires { fits key row ≡ true }
-        ensures ok { OnOk result (self.new ≡ map.insert self.old key row) }
-        ensures err { OnErr result (self.new ≡ self.old) }
-    {
-        self.rows.insert(key, row)?;
-        Ok(())
+        self.rows.get(key)
     }
 
     /// The key has this row from now on.
@@ -91,15 +71,8 @@ impl RowStore {
         ensures ok { OnOk result (self.new ≡ map.insert self.old key row) }
         ensures err { OnErr result (self.new ≡ self.old) }
     {
-        let row = StoredRow::new(self.alloc, row)?;
-        self.put_stored(key, row)
-    }
-
-    fn remove_stored(&mut self, key: &RowKey) -> Option<StoredRow>
-        ensures value { result ≡ map.get self.old key.now }
-        ensures after { self.new ≡ map.remove self.old key.now }
-    {
-        self.rows.remove(key)
+        self.rows.insert(key, row)?;
+        Ok(())
     }
 
     /// The key has no row from now on; the answer is the one that it had.
@@ -107,16 +80,16 @@ impl RowStore {
         ensures value { result ≡ map.get self.old key.now }
         ensures after { self.new ≡ map.remove self.old key.now }
     {
-        Some(self.remove_stored(key)?.into_row())
+        self.rows.remove(key)
     }
 
-    /// A store with the same rows, each copied once.
+    /// A store with the same rows.
     pub fn copied(&self, alloc: Global) -> Result<RowStore, Memory>
         ensures { IfOk result (λ store. store ≡ self.now) }
     {
         let mut rows = Vec::with_capacity(alloc, self.rows.len())?;
         for (key, row) in self.rows.iter() {
-            rows.push((*key, row.copied(alloc)?))?;
+            rows.push((*key, row.copied()?))?;
         }
         RowStore::from_rows(alloc, rows)
     }
@@ -130,14 +103,14 @@ impl RowStore {
     }
 
     /// The rows in key order.
-    pub fn iter(&self) -> Iter<'_, RowKey, StoredRow>
+    pub fn iter(&self) -> Iter<'_, RowKey, Row>
         ensures { result ≡ map.entries self.now }
     {
         self.rows.iter()
     }
 
     /// The rows in key order, given away.
-    pub fn into_rows(self) -> IntoIter<RowKey, StoredRow, Global>
+    pub fn into_rows(self) -> IntoIter<RowKey, Row, Global>
         ensures all { result ≡ map.entries self }
         ensures kinds { list_all (λ row. fits row.0 row.1) (map.entries self) ≡ true }
     {
@@ -183,7 +156,7 @@ impl RowStore {
     {
         let mut oldest = None;
         for (key, row) in self.iter() {
-            if let Some(order) = new_pick(warehouse, district, key, row.row()) {
+            if let Some(order) = new_pick(warehouse, district, key, row) {
                 oldest = Some(lesser(order, oldest));
             }
         }
@@ -201,7 +174,7 @@ impl RowStore {
     {
         let mut latest = None;
         for (key, row) in self.iter() {
-            if let Some(order) = order_pick(warehouse, district, customer, key, row.row()) {
+            if let Some(order) = order_pick(warehouse, district, customer, key, row) {
                 latest = Some(larger(order, latest));
             }
         }
@@ -214,7 +187,7 @@ impl RowStore {
         ensures err { OnErr result (self.new ≡ self.old) }
     {
         match new_row {
-            Some(row) => self.put(*key, row.copied()),
+            Some(row) => self.put(*key, row.copied()?),
             None => {
                 let _ = self.remove(key);
                 Ok(())

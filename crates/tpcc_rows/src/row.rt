@@ -1,12 +1,16 @@
 //! The moving columns of the tables (TPC-C clause 1.3, split as clause 1.4 allows). The columns that never change
 //! are the cards of the catalog.
-ghost use Rattle.std.specs.Prelude.{◌≡◌, option_copied};
+ghost use Rattle.std.specs.Prelude.{◌≡◌, IfOk, option_copied};
+ghost use Rattle.tpcc_rows.specs.declared.row.Row.TheVariants.{Customer};
 ghost use Rattle.tpcc_rows.specs.RowKinds.{as_customer, as_district, as_order, as_order_line, as_stock, as_warehouse, fits};
 
+use crate::customer::SharedCustomer;
 use crate::id::{CustomerId, DistrictId, ItemId, LineNumber, OrderId, WarehouseId};
 use crate::key::RowKey;
+use crate::memory::Memory;
 use crate::number::{Amount, Carrier, Cents, Count, LineQuantity, Moment, StockQuantity};
 use crate::text::Text;
+use std::alloc::Global;
 
 /// W_YTD.
 #[derive(Clone, Copy, Debug, PartialEq, Eq)]
@@ -79,27 +83,12 @@ pub struct HistoryRow {
 pub enum Row {
     Warehouse(WarehouseRow),
     District(DistrictRow),
-    Customer(CustomerRow),
+    Customer(SharedCustomer),
     Stock(StockRow),
     Order(OrderRow),
     NewOrder,
     OrderLine(OrderLineRow),
     History(HistoryRow),
-}
-
-impl CustomerRow {
-    /// An equal row.
-    pub fn copied(&self) -> CustomerRow
-        ensures { result ≡ self.now }
-    {
-        CustomerRow {
-            balance: self.balance,
-            ytd_payment: self.ytd_payment,
-            payment_count: self.payment_count,
-            delivery_count: self.delivery_count,
-            data: self.data.copied(),
-        }
-    }
 }
 
 impl OrderLineRow {
@@ -137,6 +126,13 @@ impl HistoryRow {
 }
 
 impl Row {
+    /// A customer's row, in a place of its own.
+    pub fn of_customer(alloc: Global, row: CustomerRow) -> Result<Row, Memory>
+        ensures { IfOk result (λ made. made ≡ Customer row) }
+    {
+        Ok(Row::Customer(SharedCustomer::new(alloc, row)?))
+    }
+
     pub fn as_warehouse(&self) -> Option<&WarehouseRow>
         ensures { option_copied result ≡ as_warehouse self.now }
     {
@@ -159,7 +155,7 @@ impl Row {
         ensures { option_copied result ≡ as_customer self.now }
     {
         match self {
-            Row::Customer(row) => Some(row),
+            Row::Customer(shared) => Some(shared.row()),
             _ => None,
         }
     }
@@ -191,20 +187,20 @@ impl Row {
         }
     }
 
-    /// An equal row.
-    pub fn copied(&self) -> Row
-        ensures { result ≡ self.now }
+    /// An equal row, without memory. It is refused where 2^63 copies share a customer's row.
+    pub fn copied(&self) -> Result<Row, Memory>
+        ensures { IfOk result (λ copy. copy ≡ self.now) }
     {
-        match self {
+        Ok(match self {
             Row::Warehouse(row) => Row::Warehouse(*row),
             Row::District(row) => Row::District(*row),
-            Row::Customer(row) => Row::Customer(row.copied()),
+            Row::Customer(row) => Row::Customer(row.copied()?),
             Row::Stock(row) => Row::Stock(*row),
             Row::Order(row) => Row::Order(*row),
             Row::NewOrder => Row::NewOrder,
             Row::OrderLine(row) => Row::OrderLine(row.copied()),
             Row::History(row) => Row::History(row.copied()),
-        }
+        })
     }
 }
 

@@ -9,7 +9,7 @@ use crate::number::{
     Amount, Carrier, Cents, Count, LineQuantity, Moment, Price, Rate, StockQuantity,
 };
 use crate::plain::RowStore;
-use crate::row::{OrderRow, Row, WarehouseRow, fits};
+use crate::row::{CustomerRow, OrderRow, Row, WarehouseRow, fits};
 use crate::text::Text;
 use std::test::Fail;
 
@@ -96,6 +96,24 @@ fn changes(rt: HostRuntime) -> Result<(), Fail> {
 fn ytd_of(store: &RowStore, key: &RowKey) -> Option<i64> {
     let row = store.get(key)?.as_warehouse()?;
     Some(row.ytd.amount())
+}
+
+#[test]
+fn a_copied_customer_stays(rt: HostRuntime) -> Result<(), Fail> {
+    let row = CustomerRow {
+        balance: Cents::new(-1000).ok_or("money")?,
+        ytd_payment: Cents::new(1000).ok_or("money")?,
+        payment_count: Count::new(1).ok_or("a count")?,
+        delivery_count: Count::new(0).ok_or("a count")?,
+        data: Text::parse(b"data").ok_or("a text")?,
+    };
+    let row = Row::of_customer(rt.alloc(), row)?;
+    let copy = row.copied()?;
+    drop(row);
+    let customer = copy.as_customer().ok_or("a customer")?;
+    assert_eq!(rt; customer.balance.amount(), -1000);
+    assert_eq!(rt; customer.data.as_bytes(), b"data".as_slice());
+    Ok(())
 }
 
 #[test]

@@ -31,7 +31,7 @@ fn larger_store(alloc: Global) -> Result<PointedStore, Fail> {
     };
     store.put(key, Row::Warehouse(row))?;
     for number in 3..46u16 {
-        put_customer(&mut store, district(1)?, number, -1_000)?;
+        put_customer(alloc, &mut store, district(1)?, number, -1_000)?;
     }
     Ok(store)
 }

@@ -158,6 +158,7 @@ fn carried(
 
 #[tactic(auto, unfolding(tpcc_model::specs::Deliveries::order_delivered))]
 fn order_delivered<V: RowView>(
+    alloc: Global,
     view: &V,
     p: &Delivery,
     moment: Moment,
@@ -180,12 +181,13 @@ fn order_delivered<V: RowView>(
         district,
         customer: row.customer,
     };
-    changes.put(customer_key, Row::Customer(new))?;
+    changes.put(customer_key, Row::of_customer(alloc, new)?)?;
     Ok(())
 }
 
 /// A district without a new order is skipped.
 fn oldest_delivered<V: RowView>(
+    alloc: Global,
     view: &V,
     p: &Delivery,
     moment: Moment,
@@ -196,7 +198,7 @@ fn oldest_delivered<V: RowView>(
     ensures { AnswersBy (λ done. changes.new) (oldest_delivered (lent (V.sees view.now)) p.now moment district oldest changes.old) result }
 {
     match oldest {
-        Some(order) => order_delivered(view, p, moment, district, order, changes),
+        Some(order) => order_delivered(alloc, view, p, moment, district, order, changes),
         None => Ok(()),
     }
 }
@@ -272,6 +274,7 @@ fn oldest_orders<V: RowView>(view: &V, p: &Delivery) -> Result<[Option<OrderId>;
 
 /// The districts in turn, each on the rows as the earlier ones leave them.
 fn districts_delivered<V: RowView>(
+    alloc: Global,
     view: &V,
     p: &Delivery,
     moment: Moment,
@@ -282,7 +285,7 @@ fn districts_delivered<V: RowView>(
     ensures { AnswersBy (λ done. changes.new) (districts_delivered (lent (V.sees view.now)) p.now moment ten changes.old) result }
 {
     for (index, district) in DistrictId::all().iter().enumerate() {
-        oldest_delivered(view, p, moment, *district, orders[index], changes)?;
+        oldest_delivered(alloc, view, p, moment, *district, orders[index], changes)?;
     }
     Ok(())
 }
@@ -300,7 +303,7 @@ fn delivery<V: RowView>(
     catalog.warehouse(p.warehouse).ok_or(Refusal::UnknownKey)?;
     let orders = oldest_orders(view, p)?;
     let mut changes = Delta::new(alloc);
-    districts_delivered(view, p, moment, &orders, &mut changes)?;
+    districts_delivered(alloc, view, p, moment, &orders, &mut changes)?;
     Ok((DeliveryReply { orders }, changes))
 }
 

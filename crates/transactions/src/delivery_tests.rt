@@ -131,7 +131,7 @@ fn one_limit_refuses_all(rt: HostRuntime) -> Result<(), Fail> {
     let mut store = small_store(alloc, 1)?;
     order(alloc, &catalog, &mut store, 1, 1)?;
     order(alloc, &catalog, &mut store, 10, 1)?;
-    put_customer(&mut store, district(10)?, 1, 999_999_999_998_501)?;
+    put_customer(alloc, &mut store, district(10)?, 1, 999_999_999_998_501)?;
     let rows = store.len();
     let text = answer(alloc, &catalog, &mut store, 3, &delivery(1, 3)?)?;
     let want: &[u8] = b"3,delivery,refused,3,Limit reached\n";
@@ -141,7 +141,7 @@ fn one_limit_refuses_all(rt: HostRuntime) -> Result<(), Fail> {
         (balance(&store, 1, 1)?, carrier(&store, 1, 1)?),
         ((-1_000, 0), None)
     );
-    put_customer(&mut store, district(10)?, 1, 999_999_999_998_500)?;
+    put_customer(alloc, &mut store, district(10)?, 1, 999_999_999_998_500)?;
     let text = answer(alloc, &catalog, &mut store, 4, &delivery(1, 3)?)?;
     let want: &[u8] = b"4,delivery,ok,1,-,-,-,-,-,-,-,-,1\n";
     assert_eq!(rt; text.as_slice(), want);

@@ -260,7 +260,7 @@ fn payment_changes(
         district: p.customer_district,
         customer: rows.customer_id,
     };
-    delta.put(customer, Row::Customer(rows.customer))?;
+    delta.put(customer, Row::of_customer(alloc, rows.customer)?)?;
     delta.put(RowKey::History { number }, Row::History(rows.history))?;
     Ok(delta)
 }

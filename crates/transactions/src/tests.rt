@@ -140,6 +140,7 @@ fn put_district(
 
 /// The customer's row, with this balance.
 pub(crate) fn put_customer(
+    alloc: Global,
     store: &mut PointedStore,
     district: DistrictId,
     number: u16,
@@ -157,7 +158,7 @@ pub(crate) fn put_customer(
         delivery_count: count(0)?,
         data: Text::new(),
     };
-    store.put(key, Row::Customer(row))?;
+    store.put(key, Row::of_customer(alloc, row)?)?;
     Ok(())
 }
 
@@ -166,8 +167,8 @@ pub(crate) fn small_store(alloc: Global, next_order: u32) -> Result<PointedStore
     let mut store = PointedStore::new(alloc, RowStore::new(alloc)?);
     for district in DistrictId::all() {
         put_district(&mut store, district, next_order)?;
-        put_customer(&mut store, district, 1, -1_000)?;
-        put_customer(&mut store, district, 2, -1_000)?;
+        put_customer(alloc, &mut store, district, 1, -1_000)?;
+        put_customer(alloc, &mut store, district, 2, -1_000)?;
     }
     for number in 1..21u8 {
         let row = StockRow {

@@ -2,15 +2,16 @@
 //! the answer is that of ample memory.
 use super::values::{LEAF, one_leaf, row_of};
 use crate::RowStore;
+use std::alloc::Global;
 use tpcc_rows::key::RowKey;
 use tpcc_rows::memory::Memory;
 use tpcc_rows::plain;
 use tpcc_rows::row::fits;
 
-fn put(store: &mut RowStore, key: RowKey) -> Result<(), Memory> {
-    match row_of(&key) {
+fn put(alloc: Global, store: &mut RowStore, key: RowKey) -> Result<(), Memory> {
+    match row_of(alloc, &key) {
         Some(row) if fits(&key, &row) => store.put(key, row),
-        _ => Ok(()),
+        _ => Err(Memory),
     }
 }
 
@@ -21,7 +22,7 @@ fn put_or_refused(rt: HostRuntime) {
     };
     for key in keys {
         let before = store.page(LEAF).len();
-        match put(&mut store, key) {
+        match put(rt.alloc(), &mut store, key) {
             Ok(()) => assert!(rt; store.get(&key).is_some()),
             Err(Memory) => {
                 assert!(rt; store.get(&key).is_none() && store.page(LEAF).len() == before)
@@ -37,7 +38,7 @@ fn moved_or_refused(rt: HostRuntime) {
     };
     let mut plain = plain::RowStore::new(rt.alloc());
     for key in keys {
-        if let Some(row) = row_of(&key)
+        if let Some(row) = row_of(rt.alloc(), &key)
             && fits(&key, &row)
         {
             let _ = plain.put(key, row);
@@ -55,7 +56,7 @@ fn copied_or_refused(rt: HostRuntime) {
         return;
     };
     for key in keys {
-        let _ = put(&mut store, key);
+        let _ = put(rt.alloc(), &mut store, key);
     }
     if let Ok(copy) = store.copied(rt.alloc()) {
         assert_eq!(rt; copy.len(), store.len());

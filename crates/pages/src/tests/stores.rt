@@ -9,16 +9,16 @@ use tpcc_rows::key::RowKey;
 use tpcc_rows::plain;
 use tpcc_rows::row::fits;
 
-fn put(store: &mut plain::RowStore, key: RowKey) -> Result<(), Fail> {
-    let row = row_of(&key).ok_or("a row")?;
+fn put(alloc: Global, store: &mut plain::RowStore, key: RowKey) -> Result<(), Fail> {
+    let row = row_of(alloc, &key).ok_or("a row")?;
     if fits(&key, &row) {
         store.put(key, row)?;
     }
     Ok(())
 }
 
-fn put_on_page(store: &mut RowStore, key: RowKey) -> Result<(), Fail> {
-    let row = row_of(&key).ok_or("a row")?;
+fn put_on_page(alloc: Global, store: &mut RowStore, key: RowKey) -> Result<(), Fail> {
+    let row = row_of(alloc, &key).ok_or("a row")?;
     if fits(&key, &row) {
         store.put(key, row)?;
     }
@@ -29,11 +29,11 @@ fn put_on_page(store: &mut RowStore, key: RowKey) -> Result<(), Fail> {
 fn plain_store(alloc: Global) -> Result<plain::RowStore, Fail> {
     let mut store = plain::RowStore::new(alloc);
     for key in one_leaf().ok_or("keys")? {
-        put(&mut store, key)?;
+        put(alloc, &mut store, key)?;
     }
     for number in [2, 3] {
         for key in other_leaves(number).ok_or("keys")? {
-            put(&mut store, key)?;
+            put(alloc, &mut store, key)?;
         }
     }
     Ok(store)
@@ -43,11 +43,11 @@ fn plain_store(alloc: Global) -> Result<plain::RowStore, Fail> {
 fn paged_store(alloc: Global) -> Result<RowStore, Fail> {
     let mut store = RowStore::new(alloc)?;
     for key in one_leaf().ok_or("keys")? {
-        put_on_page(&mut store, key)?;
+        put_on_page(alloc, &mut store, key)?;
     }
     for number in [2, 3] {
         for key in other_leaves(number).ok_or("keys")? {
-            put_on_page(&mut store, key)?;
+            put_on_page(alloc, &mut store, key)?;
         }
     }
     Ok(store)
@@ -63,7 +63,7 @@ fn the_same_keys(rt: HostRuntime) -> Result<(), Fail> {
         assert!(rt;
             paged
                 .get(key)
-                .is_some_and(|found| fits(key, found) && fits(key, row.row()))
+                .is_some_and(|found| fits(key, found) && fits(key, row))
         );
     }
     Ok(())

@@ -1,4 +1,5 @@
 //! Keys, and a row for each.
+use std::alloc::Global;
 use tpcc_rows::id::{
     CustomerId, DistrictId, ItemId, LineNumber, OrderId, RequestNumber, WarehouseId,
 };
@@ -86,7 +87,7 @@ pub(super) fn other_leaves(number: u8) -> Option<[RowKey; 6]> {
 }
 
 /// A row of the key's kind.
-pub(super) fn row_of(key: &RowKey) -> Option<Row> {
+pub(super) fn row_of(alloc: Global, key: &RowKey) -> Option<Row> {
     let warehouse = WarehouseId::new(1)?;
     let district = DistrictId::new(1)?;
     let customer = CustomerId::new(1)?;
@@ -100,13 +101,16 @@ pub(super) fn row_of(key: &RowKey) -> Option<Row> {
             let next_order = OrderId::new(1)?;
             Row::District(DistrictRow { ytd, next_order })
         }
-        RowKey::Customer { .. } => Row::Customer(CustomerRow {
-            balance: ytd,
-            ytd_payment: ytd,
-            payment_count: count,
-            delivery_count: count,
-            data: Text::parse(b"data")?,
-        }),
+        RowKey::Customer { .. } => {
+            let row = CustomerRow {
+                balance: ytd,
+                ytd_payment: ytd,
+                payment_count: count,
+                delivery_count: count,
+                data: Text::parse(b"data")?,
+            };
+            Row::of_customer(alloc, row).ok()?
+        }
         RowKey::Stock { .. } => Row::Stock(StockRow {
             quantity: StockQuantity::new(10)?,
             ytd: count,

@@ -58,13 +58,14 @@ fn customer(rt: HostRuntime) -> Result<(), Fail> {
         district: DistrictId::new(10).ok_or("an id")?,
         customer: CustomerId::new(3000).ok_or("an id")?,
     };
-    let row = Row::Customer(CustomerRow {
+    let row = CustomerRow {
         balance: Cents::new(-1000).ok_or("money")?,
         ytd_payment: Cents::new(123_456_789_012).ok_or("money")?,
         payment_count: Count::new(7).ok_or("a count")?,
         delivery_count: Count::new(5).ok_or("a count")?,
         data: Text::parse(b"a|z").ok_or("a text")?,
-    });
+    };
+    let row = Row::of_customer(rt.alloc(), row)?;
     assert_eq!(rt;
         encoded(&key, &row).as_slice(),
         b"\x03\0\0\0\0\x03\xab\xb8\0\x1d\xff\xff\xff\xff\xff\xff\xfc\x18\
@@ -81,13 +82,14 @@ fn greatest_customer(rt: HostRuntime) -> Result<(), Fail> {
         district: DistrictId::new(10).ok_or("an id")?,
         customer: CustomerId::new(1).ok_or("an id")?,
     };
-    let row = Row::Customer(CustomerRow {
+    let row = CustomerRow {
         balance: Cents::new(-Cents::LIMIT).ok_or("money")?,
         ytd_payment: Cents::new(Cents::LIMIT).ok_or("money")?,
         payment_count: Count::new(1_000_000_000).ok_or("a count")?,
         delivery_count: Count::new(0).ok_or("a count")?,
         data: Text::parse([b'x'; 500].as_slice()).ok_or("a text")?,
-    });
+    };
+    let row = Row::of_customer(rt.alloc(), row)?;
     let out = encoded(&key, &row);
     assert_eq!(rt; out.as_slice().len(), 536);
     assert!(rt;

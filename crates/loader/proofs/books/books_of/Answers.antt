@@ -18,7 +18,7 @@ loop-key-preserved c =
     let e : RowKey × Row = (c.in-Some.key.now, c.in-Some.row.now) in
     let is = c.in-Some.ensures.steps in
     let fewer = ap length is in
-    (omega (arith, few, fewer), still_small _ _ _ _ e (omega (arith, few, fewer)) (rw c.row.ensures at c.enter.ensures.books) (rw c.row.ensures at c.enter.ensures.small) small, one_entered _ _ e _ _ _ is (rw c.row.ensures at c.enter.ensures.books) so_far)
+    (omega (arith, few, fewer), still_small _ _ _ _ e (omega (arith, few, fewer)) c.enter.ensures.books c.enter.ensures.small small, one_entered _ _ e _ _ _ is c.enter.ensures.books so_far)
 
 pub returns : goal.returns
 returns c = let (few, small, so_far) = c.loop-key.invariant in all_entered _ _ _ c.in-None.ensures.steps.0 so_far

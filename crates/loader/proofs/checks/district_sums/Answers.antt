@@ -14,7 +14,7 @@ loop-key-preserved c =
     let (few, near, so_far) = c.loop-key.invariant in
     let e : RowKey × Row = (c.in-Some.key.now, c.in-Some.row.now) in
     let is = c.in-Some.ensures.steps in
-    (let fewer = ap length is in omega (arith, few, fewer), still_within _ _ e _ _ is few (rw c.row.ensures at c.add_share.ensures.sums) (rw c.row.ensures at c.add_share.ensures.near) near, one_added _ _ e _ _ _ is (rw c.row.ensures at c.add_share.ensures.sums) so_far)
+    (let fewer = ap length is in omega (arith, few, fewer), still_within _ _ e _ _ is few c.add_share.ensures.sums c.add_share.ensures.near near, one_added _ _ e _ _ _ is c.add_share.ensures.sums so_far)
 
 pub returns : goal.returns
 returns c = let (few, near, so_far) = c.loop-key.invariant in all_added _ _ _ c.in-None.ensures.steps.0 so_far
