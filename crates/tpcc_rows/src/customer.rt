@@ -9,7 +9,7 @@ use std::sync::Arc;
 
 /// A customer's row in a place of its own, which its copies share. It is eight times as large as a row of another kind, and
 /// most of it is a text that seldom changes; so a map moves a pointer where it would move the row, and a copy of a
-/// database copies no texts.
+/// database copies no customer.
 #[derive(Drop)]
 pub struct SharedCustomer {
     row: Arc<CustomerRow>,
