@@ -47,7 +47,7 @@ fn hash_alone(rt: &impl Clock, bytes: &[u8]) -> io::Result<(Duration, u8)> {
 }
 
 /// How many bytes suffice for the rows of a page.
-fn enough_for(page: &plain::RowStore) -> usize {
+fn prefetch_rows(page: &plain::RowStore) -> usize {
     let mut bytes = 0usize;
     for (_, row) in page.iter() {
         bytes = bytes.saturating_add(enough_bytes(row));
@@ -59,7 +59,7 @@ fn enough_for(page: &plain::RowStore) -> usize {
 fn encode_page(page: &plain::RowStore) -> u64 {
     let mut waiting = ByteBuf::<4096>::new();
     let mut count = 0u64;
-    if waiting.room() < enough_for(page) {
+    if waiting.room() < prefetch_rows(page) {
         waiting.push_8(0);
     }
     for (key, row) in page.iter() {

@@ -8,7 +8,7 @@ ghost use Rattle.executor.specs.declared.path.Path.TheVariants as path;
 ghost use Rattle.executor.specs.declared.refusal.Refusal.TheVariants as refusal;
 ghost use Rattle.tpcc_model.specs.Soundness.{IsSound};
 
-use crate::attempt::attempt;
+use crate::batch::execute_batch;
 use crate::laws::sound_states;
 use crate::limits::requests_within;
 use crate::opening::next_number;
@@ -177,7 +177,7 @@ impl Executor {
         sound_states();
         requests_within(batch.requests.as_slice());
         batch.moment.seconds();
-        let record = attempt(
+        let record = execute_batch(
             rt,
             alloc,
             &self.catalog,

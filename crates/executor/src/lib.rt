@@ -3,17 +3,17 @@
 //! before the batch, and its requests run once more, one after the other.
 #![tactic(auto)]
 
-mod attempt;
+mod batch;
 mod executor;
-mod in_turn;
 pub mod laws;
-mod levelled;
 mod limits;
 mod opening;
+mod parallel;
 pub mod path;
 mod record;
 mod refusal;
 mod run;
+mod sequential;
 mod stamp;
 #[cfg(test)]
 mod tests;

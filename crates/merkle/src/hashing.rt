@@ -75,7 +75,7 @@ impl Gathered {
 /// How many bytes suffice for the rows of a page. A customer's row stands in a place of its own. Those of the page are looked
 /// at here, right after each other, before the first is encoded: so they come from memory together, where the encoder
 /// would wait for each of them in its turn.
-fn enough_for(page: &RowStore) -> usize {
+fn prefetch_rows(page: &RowStore) -> usize {
     let mut bytes = 0usize;
     for (_, row) in page.iter() {
         bytes = bytes.saturating_add(enough_bytes(row));
@@ -84,7 +84,7 @@ fn enough_for(page: &RowStore) -> usize {
 }
 
 /// How many bytes suffice for the first row of a page.
-pub(crate) fn enough_for_first(page: &RowStore) -> usize {
+pub(crate) fn prefetch_first_row(page: &RowStore) -> usize {
     match page.iter().next() {
         Some((_, row)) => enough_bytes(row),
         None => 0,
@@ -103,7 +103,7 @@ pub(crate) fn hash_with_room(page: &RowStore, more: usize) -> [u8; 32]
     ensures { result ≡ sha256 (0 ∷ rows_bytes (map.entries page.now)) }
 {
     let mut gathered = Gathered::of_leaf();
-    gathered.make_room(enough_for(page).saturating_add(more));
+    gathered.make_room(prefetch_rows(page).saturating_add(more));
     for (key, row) in page.iter() {
         gathered.push_row(key, row);
     }

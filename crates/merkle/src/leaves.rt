@@ -3,7 +3,7 @@ ghost use Rattle.std.specs.Prelude.{◌≡◌, ◌<◌, length, IfOk};
 ghost use Rattle.merkle.specs.Nodes.{IsOf};
 ghost use Rattle.tpcc_model.specs.Roots.{leaf_hash};
 
-use crate::hashing::{enough_for_first, hash_with_room};
+use crate::hashing::{hash_with_room, prefetch_first_row};
 use rayon::prelude::*;
 use rollback::PointedStore;
 use std::alloc::{AllocError, Global};
@@ -18,12 +18,12 @@ const TOGETHER: usize = 8;
 
 /// How many bytes suffice for the first rows of the leaves from this one on. To find the rows of a leaf is to follow a few
 /// pointers one after the other; those of several leaves are followed here together, before the first is hashed.
-fn enough_for_firsts(store: &PointedStore, first: usize) -> usize
+fn prefetch_first_rows(store: &PointedStore, first: usize) -> usize
     requires { first < 4096 }
 {
     let mut bytes = 0usize;
     for n in first..(first + TOGETHER).min(LEAVES) {
-        bytes = bytes.saturating_add(enough_for_first(store.page(n)));
+        bytes = bytes.saturating_add(prefetch_first_row(store.page(n)));
     }
     bytes
 }
@@ -35,7 +35,7 @@ fn nth_hash(store: &PointedStore, n: usize) -> [u8; 32]
     ensures { result ≡ leaf_hash store.now.rows n }
 {
     let more = if n % TOGETHER == 0 {
-        enough_for_firsts(store, n)
+        prefetch_first_rows(store, n)
     } else {
         0
     };

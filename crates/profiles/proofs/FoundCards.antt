@@ -6,8 +6,8 @@ use Rattle.catalog.specs.CardMap.{Cards}
 use Rattle.catalog.specs.Lookups.{warehouse_card, district_card, customer_card, item_card, stock_card}
 use Rattle.catalog.specs.declared.card.ItemCard.{ItemCard}
 use Rattle.catalog.specs.declared.card.StockCard.{StockCard}
-use Rattle.requests.specs.declared.reply.Refusal.{Refusal}
-use Rattle.requests.specs.declared.reply.Refusal.TheVariants.{ItemNotValid, UnknownKey}
+use Rattle.requests.specs.declared.reply.RequestRefusal.{RequestRefusal}
+use Rattle.requests.specs.declared.reply.RequestRefusal.TheVariants.{ItemNotValid, UnknownKey}
 use Rattle.requests.specs.declared.request.NewOrder.{NewOrder}
 use Rattle.requests.specs.declared.request.OrderedLine.{OrderedLine}
 use Rattle.tpcc_model.specs.NewOrders.{LineCards, LineItem, found_cards, found_item, found_lines, found_stock}
@@ -15,12 +15,12 @@ use Rattle.tpcc_model.specs.Staging.{◌>>=◌, for_each, known}
 use Rattle.profiles.specs.Found.{has_cards}
 
 -- a stage on what is to be there
-is_ok-there : {A B : Type 0} (o : Option A) (why : Refusal) (f : A → Result B Refusal) (b : Bool) → ((x : A) → is_ok (f x) ≡ b) → is_ok (ok_or o why >>= f) ≡ (is_some o && b)
+is_ok-there : {A B : Type 0} (o : Option A) (why : RequestRefusal) (f : A → Result B RequestRefusal) (b : Bool) → ((x : A) → is_ok (f x) ≡ b) → is_ok (ok_or o why >>= f) ≡ (is_some o && b)
 is_ok-there (Some x) why f b each = each x
 is_ok-there None why f b each = refl
 
 -- a stage that answers in any case
-is_ok-more : {A B : Type 0} (r : Result A Refusal) (f : A → B) → is_ok (r >>= λ x. Ok (f x)) ≡ is_ok r
+is_ok-more : {A B : Type 0} (r : Result A RequestRefusal) (f : A → B) → is_ok (r >>= λ x. Ok (f x)) ≡ is_ok r
 is_ok-more (Ok x) f = refl
 is_ok-more (Err why) f = refl
 
@@ -43,7 +43,7 @@ module _ (cards : Cards) where
   lines_found [] = refl
   lines_found (line ∷ lines) = by (item_card cards line.item) (for_each (found_item cards) lines) (lines_found lines)
     where
-      by : (o : Option ItemCard) (r : Result (List LineItem) Refusal) → is_ok (r >>= for_each (found_stock cards)) ≡ list_all (has_cards cards) lines
+      by : (o : Option ItemCard) (r : Result (List LineItem) RequestRefusal) → is_ok (r >>= for_each (found_stock cards)) ≡ list_all (has_cards cards) lines
           → is_ok (((ok_or o ItemNotValid >>= λ item. Ok (record { ordered = line; item = item })) >>= λ y. r >>= λ ys. Ok (y ∷ ys)) >>= for_each (found_stock cards)) ≡ ((is_some o && is_some (stock_card cards line.supply line.item)) && list_all (has_cards cards) lines)
       by None r rest = refl
       by (Some item) (Err why) rest = none_more (is_some (stock_card cards line.supply line.item)) ∙ ap (λ b. is_some (stock_card cards line.supply line.item) && b) rest

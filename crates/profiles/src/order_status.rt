@@ -5,7 +5,7 @@ ghost use Rattle.tpcc_rows.specs.RowMap.{Rows};
 
 use crate::choice::chosen_customer;
 use catalog::Catalog;
-use requests::reply::Refusal;
+use requests::reply::RequestRefusal;
 use requests::request::OrderStatus;
 use std::alloc::Global;
 use tpcc_rows::footprint::Footprint;
@@ -15,14 +15,14 @@ use tpcc_rows::memory::Memory;
 
 /// The customer who is asked about, with a card.
 #[tactic(auto, unfolding(tpcc_model::specs::Touches::asked_customer))]
-fn asked_customer(catalog: &Catalog, p: &OrderStatus) -> Result<CustomerId, Refusal>
+fn asked_customer(catalog: &Catalog, p: &OrderStatus) -> Result<CustomerId, RequestRefusal>
     ensures { result ≡ asked_customer catalog.now p.now }
 {
     let chosen = chosen_customer(catalog, p.warehouse, p.district, &p.customer);
-    let customer = chosen.ok_or(Refusal::UnknownKey)?;
+    let customer = chosen.ok_or(RequestRefusal::UnknownKey)?;
     catalog
         .customer(p.warehouse, p.district, customer)
-        .ok_or(Refusal::UnknownKey)?;
+        .ok_or(RequestRefusal::UnknownKey)?;
     Ok(customer)
 }
 

@@ -7,7 +7,7 @@ ghost use Rattle.tpcc_rows.specs.RowMap.{Rows};
 
 use crate::choice::chosen_customer;
 use catalog::Catalog;
-use requests::reply::Refusal;
+use requests::reply::RequestRefusal;
 use requests::request::Payment;
 use std::alloc::Global;
 use tpcc_rows::footprint::Footprint;
@@ -17,19 +17,21 @@ use tpcc_rows::memory::Memory;
 
 /// The customer who pays, where each key of the payment has its card.
 #[tactic(auto, unfolding(tpcc_model::specs::Payments::found_cards))]
-fn paying_customer(catalog: &Catalog, p: &Payment) -> Result<CustomerId, Refusal>
+fn paying_customer(catalog: &Catalog, p: &Payment) -> Result<CustomerId, RequestRefusal>
     ensures { result ≡ paying_customer catalog.now p.now }
 {
     let (warehouse, district) = (p.customer_warehouse, p.customer_district);
-    catalog.warehouse(p.warehouse).ok_or(Refusal::UnknownKey)?;
+    catalog
+        .warehouse(p.warehouse)
+        .ok_or(RequestRefusal::UnknownKey)?;
     catalog
         .district(p.warehouse, p.district)
-        .ok_or(Refusal::UnknownKey)?;
+        .ok_or(RequestRefusal::UnknownKey)?;
     let chosen = chosen_customer(catalog, warehouse, district, &p.customer);
-    let customer = chosen.ok_or(Refusal::UnknownKey)?;
+    let customer = chosen.ok_or(RequestRefusal::UnknownKey)?;
     catalog
         .customer(warehouse, district, customer)
-        .ok_or(Refusal::UnknownKey)?;
+        .ok_or(RequestRefusal::UnknownKey)?;
     Ok(customer)
 }
 

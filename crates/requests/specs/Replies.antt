@@ -12,8 +12,8 @@ use Rattle.requests.specs.declared.reply.LineReply.{LineReply}
 use Rattle.requests.specs.declared.reply.NewOrderReply.{NewOrderReply}
 use Rattle.requests.specs.declared.reply.OrderStatusReply.{OrderStatusReply}
 use Rattle.requests.specs.declared.reply.PaymentReply.{PaymentReply}
-use Rattle.requests.specs.declared.reply.Refusal.{Refusal}
-use Rattle.requests.specs.declared.reply.Refusal.TheVariants as refusal
+use Rattle.requests.specs.declared.reply.RequestRefusal.{RequestRefusal}
+use Rattle.requests.specs.declared.reply.RequestRefusal.TheVariants as refusal
 use Rattle.requests.specs.declared.reply.Reply.{Reply}
 use Rattle.requests.specs.declared.reply.Reply.TheVariants as reply
 use Rattle.requests.specs.declared.reply.ShownCredit.{ShownCredit}
@@ -28,12 +28,12 @@ kind_text kind.OrderStatus = codes "order-status"
 kind_text kind.Delivery = codes "delivery"
 kind_text kind.StockLevel = codes "stock-level"
 
-abbrev pub refusal_code : Refusal → List ℕ
+abbrev pub refusal_code : RequestRefusal → List ℕ
 refusal_code refusal.ItemNotValid = codes "1"
 refusal_code refusal.UnknownKey = codes "2"
 refusal_code refusal.LimitReached = codes "3"
 
-abbrev pub refusal_text : Refusal → List ℕ
+abbrev pub refusal_text : RequestRefusal → List ℕ
 refusal_text refusal.ItemNotValid = codes "Item number is not valid"
 refusal_text refusal.UnknownKey = codes "Unknown key"
 refusal_text refusal.LimitReached = codes "Limit reached"
@@ -81,7 +81,7 @@ abbrev pub order_status_fields : OrderStatusReply → Fields
 order_status_fields r = customer_fields r ++ last_order_fields r.order
 
 -- `code,text`
-abbrev pub refusal_fields : Refusal → Fields
+abbrev pub refusal_fields : RequestRefusal → Fields
 refusal_fields refusal = refusal_code refusal ∷ refusal_text refusal ∷ []
 
 -- what comes after the request's number: its kind, whether it was done, and what was found, or why it was refused

@@ -29,7 +29,7 @@ pub use memory_ends::{BytesSink, BytesSource};
 pub use number::{OrderedQuantity, PaymentAmount, Threshold};
 pub use reply::{
     Brand, DeliveryReply, LineReplies, LineReply, NewOrderReply, OrderStatusReply, PaymentReply,
-    Refusal, Reply, ShownCredit, ShownLine, ShownLines, ShownOrder, StockLevelReply,
+    Reply, RequestRefusal, ShownCredit, ShownLine, ShownLines, ShownOrder, StockLevelReply,
 };
 pub use reply_text::write_reply;
 pub use request::{

@@ -10,7 +10,7 @@ use tpcc_rows::text::Text;
 
 /// Why a request changes nothing.
 #[derive(Clone, Copy, Debug, PartialEq, Eq)]
-pub enum Refusal {
+pub enum RequestRefusal {
     /// A new order names an item that isn't there (TPC-C clause 2.4.2.3).
     ItemNotValid,
     /// A warehouse, a district, a customer or a stock isn't there.
@@ -219,5 +219,8 @@ pub enum Reply {
     OrderStatus(OrderStatusReply),
     Delivery(DeliveryReply),
     StockLevel(StockLevelReply),
-    Refused { kind: RequestKind, refusal: Refusal },
+    Refused {
+        kind: RequestKind,
+        refusal: RequestRefusal,
+    },
 }

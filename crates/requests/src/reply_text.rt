@@ -8,8 +8,8 @@ ghost use Rattle.requests.specs.Replies.{brand_text, credit_fields, customer_fie
 
 use crate::record_text::{push, push_number, push_number_or_dash, push_signed, record_text};
 use crate::reply::{
-    Brand, LineReply, NewOrderReply, OrderStatusReply, PaymentReply, Refusal, Reply, ShownCredit,
-    ShownLine, ShownOrder,
+    Brand, LineReply, NewOrderReply, OrderStatusReply, PaymentReply, Reply, RequestRefusal,
+    ShownCredit, ShownLine, ShownOrder,
 };
 use crate::request::RequestKind;
 use csv::ByteRecord;
@@ -160,27 +160,27 @@ fn kind_text(kind: RequestKind) -> &'static [u8]
     }
 }
 
-fn refusal_code(refusal: Refusal) -> &'static [u8]
+fn refusal_code(refusal: RequestRefusal) -> &'static [u8]
     ensures { result.now ≡ refusal_code refusal }
 {
     match refusal {
-        Refusal::ItemNotValid => b"1",
-        Refusal::UnknownKey => b"2",
-        Refusal::LimitReached => b"3",
+        RequestRefusal::ItemNotValid => b"1",
+        RequestRefusal::UnknownKey => b"2",
+        RequestRefusal::LimitReached => b"3",
     }
 }
 
-fn refusal_text(refusal: Refusal) -> &'static [u8]
+fn refusal_text(refusal: RequestRefusal) -> &'static [u8]
     ensures { result.now ≡ refusal_text refusal }
 {
     match refusal {
-        Refusal::ItemNotValid => b"Item number is not valid",
-        Refusal::UnknownKey => b"Unknown key",
-        Refusal::LimitReached => b"Limit reached",
+        RequestRefusal::ItemNotValid => b"Item number is not valid",
+        RequestRefusal::UnknownKey => b"Unknown key",
+        RequestRefusal::LimitReached => b"Limit reached",
     }
 }
 
-fn push_refusal(fields: &mut ByteRecord, refusal: Refusal) -> Result<(), Memory>
+fn push_refusal(fields: &mut ByteRecord, refusal: RequestRefusal) -> Result<(), Memory>
     requires { partial_of fields.old ≡ [] }
     ensures { OnOk result (AddsFields fields.old fields.new (refusal_fields refusal)) }
 {

@@ -2,7 +2,7 @@
 use crate::roots::{hash, tree_root};
 use crate::samples::{every_kind, one_leaf, random_pairs};
 use crate::second::{Pairs, second_token};
-use requests::reply::{PaymentReply, Refusal, Reply, ShownCredit, StockLevelReply};
+use requests::reply::{PaymentReply, Reply, RequestRefusal, ShownCredit, StockLevelReply};
 use requests::request::RequestKind;
 use std::alloc::Global;
 use std::test::Fail;
@@ -20,7 +20,7 @@ fn first_replies() -> [Reply; 2] {
         Reply::StockLevel(StockLevelReply { low_stock: 7 }),
         Reply::Refused {
             kind: RequestKind::Payment,
-            refusal: Refusal::UnknownKey,
+            refusal: RequestRefusal::UnknownKey,
         },
     ]
 }

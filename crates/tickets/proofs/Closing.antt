@@ -13,7 +13,7 @@ use Rattle.tickets.specs.declared.size.Size.{Size}
 use Rattle.tickets.specs.World.{Worker, World, opening, after}
 use Rattle.tickets.specs.Once.{times, once_below}
 use Rattle.tickets.specs.Entries.{has_stopped}
-use Rattle.tickets.specs.Rule.{flag, IsEntryOf, IsKept, Shows}
+use Rattle.tickets.specs.Rule.{flag, IsEntryOf, FollowsRule, Shows}
 use Rattle.tickets.proofs.Lists.{Some-injective, get-below, get_there, get_read, get_from_All, All-from_get, sum-set, sum-at, get_back}
 use Rattle.tickets.proofs.Sound.{IsSound, events_sound, after_alike, workers_after}
 use Rattle.tickets.proofs.Steps.{known_at, past_of, saw_of, Rule}
@@ -68,7 +68,7 @@ at_reverse [] i e h = cc
 at_reverse (x ∷ xs) zero e h = (length (reverse xs), ap (λ (l : List Entry). slice_get l (length (reverse xs))) (reverse-cons x xs) ∙ (get-last (reverse xs) x ∙ h))
 at_reverse (x ∷ xs) (suc i) e h = let t = at_reverse xs i e h in (t.0, ap (λ (l : List Entry). slice_get l t.0) (reverse-cons x xs) ∙ get-front (reverse xs) (x ∷ []) t.0 e t.1)
 
-kept_by_one : (size : Size) (id : ℕ) (v : List Entry) (ws xs : List ℕ) → Final (Seen (Rule size) id (reverse v)) ws xs → length v ≡ size.workers → IsKept size ws (v ∷ [])
+kept_by_one : (size : Size) (id : ℕ) (v : List Entry) (ws xs : List ℕ) → Final (Seen (Rule size) id (reverse v)) ws xs → length v ≡ size.workers → FollowsRule size ws (v ∷ [])
 kept_by_one size id v ws xs final len =
     let s = final.0 in
     let kept : Rule size s = final.1.0 in
@@ -95,16 +95,16 @@ kept_by_one size id v ws xs final len =
     known_in s kept at zero u i e at_j is = let r = at_reverse v i e (subst (λ (y : List Entry). slice_get y i ≡ Some e) (sym (some-injective v u at_j)) is) in known_at kept.shows id (reverse v) r.0 e at r.1
     known_in s kept at (suc j) u i e at_j is = absurd (some-ne-none u (sym at_j))
 
-pub closes : (key size : Size) (id : ℕ) (u v : List Entry) (a b : ℕ) (ws xs : List ℕ) → key ≡ size → u ≡ reverse v → Final (Seen (Rule key) id u) ws xs → length v ≡ size.workers → get_elem? ws 0 ≡ some a → get_elem? ws 1 ≡ some b → IsKept size (a ∷ b ∷ []) (v ∷ [])
+pub closes : (key size : Size) (id : ℕ) (u v : List Entry) (a b : ℕ) (ws xs : List ℕ) → key ≡ size → u ≡ reverse v → Final (Seen (Rule key) id u) ws xs → length v ≡ size.workers → get_elem? ws 0 ≡ some a → get_elem? ws 1 ≡ some b → FollowsRule size (a ∷ b ∷ []) (v ∷ [])
 closes key size id u v a b ws xs same is final len first second =
-    let kept : IsKept size ws (v ∷ []) = kept_by_one size id v ws xs (subst (λ (x : Size × List Entry). Final (Seen (Rule x.0) id x.1) ws xs) (λ i. (same i, is i)) final) len in
+    let kept : FollowsRule size ws (v ∷ []) = kept_by_one size id v ws xs (subst (λ (x : Size × List Entry). Final (Seen (Rule x.0) id x.1) ws xs) (λ i. (same i, is i)) final) len in
     let w = after (opening size.places size.workers) kept.events in
     let x : ℕ = w.next + sum_by (λ (e : Entry). cond e.past 1 0) kept.entries in
     let y : ℕ = flag w.halt in
     let words = kept.shows.words_are in
     let first_is : x ≡ a = some-injective x a (sym (ap (λ (l : List ℕ). get_elem? l 0) words) ∙ first) in
     let second_is : y ≡ b = some-injective y b (sym (ap (λ (l : List ℕ). get_elem? l 1) words) ∙ second) in
-    subst (λ (l : List ℕ). IsKept size l (v ∷ [])) (words ∙ (λ i. first_is i ∷ second_is i ∷ [])) kept
+    subst (λ (l : List ℕ). FollowsRule size l (v ∷ [])) (words ∙ (λ i. first_is i ∷ second_is i ∷ [])) kept
 
 -- ---- what the rule says of all entries
 -- the entries have what the workers have
@@ -132,7 +132,7 @@ counted {A} test (x ∷ xs) h = go (test x) refl (counted test xs)
         let (i, a, at, passes) = later (omega arith) in
         (suc i, a, at, passes)
 
-module _ (size : Size) (ws : List ℕ) (v : List Entry) (kept : IsKept size ws (v ∷ [])) where
+module _ (size : Size) (ws : List ℕ) (v : List Entry) (kept : FollowsRule size ws (v ∷ [])) where
   abbrev world : World
   world = after (opening size.places size.workers) kept.events
 
@@ -224,7 +224,7 @@ module _ (size : Size) (ws : List ℕ) (v : List Entry) (kept : IsKept size ws (
       past_of kept.shows e.worker e (known 0 e at) (past_if e (done 0 e at).0 (done 0 e at).1 (λ saw. true≢false (sym (saw_raised 0 e at saw) ∙ none_raised))) ∙ places_is
 
 -- ---- the same of seats
-module _ {A : Type 0} (f : A → Entry) (size : Size) (a b : ℕ) (seats : List A) (kept : IsKept size (a ∷ b ∷ []) (map f seats ∷ [])) where
+module _ {A : Type 0} (f : A → Entry) (size : Size) (a b : ℕ) (seats : List A) (kept : FollowsRule size (a ∷ b ∷ []) (map f seats ∷ [])) where
   sum-seats : (h : Entry → ℕ) (l : List A) → sum_by (λ (s : A). h (f s)) l ≡ sum_by h (map f l)
   sum-seats h [] = refl
   sum-seats h (x ∷ xs) = omega (arith, sum_by-cons (λ (s : A). h (f s)) x xs, sum_by-cons h (f x) (map f xs), sum-seats h xs)

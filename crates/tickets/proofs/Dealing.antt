@@ -11,7 +11,7 @@ use Rattle.tickets.specs.declared.entry.Entry.{Entry}
 use Rattle.tickets.specs.declared.size.Size.{Size}
 use Rattle.tickets.specs.World.{World, fresh, opening, after}
 use Rattle.tickets.specs.Entries.{blank, blanks, has_stopped, last_drawn}
-use Rattle.tickets.specs.Rule.{IsEntryOf, Shows, IsKept, Drew, Raised, Looked}
+use Rattle.tickets.specs.Rule.{IsEntryOf, Shows, FollowsRule, Drew, Raised, Looked}
 use Rattle.tickets.proofs.Lists.{All-from_get, Some-injective, replicate_there, sum-set, get_back}
 use Rattle.tickets.proofs.Steps.{all_known, known_at, Rule, draws, raises, looks}
 
@@ -35,7 +35,7 @@ none_past : (places k n : ℕ) → sum_by (λ (e : Entry). cond e.past 1 0) (bla
 none_past places k zero = refl
 none_past places k (suc n) = omega (arith, sum_by-cons (λ (e : Entry). cond e.past 1 0) (blank places k) (blanks places (suc k) n), none_past places (suc k) n)
 
-pub opens : (places workers : ℕ) → IsKept record { places = places; workers = workers } (0 ∷ 0 ∷ []) (blanks places 0 workers ∷ [])
+pub opens : (places workers : ℕ) → FollowsRule record { places = places; workers = workers } (0 ∷ 0 ∷ []) (blanks places 0 workers ∷ [])
 unfolding after
 opens places workers = record {
   events = [];

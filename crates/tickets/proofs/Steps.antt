@@ -14,13 +14,13 @@ use Rattle.tickets.specs.declared.entry.Entry.{Entry}
 use Rattle.tickets.specs.declared.size.Size.{Size}
 use Rattle.tickets.specs.World.{Worker, World, opening, after, step, taking, finishing, raising, stopping, with_worker, past_next, halted, draw_by, finish_by, raise_by, look_by, act_by}
 use Rattle.tickets.specs.Entries.{last_drawn, has_stopped, with_place, with_end, with_draw, with_raise, with_look}
-use Rattle.tickets.specs.Rule.{flag, IsEntryOf, IsEntryIn, Shows, IsKept, Drew, Raised, Looked}
+use Rattle.tickets.specs.Rule.{flag, IsEntryOf, IsEntryIn, Shows, FollowsRule, Drew, Raised, Looked}
 use Rattle.tickets.proofs.Lists.{Some-injective, get_to, get_back, get-set, get-set_same, get-set_other, sum-set, All-from_get, get_from_All}
 use Rattle.tickets.proofs.Numbered.{IsNumbered, apart}
 use Rattle.tickets.proofs.Sound.{IsSound, becoming, events_sound, after-append, after_alike, workers_after, drawn_most}
 
 abbrev pub Rule : Size → State ℕ (List Entry) → Type 0
-Rule size s = IsKept size s.words s.views
+Rule size s = FollowsRule size s.words s.views
 
 -- ---- the rule, place by place
 pub all_known : (es : List Entry) (views : List (List Entry)) → ((seat : ℕ) (v : List Entry) (i : ℕ) (e : Entry) → get_elem? views seat ≡ some v → slice_get v i ≡ Some e → IsEntryIn es e) → All (All (IsEntryIn es)) views
@@ -265,14 +265,14 @@ module _ (size : Size) (small : size.places + size.workers + 1 < 2 ^ 64) (s : St
   saw_at true h = saw_of kept.shows e.worker e at_e h
   saw_at false h = saw_of kept.shows e.worker e at_e h
 
-  draw_kept : has_stopped e ≡ false → IsKept size (set s.words 0 ((ticket + 1) % 2 ^ 64)) (set s.views id (with_draw ticket e ∷ []))
+  draw_kept : has_stopped e ≡ false → FollowsRule size (set s.words 0 ((ticket + 1) % 2 ^ 64)) (set s.views id (with_draw ticket e ∷ []))
   unfolding after
   draw_kept going = go (left world) refl
     where
       leads : after (opening size.places size.workers) (kept.events ++ Finish e.worker ∷ Draw e.worker ∷ []) ≡ becoming world (next_if (left world) world.next) world.halt e.worker (worker_if (left world) world.next (let_go found.0))
       leads = after-append (opening size.places size.workers) kept.events (Finish e.worker ∷ Draw e.worker ∷ []) ∙ turn world e.worker found.0 found.1 (sym found.2.stopped ∙ going)
 
-      go : (t : Bool) → left world ≡ t → IsKept size (set s.words 0 ((ticket + 1) % 2 ^ 64)) (set s.views id (with_draw ticket e ∷ []))
+      go : (t : Bool) → left world ≡ t → FollowsRule size (set s.words 0 ((ticket + 1) % 2 ^ 64)) (set s.views id (with_draw ticket e ∷ []))
       go t q = record {
         events = kept.events ++ Finish e.worker ∷ Draw e.worker ∷ [];
         entries = set kept.entries e.worker (entry_if t ticket e);
@@ -296,7 +296,7 @@ module _ (size : Size) (small : size.places + size.workers + 1 < 2 ^ 64) (s : St
   draw_tells = (All-from_get (λ p. p < ticket) e.drawn above, many)
 
   -- a raise of the place drawn last
-  raise_kept : has_stopped e ≡ false → (p : ℕ) → last_drawn e ≡ Some p → IsKept size (set s.words 1 (bit_or halt_word 1)) (set s.views id (with_raise e ∷ []))
+  raise_kept : has_stopped e ≡ false → (p : ℕ) → last_drawn e ≡ Some p → FollowsRule size (set s.words 1 (bit_or halt_word 1)) (set s.views id (with_raise e ∷ []))
   unfolding after
   raise_kept going p last = record {
     events = kept.events ++ Raise e.worker ∷ [];
@@ -336,7 +336,7 @@ module _ (size : Size) (small : size.places + size.workers + 1 < 2 ^ 64) (s : St
           ap (λ (l : List ℕ). set l 1 (bit_or halt_word 1)) kept.shows.words_are ∙ (λ i. same i ∷ o i ∷ [])
 
   -- a look
-  look_kept : IsKept size (set s.words 1 halt_word) (set s.views id (with_look (halt_word == 1) e ∷ []))
+  look_kept : FollowsRule size (set s.words 1 halt_word) (set s.views id (with_look (halt_word == 1) e ∷ []))
   unfolding after
   look_kept = go world.halt refl
     where
@@ -365,7 +365,7 @@ module _ (size : Size) (small : size.places + size.workers + 1 < 2 ^ 64) (s : St
           let same : world.next + count_by (λ (x : Entry). x.past) kept.entries ≡ world.next + count_by (λ (x : Entry). x.past) (set kept.entries e.worker (with_look (halt_word == 1) e)) = omega arith in
           words_same ∙ (kept.shows.words_are ∙ ap (λ (x : ℕ). x ∷ flag world.halt ∷ []) same)
 
-      go : (b : Bool) → world.halt ≡ b → IsKept size (set s.words 1 halt_word) (set s.views id (with_look (halt_word == 1) e ∷ []))
+      go : (b : Bool) → world.halt ≡ b → FollowsRule size (set s.words 1 halt_word) (set s.views id (with_look (halt_word == 1) e ∷ []))
       go true q = record {
         events = kept.events ++ Look e.worker ∷ [];
         entries = set kept.entries e.worker (with_look (halt_word == 1) e);
@@ -376,7 +376,7 @@ module _ (size : Size) (small : size.places + size.workers + 1 < 2 ^ 64) (s : St
       go false q =
           let zero_is : halt_word ≡ 0 = halt_is ∙ ap flag q in
           let same : with_look (halt_word == 1) e ≡ e = ap (λ (x : ℕ). with_look (x == 1) e) zero_is ∙ ap (λ (b : Bool). record e { saw = b }) (or_id e.saw) in
-          subst (λ (p : List ℕ × List (List Entry)). IsKept size p.0 p.1) (λ i. (sym words_same i, sym (ap (λ (x : Entry). set s.views id (x ∷ [])) same ∙ set_again s.views id (e ∷ []) seated) i)) kept
+          subst (λ (p : List ℕ × List (List Entry)). FollowsRule size p.0 p.1) (λ i. (sym words_same i, sym (ap (λ (x : Entry). set s.views id (x ∷ [])) same ∙ set_again s.views id (e ∷ []) seated) i)) kept
 
   look_tells : (is_some e.raised ≡ true → halt_word ≡ 1) × (e.saw ≡ true → halt_word ≡ 1)
   look_tells = (

@@ -39,7 +39,7 @@ pub record Shows (w : World) (entries : List Entry) (words : List ℕ) (views : 
   pub saw_halt : All (λ e. e.saw ≡ true → w.halt ≡ true) entries
 
 -- some events lead from the opening world to one that words and views show
-pub record IsKept (size : Size) (words : List ℕ) (views : List (List Entry)) : Type 0 where
+pub record FollowsRule (size : Size) (words : List ℕ) (views : List (List Entry)) : Type 0 where
   pub events : List Event
   pub entries : List Entry
   pub shows : Shows (after (opening size.places size.workers) events) entries words views

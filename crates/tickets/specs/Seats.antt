@@ -5,7 +5,7 @@ use Rattle.tickets.specs.declared.seat.Seat.{Seat}
 use Rattle.tickets.specs.declared.entry.Entry.{Entry}
 use Rattle.tickets.specs.Once.{times, once_below}
 use Rattle.tickets.specs.Entries.{blank, has_stopped, last_drawn, with_place, with_end}
-use Rattle.tickets.specs.Rule.{IsKept}
+use Rattle.tickets.specs.Rule.{FollowsRule}
 
 abbrev pub places_of : Desk → ℕ
 places_of desk = desk.size.places
@@ -41,15 +41,15 @@ pub record HasEnded (old new : Entry) : Type 0 where
 -- ---- all seats together
 -- the rule holds of the words and of what the seats know
 abbrev pub Closes : Desk → ℕ × ℕ → List Seat → Type 0
-Closes desk words seats = IsKept desk.size (words.0 ∷ words.1 ∷ []) (map entry_of seats ∷ [])
+Closes desk words seats = FollowsRule desk.size (words.0 ∷ words.1 ∷ []) (map entry_of seats ∷ [])
 
 -- each place below n was drawn once, by one seat, and no other was drawn
 abbrev pub AreDrawn : ℕ → List Seat → Type 0
 AreDrawn n seats = (p : ℕ) → sum_by (λ seat. times p (entry_of seat).drawn) seats ≡ once_below n p
 
 -- the seat has stopped and raised nothing
-abbrev pub IsDone : Seat → Type 0
-IsDone seat = (has_stopped (entry_of seat) ≡ true) × ((entry_of seat).raised ≡ None)
+abbrev pub HasStopped : Seat → Type 0
+HasStopped seat = (has_stopped (entry_of seat) ≡ true) × ((entry_of seat).raised ≡ None)
 
 abbrev pub HasRaised : Seat → Type 0
 HasRaised seat = is_some (entry_of seat).raised ≡ true

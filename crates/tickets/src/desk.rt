@@ -32,7 +32,7 @@ impl Desk {
     ghost use Rattle.std.specs.List.{Any, list_any};
     ghost use Rattle.tickets.specs.Entries.{blanks, has_stopped, last_drawn, with_look, with_raise};
     ghost use Rattle.tickets.specs.Rule.{flag};
-    ghost use Rattle.tickets.specs.Seats.{AreDrawn, Closes, HasEnded, HasRaised, HasSeen, HasTaken, IsDone, IsNewSeatOf, IsSeatOf, entry_of, places_of, workers_of};
+    ghost use Rattle.tickets.specs.Seats.{AreDrawn, Closes, HasEnded, HasRaised, HasSeen, HasTaken, HasStopped, IsNewSeatOf, IsSeatOf, entry_of, places_of, workers_of};
 
     /// A desk, and a seat for each worker.
     pub fn new(alloc: Global, places: usize, workers: usize) -> Result<(Desk, Vec<Seat>), Memory>
@@ -103,7 +103,7 @@ impl Desk {
         requires own { All (IsSeatOf self) seats.items }
         ensures rule { Closes self result seats.items }
         ensures drawn { AreDrawn (min result.0 (places_of self)) seats.items }
-        ensures all_drawn { All IsDone seats.items → AreDrawn (places_of self) seats.items }
+        ensures all_drawn { All HasStopped seats.items → AreDrawn (places_of self) seats.items }
         ensures halt { result.1 ≡ flag (list_any (λ seat. is_some (entry_of seat).raised) seats.items) }
         ensures saw { Any HasSeen seats.items → Any HasRaised seats.items }
     {

@@ -8,9 +8,9 @@ pub struct ShowsWorld;
 
 impl TableRule<u8, View, Size> for ShowsWorld {
     ghost use Rattle.tickets.specs.Entries.{blanks};
-    ghost use Rattle.tickets.specs.Rule.{IsKept};
+    ghost use Rattle.tickets.specs.Rule.{FollowsRule};
 
-    ghost holds = { λ size s. IsKept size s.words s.views };
+    ghost holds = { λ size s. FollowsRule size s.words s.views };
 
     ghost first = { λ size. blanks size.places 0 size.workers };
 }

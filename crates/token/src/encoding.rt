@@ -5,8 +5,8 @@ ghost use Rattle.requests.specs.Replies.{brand_text};
 ghost use Rattle.tpcc_model.specs.Tokens.{credit_bytes, kind_code, last_order_bytes, line_reply_bytes, new_order_bytes, order_or_zero, order_status_bytes, outcome_bytes, payment_bytes, refusal_status, reply_bytes, shown_line_bytes, shown_order_bytes};
 
 use requests::reply::{
-    Brand, LineReply, NewOrderReply, OrderStatusReply, PaymentReply, Refusal, Reply, ShownCredit,
-    ShownLine, ShownOrder,
+    Brand, LineReply, NewOrderReply, OrderStatusReply, PaymentReply, Reply, RequestRefusal,
+    ShownCredit, ShownLine, ShownOrder,
 };
 use requests::request::RequestKind;
 use tpcc_rows::encoding::push_maybe_moment;
@@ -26,13 +26,13 @@ fn kind_code(kind: RequestKind) -> u8
     }
 }
 
-fn refusal_status(refusal: Refusal) -> u8
+fn refusal_status(refusal: RequestRefusal) -> u8
     ensures { result ≡ refusal_status refusal }
 {
     match refusal {
-        Refusal::ItemNotValid => 1,
-        Refusal::UnknownKey => 2,
-        Refusal::LimitReached => 3,
+        RequestRefusal::ItemNotValid => 1,
+        RequestRefusal::UnknownKey => 2,
+        RequestRefusal::LimitReached => 3,
     }
 }
 

@@ -8,7 +8,7 @@ use Rattle.catalog.specs.CardMap.{Cards}
 use Rattle.catalog.specs.Lookups.{warehouse_card}
 use Rattle.catalog.specs.declared.card.WarehouseCard.{WarehouseCard}
 use Rattle.requests.specs.declared.request.Delivery.{Delivery}
-use Rattle.requests.specs.declared.reply.Refusal.{Refusal}
+use Rattle.requests.specs.declared.reply.RequestRefusal.{RequestRefusal}
 use Rattle.tpcc_rows.specs.Changing.{after}
 use Rattle.tpcc_rows.specs.Limits.{ten}
 use Rattle.tpcc_rows.specs.Picks.{oldest}
@@ -136,7 +136,7 @@ module _ (rows : Rows) (p : Delivery) where
       unfolding order_delivered
       bounded_order part_of changes bounded =
           let m = after rows changes in
-          let P = λ (r : Result Changes Refusal). IfOk r AreBounded in
+          let P = λ (r : Result Changes RequestRefusal). IfOk r AreBounded in
           after-stage P (known (order_row m p.warehouse d o)) _ (λ why. tt) λ order e1.
           after-stage P (known (customer_row m p.warehouse d order.customer)) _ (λ why. tt) λ old e2.
           after-stage P (credited old (lines_amount m p d o order.line_count)) _ (λ why. tt) λ customer e3.
@@ -156,9 +156,9 @@ module _ (rows : Rows) (p : Delivery) where
     bounded_districts (d ∷ ds) part_of changes bounded =
         let here = (district_touch rows p d).writes in
         let rest = (joined_all (map (district_touch rows p) ds)).writes in
-        after-stage (λ (r : Result Changes Refusal). IfOk r AreBounded) (oldest_delivered rows p moment d (oldest rows p.warehouse d) changes) _ (λ why. tt) λ more e.
+        after-stage (λ (r : Result Changes RequestRefusal). IfOk r AreBounded) (oldest_delivered rows p moment d (oldest rows p.warehouse d) changes) _ (λ why. tt) λ more e.
         bounded_districts ds (λ g h. part_of g (Has-behind here rest g h)) more
-        (subst (λ (r : Result Changes Refusal). IfOk r AreBounded) e (bounded_oldest d (oldest rows p.warehouse d) (λ g h. part_of g (Has-append here rest g h)) changes bounded))
+        (subst (λ (r : Result Changes RequestRefusal). IfOk r AreBounded) e (bounded_oldest d (oldest rows p.warehouse d) (λ g h. part_of g (Has-append here rest g h)) changes bounded))
 
 -- ---- the same
 module _ (p : Delivery) (s t : Rows) (d o : ℕ) (gs : List Granule) (agree : Agree s t gs) (book : Has gs (part.Book p.warehouse d)) where
@@ -176,7 +176,7 @@ module _ (p : Delivery) (s t : Rows) (d o : ℕ) (gs : List Granule) (agree : Ag
       ap (λ (c : Changes). line_dated moment k (order_line_row (after t c) p.warehouse d o (suc n)) c) (same_lines moment n changes)
       ∙ ap (λ (line : Option OrderLineRow). line_dated moment k line earlier) (same_order_line (after s earlier) (after t earlier) gs (agree-after s t earlier gs agree) p.warehouse d o (suc n) book)
 
-abbrev delivered_by : Delivery → Rows → ℕ → Result Delivered Refusal
+abbrev delivered_by : Delivery → Rows → ℕ → Result Delivered RequestRefusal
 delivered_by p rows moment = districts_delivered rows p moment ten empty >>= λ changes. Ok (record { reply = record { orders = map (oldest rows p.warehouse) ten }; changes = changes })
 
 module _ (s t : Rows) (p : Delivery) where
@@ -224,7 +224,7 @@ module _ (s t : Rows) (p : Delivery) where
       let rest = (all_touch ds).writes in
       same-stage _ _ _ _ (ap (λ (o : Option ℕ). oldest_delivered t p moment d o changes) (same_district_oldest d first) ∙ same_oldest_delivered moment d o changes bounded.keep first) λ more e.
       same_districts moment gs ds (λ g h. part_of g (Has-behind here rest g h)) more
-      (subst (λ (r : Result Changes Refusal). IfOk r (AreBounded s p 0 moment gs)) e (bounded_oldest s p 0 moment gs d o (λ g h. part_of g (Has-append here rest g h)) changes bounded)) (of_rest d ds agree)
+      (subst (λ (r : Result Changes RequestRefusal). IfOk r (AreBounded s p 0 moment gs)) e (bounded_oldest s p 0 moment gs d o (λ g h. part_of g (Has-append here rest g h)) changes bounded)) (of_rest d ds agree)
 
   same_orders : (ds : List ℕ) → Agree s t (all_touch ds).reads → map (oldest t p.warehouse) ds ≡ map (oldest s p.warehouse) ds
   same_orders [] agree = refl
@@ -255,8 +255,8 @@ placed_delivery : (rows : Rows) (p : Delivery) (number moment : ℕ) (card : Opt
 placed_delivery rows p number moment None = placed-none number []
 placed_delivery rows p number moment (Some card) =
     let gs = (joined_all (map (district_touch rows p) ten)).writes in
-    after-stage (λ (r : Result Delivered Refusal). ArePlaced number gs (delivery_outcome r).changes) (districts_delivered rows p moment ten empty) _ (λ why. placed-none number gs) λ changes e.
-    (subst (λ (r : Result Changes Refusal). IfOk r (AreBounded rows p number moment gs)) e
+    after-stage (λ (r : Result Delivered RequestRefusal). ArePlaced number gs (delivery_outcome r).changes) (districts_delivered rows p moment ten empty) _ (λ why. placed-none number gs) λ changes e.
+    (subst (λ (r : Result Changes RequestRefusal). IfOk r (AreBounded rows p number moment gs)) e
     (bounded_districts rows p number moment gs ten (λ g h. h) empty (bounded_none rows p number moment gs))).placed
 
 pub same_delivery_touch : (cards : Cards) (s t : Rows) (p : Delivery) → Agree s t (delivery_touch (record { cards = cards; rows = s }) p).reads → delivery_touch (record { cards = cards; rows = t }) p ≡ delivery_touch (record { cards = cards; rows = s }) p

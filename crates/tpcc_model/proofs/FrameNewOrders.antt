@@ -9,8 +9,8 @@ use Rattle.catalog.specs.declared.card.ItemCard.{ItemCard}
 use Rattle.catalog.specs.declared.card.StockCard.{StockCard}
 use Rattle.requests.specs.declared.request.NewOrder.{NewOrder}
 use Rattle.requests.specs.declared.request.OrderedLine.{OrderedLine}
-use Rattle.requests.specs.declared.reply.Refusal.{Refusal}
-use Rattle.requests.specs.declared.reply.Refusal.TheVariants.{ItemNotValid}
+use Rattle.requests.specs.declared.reply.RequestRefusal.{RequestRefusal}
+use Rattle.requests.specs.declared.reply.RequestRefusal.TheVariants.{ItemNotValid}
 use Rattle.tpcc_rows.specs.Changing.{after}
 use Rattle.tpcc_rows.specs.RowMap.{Rows}
 use Rattle.tpcc_rows.specs.Rows.{district_row, stock_row}
@@ -52,23 +52,23 @@ lines_found : (cards : Cards) (lines : List OrderedLine) → IfOk (found_lines c
 unfolding found_lines
 lines_found cards lines = at (for_each (found_item cards) lines) (for_each-hands_on (found_item cards) (λ line. line) (λ item. item.ordered) (one_item cards) lines)
   where
-    with_stocks : (items : List LineItem) → map (λ (item : LineItem). item.ordered) items ≡ lines → (r : Result (List LineCards) Refusal) → IfOk r (λ found. ordered_of found ≡ map (λ (item : LineItem). item.ordered) items) → IfOk r (λ found. ordered_of found ≡ lines)
+    with_stocks : (items : List LineItem) → map (λ (item : LineItem). item.ordered) items ≡ lines → (r : Result (List LineCards) RequestRefusal) → IfOk r (λ found. ordered_of found ≡ map (λ (item : LineItem). item.ordered) items) → IfOk r (λ found. ordered_of found ≡ lines)
     with_stocks items e (Ok found) h = h ∙ e
     with_stocks items e (Err why) h = tt
 
-    at : (r : Result (List LineItem) Refusal) → IfOk r (λ items. map (λ (item : LineItem). item.ordered) items ≡ map (λ (line : OrderedLine). line) lines) → IfOk (r >>= λ items. for_each (found_stock cards) items) (λ found. ordered_of found ≡ lines)
+    at : (r : Result (List LineItem) RequestRefusal) → IfOk r (λ items. map (λ (item : LineItem). item.ordered) items ≡ map (λ (line : OrderedLine). line) lines) → IfOk (r >>= λ items. for_each (found_stock cards) items) (λ found. ordered_of found ≡ lines)
     at (Ok items) h = with_stocks items (h ∙ map-id lines) (for_each (found_stock cards) items) (for_each-hands_on (found_stock cards) (λ item. item.ordered) (λ line. line.ordered) (one_stock cards) items)
     at (Err why) h = tt
 
 cards_found : (cards : Cards) (p : NewOrder) → IfOk (found_cards cards p) (λ found. ordered_of found.lines ≡ p.lines)
 unfolding found_cards
 cards_found cards p =
-    let P = λ (r : Result NewOrderCards Refusal). IfOk r (λ found. ordered_of found.lines ≡ p.lines) in
+    let P = λ (r : Result NewOrderCards RequestRefusal). IfOk r (λ found. ordered_of found.lines ≡ p.lines) in
     after-stage P (known (warehouse_card cards p.warehouse)) _ (λ why. tt) λ warehouse e1.
     after-stage P (known (district_card cards p.warehouse p.district)) _ (λ why. tt) λ district e2.
     after-stage P (known (customer_card cards p.warehouse p.district p.customer)) _ (λ why. tt) λ customer e3.
     after-stage P (found_lines cards p.lines) _ (λ why. tt) λ lines e4.
-    subst (λ (r : Result (List LineCards) Refusal). IfOk r (λ found. ordered_of found ≡ p.lines)) e4 (lines_found cards p.lines)
+    subst (λ (r : Result (List LineCards) RequestRefusal). IfOk r (λ found. ordered_of found ≡ p.lines)) e4 (lines_found cards p.lines)
 
 -- the granules of the stocks of lines
 abbrev stocks : List LineCards → List Granule
@@ -91,11 +91,11 @@ module _ (p : NewOrder) (moment : ℕ) where
         same-stage (line_done p o n line old order) _ _ _ refl λ more e2.
         same_lines o (n + 1) lines more (agree-part s t (stocks (line ∷ lines)) (stocks lines) (λ g h. inr h) agree)
 
-  abbrev ordered_by : Rows → NewOrderCards → Result PlacedOrder Refusal
+  abbrev ordered_by : Rows → NewOrderCards → Result PlacedOrder RequestRefusal
   ordered_by rows cards = known (district_row rows p.warehouse p.district) >>= λ old. raised_district old >>= λ district.
       lines_done rows p old.next_order 1 cards.lines (opened p moment old.next_order district) >>= λ order. Ok (record { reply = new_order_reply cards old.next_order order.lines; changes = order.changes })
 
-  same_ordered : (s t : Rows) (r : Result NewOrderCards Refusal) → IfOk r (λ found. ordered_of found.lines ≡ p.lines) → Agree s t (touch_by (λ cards. placed_touch p) r).reads → (r >>= ordered_by t) ≡ (r >>= ordered_by s)
+  same_ordered : (s t : Rows) (r : Result NewOrderCards RequestRefusal) → IfOk r (λ found. ordered_of found.lines ≡ p.lines) → Agree s t (touch_by (λ cards. placed_touch p) r).reads → (r >>= ordered_by t) ≡ (r >>= ordered_by s)
   same_ordered s t (Err why) found agree = refl
   same_ordered s t (Ok cards) found agree =
       let gs = (placed_touch p).reads in
@@ -121,7 +121,7 @@ module _ (p : NewOrder) (moment : ℕ) where
     placed_line : (o n : ℕ) (line : LineCards) (old : StockRow) (order : OrderSoFar) → Has gs (part.Stock line.ordered.supply line.ordered.item) → ArePlaced number gs order.changes → IfOk (line_done p o n line old order) (λ more. ArePlaced number gs more.changes)
     unfolding line_done
     placed_line o n line old order stock placed =
-        let P = λ (r : Result OrderSoFar Refusal). IfOk r (λ more. ArePlaced number gs more.changes) in
+        let P = λ (r : Result OrderSoFar RequestRefusal). IfOk r (λ more. ArePlaced number gs more.changes) in
         after-stage P (ordered_stock p.warehouse line.ordered old) _ (λ why. tt) λ new e1.
         after-stage P (line_amount line) _ (λ why. tt) λ amount e2.
         placed-insert number gs _ (key.OrderLine p.warehouse p.district o n) _ (in_granule number gs _ (part.Book p.warehouse p.district) refl (inr (inl refl)))
@@ -130,20 +130,20 @@ module _ (p : NewOrder) (moment : ℕ) where
     placed_lines : (o n : ℕ) (lines : List LineCards) (order : OrderSoFar) → ((g : Granule) → Has (stocks lines) g → Has gs g) → ArePlaced number gs order.changes → IfOk (lines_done rows p o n lines order) (λ last. ArePlaced number gs last.changes)
     placed_lines o n [] order part placed = placed
     placed_lines o n (line ∷ lines) order part placed =
-        let P = λ (r : Result OrderSoFar Refusal). IfOk r (λ last. ArePlaced number gs last.changes) in
+        let P = λ (r : Result OrderSoFar RequestRefusal). IfOk r (λ last. ArePlaced number gs last.changes) in
         after-stage P (known (stock_row (after rows order.changes) line.ordered.supply line.ordered.item)) _ (λ why. tt) λ old e1.
         after-stage P (line_done p o n line old order) _ (λ why. tt) λ more e2.
-        placed_lines o (n + 1) lines more (λ g h. part g (inr h)) (subst (λ (r : Result OrderSoFar Refusal). IfOk r (λ last. ArePlaced number gs last.changes)) e2 (placed_line o n line old order (part _ (inl refl)) placed))
+        placed_lines o (n + 1) lines more (λ g h. part g (inr h)) (subst (λ (r : Result OrderSoFar RequestRefusal). IfOk r (λ last. ArePlaced number gs last.changes)) e2 (placed_line o n line old order (part _ (inl refl)) placed))
 
-    placed_order : (r : Result NewOrderCards Refusal) → IfOk r (λ found. ordered_of found.lines ≡ p.lines) → ArePlaced number (touch_by (λ cards. placed_touch p) r).writes (new_order_outcome (r >>= ordered_by rows)).changes
+    placed_order : (r : Result NewOrderCards RequestRefusal) → IfOk r (λ found. ordered_of found.lines ≡ p.lines) → ArePlaced number (touch_by (λ cards. placed_touch p) r).writes (new_order_outcome (r >>= ordered_by rows)).changes
     placed_order (Err why) found = placed-none number []
     placed_order (Ok cards) found =
-        let P = λ (r : Result PlacedOrder Refusal). ArePlaced number gs (new_order_outcome r).changes in
-        let none = λ (why : Refusal). placed-none number gs in
+        let P = λ (r : Result PlacedOrder RequestRefusal). ArePlaced number gs (new_order_outcome r).changes in
+        let none = λ (why : RequestRefusal). placed-none number gs in
         after-stage P (known (district_row rows p.warehouse p.district)) _ none λ old e1.
         after-stage P (raised_district old) _ none λ district e2.
         after-stage P (lines_done rows p old.next_order 1 cards.lines (opened p moment old.next_order district)) _ none λ order e3.
-        subst (λ (r : Result OrderSoFar Refusal). IfOk r (λ last. ArePlaced number gs last.changes)) e3
+        subst (λ (r : Result OrderSoFar RequestRefusal). IfOk r (λ last. ArePlaced number gs last.changes)) e3
         (placed_lines old.next_order 1 cards.lines (opened p moment old.next_order district)
         (λ g h. inr (inr (subst (λ hs. Has hs g) (sym (stocks-written p.lines)) (subst (λ (ls : List OrderedLine). Has (joined_all (map ordered_touch ls)).reads g) found h))))
         (placed_opened old.next_order district))

@@ -2,7 +2,7 @@
 use Rattle.std.proofs.Common.{◌≡◌, ℕ, [], Ok, Err, Result, inl, inr, refl, ap}
 use Rattle.catalog.specs.CardMap.{Cards}
 use Rattle.requests.specs.declared.request.Payment.{Payment}
-use Rattle.requests.specs.declared.reply.Refusal.{Refusal}
+use Rattle.requests.specs.declared.reply.RequestRefusal.{RequestRefusal}
 use Rattle.tpcc_rows.specs.RowMap.{Rows}
 use Rattle.tpcc_rows.specs.declared.granule.Granule.TheVariants as part
 use Rattle.tpcc_rows.specs.declared.key.RowKey.TheVariants as key
@@ -16,7 +16,7 @@ use Rattle.tpcc_model.proofs.Placing.{in_granule, placed-insert, placed-none}
 use Rattle.tpcc_model.proofs.Stages.{after-stage, same-stage}
 
 module _ (p : Payment) (moment : ℕ) where
-  abbrev paid_by : Rows → Result PaymentCards Refusal → Result Paid Refusal
+  abbrev paid_by : Rows → Result PaymentCards RequestRefusal → Result Paid RequestRefusal
   paid_by rows r = r >>= λ cards. found_rows rows p cards.customer_id >>= λ found. paid_rows p moment cards found
 
   module _ (s t : Rows) where
@@ -28,18 +28,18 @@ module _ (p : Payment) (moment : ℕ) where
         same-stage _ _ _ _ (ap known (same_district s t gs agree p.warehouse p.district (inr (inl refl)))) λ district e2.
         same-stage _ _ _ _ (ap known (same_customer s t gs agree p.customer_warehouse p.customer_district c (inr (inr (inl refl))))) λ customer e3. refl
 
-    same_paid : (r : Result PaymentCards Refusal) → Agree s t (touch_by (λ cards. paid_touch p cards.customer_id) r).reads → paid_by t r ≡ paid_by s r
+    same_paid : (r : Result PaymentCards RequestRefusal) → Agree s t (touch_by (λ cards. paid_touch p cards.customer_id) r).reads → paid_by t r ≡ paid_by s r
     same_paid (Ok cards) agree = ap (λ found. found >>= λ rows. paid_rows p moment cards rows) (same_rows cards.customer_id agree)
     same_paid (Err why) agree = refl
 
-  paid-placed : (rows : Rows) (number : ℕ) (r : Result PaymentCards Refusal) → ArePlaced number (touch_by (λ cards. paid_touch p cards.customer_id) r).writes (payment_outcome p number (paid_by rows r)).changes
+  paid-placed : (rows : Rows) (number : ℕ) (r : Result PaymentCards RequestRefusal) → ArePlaced number (touch_by (λ cards. paid_touch p cards.customer_id) r).writes (payment_outcome p number (paid_by rows r)).changes
   unfolding paid_rows payment_changes
   paid-placed rows number (Err why) = placed-none number []
   paid-placed rows number (Ok cards) =
       let c = cards.customer_id in
       let gs = (paid_touch p c).writes in
-      let P = λ (made : Result Paid Refusal). ArePlaced number gs (payment_outcome p number made).changes in
-      let none = λ (why : Refusal). placed-none number gs in
+      let P = λ (made : Result Paid RequestRefusal). ArePlaced number gs (payment_outcome p number made).changes in
+      let none = λ (why : RequestRefusal). placed-none number gs in
       after-stage P (found_rows rows p c) (λ found. paid_rows p moment cards found) none λ found e1.
       after-stage P (paid_warehouse found.warehouse p.amount) _ none λ warehouse e2.
       after-stage P (paid_district found.district p.amount) _ none λ district e3.

@@ -12,7 +12,7 @@ use Rattle.catalog.specs.declared.card.StockCard.{StockCard}
 use Rattle.requests.specs.declared.request.OrderStatus.{OrderStatus}
 use Rattle.requests.specs.declared.request.StockLevel.{StockLevel}
 use Rattle.requests.specs.declared.reply.OrderStatusReply.{OrderStatusReply}
-use Rattle.requests.specs.declared.reply.Refusal.{Refusal}
+use Rattle.requests.specs.declared.reply.RequestRefusal.{RequestRefusal}
 use Rattle.requests.specs.declared.reply.StockLevelReply.{StockLevelReply}
 use Rattle.requests.specs.declared.reply.ShownLine.{ShownLine}
 use Rattle.requests.specs.declared.reply.ShownOrder.{ShownOrder}
@@ -62,7 +62,7 @@ module _ (s t : Rows) (p : OrderStatus) (gs : List Granule) (agree : Agree s t g
   same_reply c card customer = ap (λ (order : Option ShownOrder). record { customer = c; first = card.first; middle = card.middle; last = card.last; balance = customer.balance; order = order }) (same_last c)
 
 module _ (s t : Rows) (p : OrderStatus) where
-  abbrev shown_by : Rows → ℕ → Option CustomerCard → Result OrderStatusReply Refusal
+  abbrev shown_by : Rows → ℕ → Option CustomerCard → Result OrderStatusReply RequestRefusal
   shown_by rows c card = known card >>= λ card. known (customer_row rows p.warehouse p.district c) >>= λ customer. Ok (order_status_reply rows p c card customer)
 
   same_shown_by : (c : ℕ) (card : Option CustomerCard) → Agree s t (touch_by (asked_touch p) (known card >>= λ card. Ok c)).reads → shown_by t c card ≡ shown_by s c card
@@ -86,7 +86,7 @@ module _ (cards : Cards) (s t : Rows) (p : StockLevel) where
   abbrev on : Rows → Database
   on rows = record { cards = cards; rows = rows }
 
-  abbrev counted_by : Rows → Option DistrictRow → Result StockLevelReply Refusal
+  abbrev counted_by : Rows → Option DistrictRow → Result StockLevelReply RequestRefusal
   counted_by rows district = known district >>= λ r. Ok (record { low_stock = distinct_count nat_eq (low_items (on rows) p (first_recent r.next_order) (r.next_order - first_recent r.next_order)) })
 
   same_below : (item : ℕ) (card : Option StockCard) → Agree s t (item_touch p item card).reads → is_below p.threshold card (stock_row t p.warehouse item) ≡ is_below p.threshold card (stock_row s p.warehouse item)

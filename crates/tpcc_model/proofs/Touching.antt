@@ -6,7 +6,7 @@ use Rattle.requests.specs.declared.request.Delivery.{Delivery}
 use Rattle.requests.specs.declared.request.Request.{Request}
 use Rattle.requests.specs.declared.request.Request.TheVariants as request
 use Rattle.requests.specs.declared.request.StockLevel.{StockLevel}
-use Rattle.requests.specs.declared.reply.Refusal.{Refusal}
+use Rattle.requests.specs.declared.reply.RequestRefusal.{RequestRefusal}
 use Rattle.catalog.specs.CardMap.{Cards}
 use Rattle.catalog.specs.Lookups.{district_card, stock_card, warehouse_card}
 use Rattle.catalog.specs.declared.card.StockCard.{StockCard}
@@ -33,7 +33,7 @@ all_read : {X : Type 0} (touched : X → Footprint Granule) (xs : List X) → ((
 all_read touched [] each g h = h
 all_read touched (x ∷ xs) each g h = both_read (touched x) (joined_all (map touched xs)) (each x) (all_read touched xs each) g h
 
-found_read : {A : Type 0} (found : A → Footprint Granule) (r : Result A Refusal) → ((x : A) → WritesAreRead (found x)) → WritesAreRead (touch_by found r)
+found_read : {A : Type 0} (found : A → Footprint Granule) (r : Result A RequestRefusal) → ((x : A) → WritesAreRead (found x)) → WritesAreRead (touch_by found r)
 found_read found (Ok x) each g h = each x g h
 found_read found (Err why) each g h = h
 

@@ -16,7 +16,7 @@ use Rattle.tpcc_rows.specs.declared.row.OrderLineRow.{OrderLineRow}
 use Rattle.catalog.specs.Lookups.{warehouse_card}
 use Rattle.requests.specs.declared.request.Delivery.{Delivery}
 use Rattle.requests.specs.declared.reply.DeliveryReply.{DeliveryReply}
-use Rattle.requests.specs.declared.reply.Refusal.{Refusal}
+use Rattle.requests.specs.declared.reply.RequestRefusal.{RequestRefusal}
 use Rattle.tpcc_model.specs.Database.{Database}
 use Rattle.tpcc_model.specs.Staging.{◌>>=◌, known, within}
 
@@ -31,7 +31,7 @@ lines_amount rows p d o zero = 0
 lines_amount rows p d o (suc n) = lines_amount rows p d o n + amount_of (order_line_row rows p.warehouse d o (suc n))
 
 -- C_BALANCE goes up by the amount, and C_DELIVERY_CNT by one
-unfoldable pub credited : CustomerRow → ℕ → Result CustomerRow Refusal
+unfoldable pub credited : CustomerRow → ℕ → Result CustomerRow RequestRefusal
 credited old amount = do
   balance ← within (cents_of (old.balance +ℤ pos amount))
   delivery_count ← within (between 0 1000000000 (old.delivery_count + 1))
@@ -55,7 +55,7 @@ carried p d o order changes =
     map.insert (map.insert changes (key.NewOrder p.warehouse d o) None)
     (key.Order p.warehouse d o) (Some (row.Order (record order { carrier = Some p.carrier })))
 
-unfoldable pub order_delivered : Rows → Delivery → ℕ → ℕ → ℕ → Changes → Result Changes Refusal
+unfoldable pub order_delivered : Rows → Delivery → ℕ → ℕ → ℕ → Changes → Result Changes RequestRefusal
 order_delivered rows p moment d o changes = do
   order ← known (order_row (after rows changes) p.warehouse d o)
   old ← known (customer_row (after rows changes) p.warehouse d order.customer)
@@ -65,12 +65,12 @@ order_delivered rows p moment d o changes = do
 
 -- ---- all districts
 -- a district without a new order is skipped
-abbrev pub oldest_delivered : Rows → Delivery → ℕ → ℕ → Option ℕ → Changes → Result Changes Refusal
+abbrev pub oldest_delivered : Rows → Delivery → ℕ → ℕ → Option ℕ → Changes → Result Changes RequestRefusal
 oldest_delivered rows p moment d None changes = Ok changes
 oldest_delivered rows p moment d (Some o) changes = order_delivered rows p moment d o changes
 
 -- no district's order is among another's new orders, so the oldest one is that of the rows before the delivery
-unfoldable pub districts_delivered : Rows → Delivery → ℕ → List ℕ → Changes → Result Changes Refusal
+unfoldable pub districts_delivered : Rows → Delivery → ℕ → List ℕ → Changes → Result Changes RequestRefusal
 districts_delivered rows p moment [] changes = Ok changes
 districts_delivered rows p moment (d ∷ ds) changes = do
   more ← oldest_delivered rows p moment d (oldest rows p.warehouse d) changes
@@ -81,7 +81,7 @@ pub record Delivered : Type 0 where
   pub reply : DeliveryReply
   pub changes : Changes
 
-unfoldable pub delivery : Database → Delivery → ℕ → Result Delivered Refusal
+unfoldable pub delivery : Database → Delivery → ℕ → Result Delivered RequestRefusal
 delivery db p moment = do
   warehouse ← known (warehouse_card db.cards p.warehouse)
   changes ← districts_delivered db.rows p moment ten map.empty

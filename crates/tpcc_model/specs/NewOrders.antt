@@ -29,8 +29,8 @@ use Rattle.requests.specs.declared.reply.Brand.{Brand}
 use Rattle.requests.specs.declared.reply.Brand.TheVariants as brand
 use Rattle.requests.specs.declared.reply.LineReply.{LineReply}
 use Rattle.requests.specs.declared.reply.NewOrderReply.{NewOrderReply}
-use Rattle.requests.specs.declared.reply.Refusal.{Refusal}
-use Rattle.requests.specs.declared.reply.Refusal.TheVariants.{ItemNotValid}
+use Rattle.requests.specs.declared.reply.RequestRefusal.{RequestRefusal}
+use Rattle.requests.specs.declared.reply.RequestRefusal.TheVariants.{ItemNotValid}
 use Rattle.tpcc_model.specs.Database.{Database}
 use Rattle.tpcc_model.specs.Staging.{◌>>=◌, for_each, known, within}
 
@@ -46,18 +46,18 @@ pub record LineCards : Type 0 where
   pub item : ItemCard
   pub stock : StockCard
 
-unfoldable pub found_item : Cards → OrderedLine → Result LineItem Refusal
+unfoldable pub found_item : Cards → OrderedLine → Result LineItem RequestRefusal
 found_item cards line = do
   item ← ok_or (item_card cards line.item) ItemNotValid
   Ok (record { ordered = line; item = item })
 
-unfoldable pub found_stock : Cards → LineItem → Result LineCards Refusal
+unfoldable pub found_stock : Cards → LineItem → Result LineCards RequestRefusal
 found_stock cards line = do
   stock ← known (stock_card cards line.ordered.supply line.ordered.item)
   Ok (record { ordered = line.ordered; item = line.item; stock = stock })
 
 -- the lines with their cards: each item is looked for before any stock
-unfoldable pub found_lines : Cards → List OrderedLine → Result (List LineCards) Refusal
+unfoldable pub found_lines : Cards → List OrderedLine → Result (List LineCards) RequestRefusal
 found_lines cards lines = do
   items ← for_each (found_item cards) lines
   for_each (found_stock cards) items
@@ -69,7 +69,7 @@ pub record NewOrderCards : Type 0 where
   pub customer : CustomerCard
   pub lines : List LineCards
 
-unfoldable pub found_cards : Cards → NewOrder → Result NewOrderCards Refusal
+unfoldable pub found_cards : Cards → NewOrder → Result NewOrderCards RequestRefusal
 found_cards cards p = do
   warehouse ← known (warehouse_card cards p.warehouse)
   district ← known (district_card cards p.warehouse p.district)
@@ -79,7 +79,7 @@ found_cards cards p = do
 
 -- ---- the order
 -- D_NEXT_O_ID goes up by one
-unfoldable pub raised_district : DistrictRow → Result DistrictRow Refusal
+unfoldable pub raised_district : DistrictRow → Result DistrictRow RequestRefusal
 raised_district old = do
   next_order ← within (between 1 9999999 (old.next_order + 1))
   Ok (record old { next_order = next_order })
@@ -109,7 +109,7 @@ remote_orders warehouse line = if line.supply == warehouse then 0 else 1
 
 -- the stock after a line for this warehouse: S_YTD goes up by the quantity, S_ORDER_CNT by one, and S_REMOTE_CNT by one
 -- where the line is out of another warehouse's stock
-unfoldable pub ordered_stock : ℕ → OrderedLine → StockRow → Result StockRow Refusal
+unfoldable pub ordered_stock : ℕ → OrderedLine → StockRow → Result StockRow RequestRefusal
 ordered_stock warehouse line old = do
   quantity ← within (stock_quantity_of (left_quantity old.quantity line.quantity))
   ytd ← within (between 0 1000000000 (old.ytd + line.quantity))
@@ -118,7 +118,7 @@ ordered_stock warehouse line old = do
   Ok (record { quantity = quantity; ytd = ytd; order_count = order_count; remote_count = remote_count })
 
 -- OL_AMOUNT is the quantity times I_PRICE
-unfoldable pub line_amount : LineCards → Result ℕ Refusal
+unfoldable pub line_amount : LineCards → Result ℕ RequestRefusal
 line_amount line = within (between 0 999999 (line.ordered.quantity * line.item.price))
 
 -- the text has the word in it
@@ -151,7 +151,7 @@ pub record OrderSoFar : Type 0 where
   pub lines : List LineReply
 
 -- line n of order o, where its stock has this row
-unfoldable pub line_done : NewOrder → ℕ → ℕ → LineCards → StockRow → OrderSoFar → Result OrderSoFar Refusal
+unfoldable pub line_done : NewOrder → ℕ → ℕ → LineCards → StockRow → OrderSoFar → Result OrderSoFar RequestRefusal
 line_done p o n line old order = do
   stock ← ordered_stock p.warehouse line.ordered old
   amount ← line_amount line
@@ -163,7 +163,7 @@ line_done p o n line old order = do
   })
 
 -- the lines from n on, each on the rows as the earlier ones leave them
-abbrev pub lines_done : Rows → NewOrder → ℕ → ℕ → List LineCards → OrderSoFar → Result OrderSoFar Refusal
+abbrev pub lines_done : Rows → NewOrder → ℕ → ℕ → List LineCards → OrderSoFar → Result OrderSoFar RequestRefusal
 lines_done rows p o n [] order = Ok order
 lines_done rows p o n (line ∷ lines) order = do
   old ← known (stock_row (after rows order.changes) line.ordered.supply line.ordered.item)
@@ -195,7 +195,7 @@ pub record PlacedOrder : Type 0 where
   pub changes : Changes
 
 -- O_ID is what D_NEXT_O_ID was
-unfoldable pub new_order : Database → NewOrder → ℕ → Result PlacedOrder Refusal
+unfoldable pub new_order : Database → NewOrder → ℕ → Result PlacedOrder RequestRefusal
 new_order db p moment = do
   cards ← found_cards db.cards p
   old ← known (district_row db.rows p.warehouse p.district)

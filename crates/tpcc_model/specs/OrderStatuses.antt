@@ -12,7 +12,7 @@ use Rattle.catalog.specs.Lookups.{customer_card}
 use Rattle.catalog.specs.declared.card.CustomerCard.{CustomerCard}
 use Rattle.requests.specs.declared.request.OrderStatus.{OrderStatus}
 use Rattle.requests.specs.declared.reply.OrderStatusReply.{OrderStatusReply}
-use Rattle.requests.specs.declared.reply.Refusal.{Refusal}
+use Rattle.requests.specs.declared.reply.RequestRefusal.{RequestRefusal}
 use Rattle.requests.specs.declared.reply.ShownLine.{ShownLine}
 use Rattle.requests.specs.declared.reply.ShownOrder.{ShownOrder}
 use Rattle.tpcc_model.specs.Choices.{chosen_customer}
@@ -46,7 +46,7 @@ order_status_reply rows p c card customer = record {
   order = last_order rows p c;
 }
 
-unfoldable pub order_status : Database → OrderStatus → Result OrderStatusReply Refusal
+unfoldable pub order_status : Database → OrderStatus → Result OrderStatusReply RequestRefusal
 order_status db p = do
   c ← known (chosen_customer db.cards p.warehouse p.district p.customer)
   card ← known (customer_card db.cards p.warehouse p.district c)

@@ -19,7 +19,7 @@ use Rattle.catalog.specs.declared.card.WarehouseCard.{WarehouseCard}
 use Rattle.catalog.specs.declared.card.DistrictCard.{DistrictCard}
 use Rattle.catalog.specs.declared.card.CustomerCard.{CustomerCard}
 use Rattle.requests.specs.declared.request.Payment.{Payment}
-use Rattle.requests.specs.declared.reply.Refusal.{Refusal}
+use Rattle.requests.specs.declared.reply.RequestRefusal.{RequestRefusal}
 use Rattle.requests.specs.declared.reply.ShownCredit.{ShownCredit}
 use Rattle.requests.specs.declared.reply.ShownCredit.TheVariants as shown
 use Rattle.requests.specs.declared.reply.PaymentReply.{PaymentReply}
@@ -34,7 +34,7 @@ pub record PaymentCards : Type 0 where
   pub district : DistrictCard
   pub customer : CustomerCard
 
-unfoldable pub found_cards : Cards → Payment → Result PaymentCards Refusal
+unfoldable pub found_cards : Cards → Payment → Result PaymentCards RequestRefusal
 found_cards cards p = do
   warehouse ← known (warehouse_card cards p.warehouse)
   district ← known (district_card cards p.warehouse p.district)
@@ -48,7 +48,7 @@ pub record PaymentRows : Type 0 where
   pub district : DistrictRow
   pub customer : CustomerRow
 
-unfoldable pub found_rows : Rows → Payment → ℕ → Result PaymentRows Refusal
+unfoldable pub found_rows : Rows → Payment → ℕ → Result PaymentRows RequestRefusal
 found_rows rows p c = do
   warehouse ← known (warehouse_row rows p.warehouse)
   district ← known (district_row rows p.warehouse p.district)
@@ -56,13 +56,13 @@ found_rows rows p c = do
   Ok (record { warehouse = warehouse; district = district; customer = customer })
 
 -- W_YTD goes up by the amount
-unfoldable pub paid_warehouse : WarehouseRow → ℕ → Result WarehouseRow Refusal
+unfoldable pub paid_warehouse : WarehouseRow → ℕ → Result WarehouseRow RequestRefusal
 paid_warehouse old amount = do
   ytd ← within (cents_of (old.ytd +ℤ pos amount))
   Ok (record { ytd = ytd })
 
 -- D_YTD goes up by the amount
-unfoldable pub paid_district : DistrictRow → ℕ → Result DistrictRow Refusal
+unfoldable pub paid_district : DistrictRow → ℕ → Result DistrictRow RequestRefusal
 paid_district old amount = do
   ytd ← within (cents_of (old.ytd +ℤ pos amount))
   Ok (record old { ytd = ytd })
@@ -81,7 +81,7 @@ paid_data p c Good old = old
 paid_data p c Bad old = clip 500 (payment_note p c ++ old)
 
 -- C_BALANCE goes down by the amount, C_YTD_PAYMENT up by it, and C_PAYMENT_CNT up by one
-unfoldable pub paid_customer : Payment → ℕ → Credit → CustomerRow → Result CustomerRow Refusal
+unfoldable pub paid_customer : Payment → ℕ → Credit → CustomerRow → Result CustomerRow RequestRefusal
 paid_customer p c credit old = do
   balance ← within (cents_of (old.balance -ℤ pos p.amount))
   ytd_payment ← within (cents_of (old.ytd_payment +ℤ pos p.amount))
@@ -116,7 +116,7 @@ pub record Paid : Type 0 where
   pub customer_id : ℕ
   pub credit : Credit
 
-unfoldable pub paid_rows : Payment → ℕ → PaymentCards → PaymentRows → Result Paid Refusal
+unfoldable pub paid_rows : Payment → ℕ → PaymentCards → PaymentRows → Result Paid RequestRefusal
 paid_rows p moment cards rows = do
   warehouse ← paid_warehouse rows.warehouse p.amount
   district ← paid_district rows.district p.amount
@@ -130,7 +130,7 @@ paid_rows p moment cards rows = do
     credit = cards.customer.credit;
   })
 
-unfoldable pub payment : Database → Payment → ℕ → Result Paid Refusal
+unfoldable pub payment : Database → Payment → ℕ → Result Paid RequestRefusal
 payment db p moment = do
   cards ← found_cards db.cards p
   rows ← found_rows db.rows p cards.customer_id

@@ -10,7 +10,7 @@ use Rattle.requests.specs.declared.request.Request.{Request}
 use Rattle.requests.specs.declared.request.Request.TheVariants as request
 use Rattle.requests.specs.declared.request.RequestKind.{RequestKind}
 use Rattle.requests.specs.declared.request.RequestKind.TheVariants as kind
-use Rattle.requests.specs.declared.reply.Refusal.{Refusal}
+use Rattle.requests.specs.declared.reply.RequestRefusal.{RequestRefusal}
 use Rattle.requests.specs.declared.reply.Reply.{Reply}
 use Rattle.requests.specs.declared.reply.Reply.TheVariants as reply
 use Rattle.requests.specs.declared.reply.OrderStatusReply.{OrderStatusReply}
@@ -23,36 +23,36 @@ use Rattle.tpcc_model.specs.Payments.{Paid, payment, payment_reply, payment_chan
 use Rattle.tpcc_model.specs.StockLevels.{stock_level}
 
 -- the reply, and the keys that are written or deleted, each with its new row or none
-pub record Outcome : Type 0 where
+pub record StepOutcome : Type 0 where
   pub reply : Reply
   pub changes : Changes
 
 -- a refused request changes nothing
-abbrev pub refused : RequestKind → Refusal → Outcome
+abbrev pub refused : RequestKind → RequestRefusal → StepOutcome
 refused k why = record { reply = reply.Refused k why; changes = map.empty }
 
-abbrev pub payment_outcome : Payment → ℕ → Result Paid Refusal → Outcome
+abbrev pub payment_outcome : Payment → ℕ → Result Paid RequestRefusal → StepOutcome
 payment_outcome p number (Ok paid) = record { reply = reply.Payment (payment_reply paid); changes = payment_changes p number paid }
 payment_outcome p number (Err why) = refused kind.Payment why
 
-abbrev pub new_order_outcome : Result PlacedOrder Refusal → Outcome
+abbrev pub new_order_outcome : Result PlacedOrder RequestRefusal → StepOutcome
 new_order_outcome (Ok placed) = record { reply = reply.NewOrder placed.reply; changes = placed.changes }
 new_order_outcome (Err why) = refused kind.NewOrder why
 
-abbrev pub order_status_outcome : Result OrderStatusReply Refusal → Outcome
+abbrev pub order_status_outcome : Result OrderStatusReply RequestRefusal → StepOutcome
 order_status_outcome (Ok shown) = record { reply = reply.OrderStatus shown; changes = map.empty }
 order_status_outcome (Err why) = refused kind.OrderStatus why
 
-abbrev pub delivery_outcome : Result Delivered Refusal → Outcome
+abbrev pub delivery_outcome : Result Delivered RequestRefusal → StepOutcome
 delivery_outcome (Ok made) = record { reply = reply.Delivery made.reply; changes = made.changes }
 delivery_outcome (Err why) = refused kind.Delivery why
 
-abbrev pub stock_level_outcome : Result StockLevelReply Refusal → Outcome
+abbrev pub stock_level_outcome : Result StockLevelReply RequestRefusal → StepOutcome
 stock_level_outcome (Ok counted) = record { reply = reply.StockLevel counted; changes = map.empty }
 stock_level_outcome (Err why) = refused kind.StockLevel why
 
 -- the step of a request with its number, at a moment
-unfoldable pub step : Database → Request → ℕ → ℕ → Outcome
+unfoldable pub step : Database → Request → ℕ → ℕ → StepOutcome
 step db (request.NewOrder p) number moment = new_order_outcome (new_order db p moment)
 step db (request.Payment p) number moment = payment_outcome p number (payment db p moment)
 step db (request.OrderStatus p) number moment = order_status_outcome (order_status db p)

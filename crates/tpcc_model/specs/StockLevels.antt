@@ -8,7 +8,7 @@ use Rattle.tpcc_rows.specs.declared.row.StockRow.{StockRow}
 use Rattle.catalog.specs.Lookups.{district_card, stock_card}
 use Rattle.catalog.specs.declared.card.StockCard.{StockCard}
 use Rattle.requests.specs.declared.request.StockLevel.{StockLevel}
-use Rattle.requests.specs.declared.reply.Refusal.{Refusal}
+use Rattle.requests.specs.declared.reply.RequestRefusal.{RequestRefusal}
 use Rattle.requests.specs.declared.reply.StockLevelReply.{StockLevelReply}
 use Rattle.tpcc_model.specs.Database.{Database}
 use Rattle.tpcc_model.specs.Staging.{◌>>=◌, known}
@@ -42,7 +42,7 @@ abbrev pub first_recent : ℕ → ℕ
 first_recent next = max 1 (next - 20)
 
 -- O_ID of the orders is at least D_NEXT_O_ID - 20, and below D_NEXT_O_ID
-unfoldable pub stock_level : Database → StockLevel → Result StockLevelReply Refusal
+unfoldable pub stock_level : Database → StockLevel → Result StockLevelReply RequestRefusal
 stock_level db p = do
   card ← known (district_card db.cards p.warehouse p.district)
   district ← known (district_row db.rows p.warehouse p.district)

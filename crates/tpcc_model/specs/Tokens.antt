@@ -9,8 +9,8 @@ use Rattle.requests.specs.declared.reply.LineReply.{LineReply}
 use Rattle.requests.specs.declared.reply.NewOrderReply.{NewOrderReply}
 use Rattle.requests.specs.declared.reply.OrderStatusReply.{OrderStatusReply}
 use Rattle.requests.specs.declared.reply.PaymentReply.{PaymentReply}
-use Rattle.requests.specs.declared.reply.Refusal.{Refusal}
-use Rattle.requests.specs.declared.reply.Refusal.TheVariants as refusal
+use Rattle.requests.specs.declared.reply.RequestRefusal.{RequestRefusal}
+use Rattle.requests.specs.declared.reply.RequestRefusal.TheVariants as refusal
 use Rattle.requests.specs.declared.reply.Reply.{Reply}
 use Rattle.requests.specs.declared.reply.Reply.TheVariants as reply
 use Rattle.requests.specs.declared.reply.ShownCredit.{ShownCredit}
@@ -31,7 +31,7 @@ kind_code kind.OrderStatus = 3
 kind_code kind.Delivery = 4
 kind_code kind.StockLevel = 5
 
-abbrev pub refusal_status : Refusal → ℕ
+abbrev pub refusal_status : RequestRefusal → ℕ
 refusal_status refusal.ItemNotValid = 1
 refusal_status refusal.UnknownKey = 2
 refusal_status refusal.LimitReached = 3

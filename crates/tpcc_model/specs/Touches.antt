@@ -28,7 +28,7 @@ use Rattle.requests.specs.declared.request.Payment.{Payment}
 use Rattle.requests.specs.declared.request.Request.{Request}
 use Rattle.requests.specs.declared.request.Request.TheVariants as request
 use Rattle.requests.specs.declared.request.StockLevel.{StockLevel}
-use Rattle.requests.specs.declared.reply.Refusal.{Refusal}
+use Rattle.requests.specs.declared.reply.RequestRefusal.{RequestRefusal}
 use Rattle.tpcc_model.specs.Choices.{chosen_customer}
 use Rattle.tpcc_model.specs.Database.{Database}
 use Rattle.tpcc_model.specs.NewOrders as new_orders
@@ -37,7 +37,7 @@ use Rattle.tpcc_model.specs.Staging.{◌>>=◌, known}
 use Rattle.tpcc_model.specs.StockLevels.{first_recent}
 
 -- what is touched where all is found, and else nothing
-abbrev pub touch_by : {A : Type 0} → (A → Footprint Granule) → Result A Refusal → Footprint Granule
+abbrev pub touch_by : {A : Type 0} → (A → Footprint Granule) → Result A RequestRefusal → Footprint Granule
 touch_by found (Ok x) = found x
 touch_by found (Err why) = untouched
 
@@ -61,7 +61,7 @@ unfoldable pub payment_touch : Database → Payment → Footprint Granule
 payment_touch db p = touch_by (λ cards. paid_touch p cards.customer_id) (payments.found_cards db.cards p)
 
 -- the customer who is asked about, with a card
-unfoldable pub asked_customer : Cards → OrderStatus → Result ℕ Refusal
+unfoldable pub asked_customer : Cards → OrderStatus → Result ℕ RequestRefusal
 asked_customer cards p = do
   c ← known (chosen_customer cards p.warehouse p.district p.customer)
   card ← known (customer_card cards p.warehouse p.district c)

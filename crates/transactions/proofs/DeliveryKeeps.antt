@@ -31,7 +31,7 @@ use Rattle.tpcc_model.specs.Database.{Database}
 use Rattle.tpcc_model.specs.Deliveries.{Delivered, carried, credited, delivery, districts_delivered, lines_amount, lines_dated, oldest_delivered, order_delivered}
 use Rattle.tpcc_model.specs.Soundness.{IsCustomerRow, IsEntry, IsSound}
 use Rattle.tpcc_model.specs.Staging.{known}
-use Rattle.transactions.specs.Laws.{IsKept}
+use Rattle.transactions.specs.Laws.{IsKeptSound}
 use Rattle.transactions.proofs.Books.{shorter_book}
 use Rattle.transactions.proofs.Conditions.{still_consistent}
 use Rattle.transactions.proofs.DeliveryFacts.{credited-fits, oldest-is}
@@ -292,11 +292,11 @@ module _ (cards : Cards) (rows : Rows) (p : Delivery) (moment : ℕ) (fits : IsB
       let kept = districts_keep 1 ten empty last ten_rise (λ d x above. ap (λ (z : Rows). get z (key.NewOrder p.warehouse d x)) start) (subst (λ (z : Rows). IsSound (record { cards = cards; rows = z })) (sym start) sound) h in
       (kept.0, λ i. kept.1 i ∙ ap (λ (z : Rows). get z (key.History i)) start)
 
-pub delivery_keeps : (db : Database) (p : Delivery) (number moment : ℕ) (made : Delivered) → IsSound db → IsBetween 1 10 p.carrier → IsBetween 0 999999999999 moment → delivery db p moment ≡ Ok made → IsKept db (after db.rows made.changes) number
+pub delivery_keeps : (db : Database) (p : Delivery) (number moment : ℕ) (made : Delivered) → IsSound db → IsBetween 1 10 p.carrier → IsBetween 0 999999999999 moment → delivery db p moment ≡ Ok made → IsKeptSound db (after db.rows made.changes) number
 unfolding delivery
 delivery_keeps db p number moment made sound fits timed h =
     ok-by (known (warehouse_card db.cards p.warehouse)) _ _ h λ card e1 h1.
     ok-by (districts_delivered db.rows p moment ten empty) _ _ h1 λ last e2 h2.
     let kept = all_keep db.cards db.rows p moment fits timed last sound e2 in
     let is : ◌≡◌ {A = Delivered} (record { reply = record { orders = map (oldest db.rows p.warehouse) ten }; changes = last }) made = cc in
-    subst (λ (z : Delivered). IsKept db (after db.rows z.changes) number) is (record { sound = kept.0; history = λ n. inr (kept.1 n) })
+    subst (λ (z : Delivered). IsKeptSound db (after db.rows z.changes) number) is (record { sound = kept.0; history = λ n. inr (kept.1 n) })

@@ -4,7 +4,7 @@ use Rattle.std.proofs.lemmas.List.{drop_all, get_or-map}
 use Rattle.std.proofs.lemmas.List.FromFn.{get_or-range_with_len}
 use Rattle.std.proofs.Math.Seq.{drop-cons}
 use Rattle.requests.specs.declared.request.Delivery.{Delivery}
-use Rattle.requests.specs.declared.reply.Refusal.{Refusal}
+use Rattle.requests.specs.declared.reply.RequestRefusal.{RequestRefusal}
 use Rattle.tpcc_rows.specs.Changing.{after}
 use Rattle.tpcc_rows.specs.Limits.{ten}
 use Rattle.tpcc_rows.specs.Picks.{oldest}
@@ -41,14 +41,14 @@ module _ (rows : Rows) (p : Delivery) (moment i : ℕ) (ds : List ℕ) (is : ds 
       ∙ ap₂ (λ (e : ℕ) (x : Option ℕ). oldest_delivered rows p moment e x changes >>= λ more. districts_delivered rows p moment (drop (suc i) ten) more) (ap (λ xs. get_or xs i d) (sym is)) (sym order)
       ∙ ap (λ k. oldest_delivered rows p moment (get_or ds i d) (get_or os i o) changes >>= λ more. districts_delivered rows p moment (drop k ten) more) (sym (add-one i))
 
-  module _ (whole : Result Changes Refusal) (left : districts_delivered rows p moment (drop i ten) changes ≡ whole) where
+  module _ (whole : Result Changes RequestRefusal) (left : districts_delivered rows p moment (drop i ten) changes ≡ whole) where
     pub district_done : (more : Changes) → oldest_delivered rows p moment (get_or ds i d) (get_or os i o) changes ≡ Ok more → districts_delivered rows p moment (drop (i + 1) ten) more ≡ whole
     district_done more done = sym (ap (λ r. r >>= λ c. districts_delivered rows p moment (drop (i + 1) ten) c) done) ∙ sym district_more ∙ left
 
-    pub district_refused : (why : Refusal) → oldest_delivered rows p moment (get_or ds i d) (get_or os i o) changes ≡ Err why → whole ≡ Err why
+    pub district_refused : (why : RequestRefusal) → oldest_delivered rows p moment (get_or ds i d) (get_or os i o) changes ≡ Err why → whole ≡ Err why
     district_refused why done = sym left ∙ district_more ∙ ap (λ r. r >>= λ c. districts_delivered rows p moment (drop (i + 1) ten) c) done
 
 -- no district is left
-pub districts_done : (rows : Rows) (p : Delivery) (moment i : ℕ) → 10 ≤ i → (changes : Changes) (whole : Result Changes Refusal) → districts_delivered rows p moment (drop i ten) changes ≡ whole → whole ≡ Ok changes
+pub districts_done : (rows : Rows) (p : Delivery) (moment i : ℕ) → 10 ≤ i → (changes : Changes) (whole : Result Changes RequestRefusal) → districts_delivered rows p moment (drop i ten) changes ≡ whole → whole ≡ Ok changes
 unfolding districts_delivered
 districts_done rows p moment i past changes whole left = sym left ∙ ap (λ xs. districts_delivered rows p moment xs changes) (drop_all i ten past)

@@ -4,17 +4,17 @@ use Rattle.std.specs.Prelude.{nat_le, int_le}
 use Rattle.std.specs.Option.{ok_or}
 use Rattle.std.proofs.lemmas.Int.{ints}
 use Rattle.std.proofs.lemmas.Bool.Decides.{nat_tests}
-use Rattle.requests.specs.declared.reply.Refusal.{Refusal}
+use Rattle.requests.specs.declared.reply.RequestRefusal.{RequestRefusal}
 use Rattle.tpcc_model.specs.Staging.{◌>>=◌}
 use Rattle.tpcc_rows.specs.Limits.{IsBetween, IsCents, between, cents_of, is_between, is_cents}
 use Rattle.tpcc_rows.proofs.Singles.{and-left, and-right}
 
 -- a stage that ended well, and what came after it
-pub ok-by : {A B P : Type 0} (x : Result A Refusal) (f : A → Result B Refusal) (y : B) → (x >>= f) ≡ Ok y → ((a : A) → x ≡ Ok a → f a ≡ Ok y → P) → P
+pub ok-by : {A B P : Type 0} (x : Result A RequestRefusal) (f : A → Result B RequestRefusal) (y : B) → (x >>= f) ≡ Ok y → ((a : A) → x ≡ Ok a → f a ≡ Ok y → P) → P
 ok-by (Ok a) f y h k = k a refl h
 ok-by (Err e) f y h k = let no : ⊥ = cc in absurd no
 
-pub ok_or-ok : {A : Type 0} (o : Option A) (e : Refusal) (a : A) → ok_or o e ≡ Ok a → o ≡ Some a
+pub ok_or-ok : {A : Type 0} (o : Option A) (e : RequestRefusal) (a : A) → ok_or o e ≡ Ok a → o ≡ Some a
 ok_or-ok None e a h = cc
 ok_or-ok (Some x) e a h = cc
 

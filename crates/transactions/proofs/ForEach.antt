@@ -2,11 +2,11 @@
 use Rattle.std.proofs.Common.{◌≡◌, ◌<◌, ◌+◌, ℕ, suc, List, [], ◌∷◌, ◌++◌, map, take, drop, get_or, length, Result, Ok, Err, refl, ap, sym, ◌∙◌}
 use Rattle.std.proofs.lemmas.List.{take_more, take-append-drop, map-append}
 use Rattle.std.proofs.Math.Seq.{drop-cons}
-use Rattle.requests.specs.declared.reply.Refusal.{Refusal}
+use Rattle.requests.specs.declared.reply.RequestRefusal.{RequestRefusal}
 use Rattle.tpcc_model.specs.Staging.{◌>>=◌, for_each}
 use Rattle.transactions.proofs.Doing.{ok-by}
 
-module _ {A B : Type 0} (stage : A → Result B Refusal) where
+module _ {A B : Type 0} (stage : A → Result B RequestRefusal) where
   -- one more
   for_each-push : (xs : List A) (x : A) (ys : List B) (y : B) → for_each stage xs ≡ Ok ys → stage x ≡ Ok y → for_each stage (xs ++ x ∷ []) ≡ Ok (ys ++ y ∷ [])
   for_each-push [] x ys y done one = (let none : [] ≡ ys = cc in ap (λ r. r >>= λ z. Ok (z ∷ [])) one ∙ ap (λ zs. Ok (zs ++ y ∷ [])) none)
@@ -17,7 +17,7 @@ module _ {A B : Type 0} (stage : A → Result B Refusal) where
       ap (λ r. r >>= λ b. for_each stage (zs ++ x ∷ []) >>= λ bs. Ok (b ∷ bs)) ea ∙ ap (λ r. r >>= λ bs. Ok (a ∷ bs)) (for_each-push zs x more y em one) ∙ ap (λ bs. Ok (bs ++ y ∷ [])) is
 
   -- the first refusal
-  for_each-refused : (xs : List A) (x : A) (rest : List A) (ys : List B) (why : Refusal) → for_each stage xs ≡ Ok ys → stage x ≡ Err why → for_each stage (xs ++ x ∷ rest) ≡ Err why
+  for_each-refused : (xs : List A) (x : A) (rest : List A) (ys : List B) (why : RequestRefusal) → for_each stage xs ≡ Ok ys → stage x ≡ Err why → for_each stage (xs ++ x ∷ rest) ≡ Err why
   for_each-refused [] x rest ys why done one = ap (λ r. r >>= λ b. for_each stage rest >>= λ bs. Ok (b ∷ bs)) one
   for_each-refused (z ∷ zs) x rest ys why done one =
       ok-by (stage z) _ _ done λ a ea ha.
@@ -32,18 +32,18 @@ module _ {A B : Type 0} (stage : A → Result B Refusal) where
         ∙ for_each-push (take i xs) x (map view ys) (view y) done (sym one) ∙ ap Ok (sym (map-append view ys (y ∷ [])))
 
     -- the turn that ends it
-    pub for_each_stop : (ys : List B) (why : Refusal) → for_each stage (take i xs) ≡ Ok ys → Err why ≡ stage x → for_each stage xs ≡ Err why
+    pub for_each_stop : (ys : List B) (why : RequestRefusal) → for_each stage (take i xs) ≡ Ok ys → Err why ≡ stage x → for_each stage xs ≡ Err why
     for_each_stop ys why done one =
         ap (for_each stage) (sym (take-append-drop i xs) ∙ ap (λ z. take i xs ++ z) (drop-cons xs i x below ∙ ap (λ z. z ∷ drop (suc i) xs) (sym is)))
         ∙ for_each-refused (take i xs) x (drop (suc i) xs) ys why done (sym one)
 
 -- a stage after a view
-pub for_each-map : {X A B : Type 0} (stage : A → Result B Refusal) (view : X → A) (xs : List X) → for_each stage (map view xs) ≡ for_each (λ x. stage (view x)) xs
+pub for_each-map : {X A B : Type 0} (stage : A → Result B RequestRefusal) (view : X → A) (xs : List X) → for_each stage (map view xs) ≡ for_each (λ x. stage (view x)) xs
 for_each-map stage view [] = refl
 for_each-map stage view (x ∷ xs) = ap (λ r. stage (view x) >>= λ y. r >>= λ ys. Ok (y ∷ ys)) (for_each-map stage view xs)
 
 -- as many as the list
-pub for_each-length : {A B : Type 0} (stage : A → Result B Refusal) (xs : List A) (ys : List B) → for_each stage xs ≡ Ok ys → length ys ≡ length xs
+pub for_each-length : {A B : Type 0} (stage : A → Result B RequestRefusal) (xs : List A) (ys : List B) → for_each stage xs ≡ Ok ys → length ys ≡ length xs
 for_each-length stage [] ys done = (let none : [] ≡ ys = cc in ap length (sym none))
 for_each-length stage (x ∷ xs) ys done =
     ok-by (stage x) _ _ done λ a ea ha.

@@ -4,7 +4,7 @@ use Rattle.catalog.specs.CardMap.{Cards}
 use Rattle.requests.specs.declared.request.Request.{Request}
 use Rattle.requests.specs.declared.request.Request.TheVariants as request
 use Rattle.requests.specs.declared.reply.OrderStatusReply.{OrderStatusReply}
-use Rattle.requests.specs.declared.reply.Refusal.{Refusal}
+use Rattle.requests.specs.declared.reply.RequestRefusal.{RequestRefusal}
 use Rattle.requests.specs.declared.reply.StockLevelReply.{StockLevelReply}
 use Rattle.tpcc_rows.specs.RowMap.{Rows}
 use Rattle.tpcc_rows.specs.declared.granule.Granule.{Granule}
@@ -40,11 +40,11 @@ same_step cards s t (request.Delivery p) number moment agree = ap delivery_outco
 same_step cards s t (request.StockLevel p) number moment agree = ap stock_level_outcome (same_stock_level cards s t p agree)
 
 -- a question changes nothing
-shown-placed : (number : ℕ) (gs : List Granule) (r : Result OrderStatusReply Refusal) → ArePlaced number gs (order_status_outcome r).changes
+shown-placed : (number : ℕ) (gs : List Granule) (r : Result OrderStatusReply RequestRefusal) → ArePlaced number gs (order_status_outcome r).changes
 shown-placed number gs (Ok shown) = placed-none number gs
 shown-placed number gs (Err why) = placed-none number gs
 
-counted-placed : (number : ℕ) (gs : List Granule) (r : Result StockLevelReply Refusal) → ArePlaced number gs (stock_level_outcome r).changes
+counted-placed : (number : ℕ) (gs : List Granule) (r : Result StockLevelReply RequestRefusal) → ArePlaced number gs (stock_level_outcome r).changes
 counted-placed number gs (Ok counted) = placed-none number gs
 counted-placed number gs (Err why) = placed-none number gs
 

@@ -19,7 +19,7 @@ use Rattle.tpcc_rows.specs.declared.row.OrderLineRow.{OrderLineRow}
 use Rattle.tpcc_model.specs.Database.{Database}
 use Rattle.tpcc_model.specs.Touches.{asked_touch, counted_touch, credited_touch, district_touch, line_touch, lines_touch, oldest_touch, ordered_touch, orders_touch, paid_touch, placed_touch, recent_touch}
 use Rattle.worker_rows.specs.Views.{View, covers, may_read}
-use Rattle.transactions.specs.Faults.{EndsWithin, IsStrayWhere}
+use Rattle.transactions.specs.Faults.{EndsWithin, IsFaultUnless}
 use Rattle.transactions.specs.declared.fault.Fault.{Fault}
 use Rattle.transactions.specs.declared.fault.Fault.TheVariants as fault
 use Rattle.transactions.proofs.Covering.{covers-joined, covers-joined_all, covers-map}
@@ -161,8 +161,8 @@ module _ (view : View) (db : Database) (p : StockLevel) where
       ∙ orders_uncovered first (o + 1 - first) (next - (o + 1)) (order_uncovered first o number same from one)
 
 -- a fault of one part, where the whole strays as the part does
-pub ended_by : {A : Type 0} (stage whole : Bool) (f : Fault) (result : Result A Fault) → (stage ≡ false → whole ≡ false) → IsStrayWhere stage f → IsErrAnd result (λ g. g ≡ f) → EndsWithin whole result
+pub ended_by : {A : Type 0} (stage whole : Bool) (f : Fault) (result : Result A Fault) → (stage ≡ false → whole ≡ false) → IsFaultUnless stage f → IsErrAnd result (λ g. g ≡ f) → EndsWithin whole result
 ended_by stage whole f (Ok x) on is by = absurd by
 ended_by stage whole (fault.Refused why) (Err g) on is by = absurd is
-ended_by stage whole fault.Strayed (Err g) on is by = subst (IsStrayWhere whole) (sym by) (on is)
-ended_by stage whole fault.Memory (Err g) on is by = subst (IsStrayWhere whole) (sym by) tt
+ended_by stage whole fault.Strayed (Err g) on is by = subst (IsFaultUnless whole) (sym by) (on is)
+ended_by stage whole fault.Memory (Err g) on is by = subst (IsFaultUnless whole) (sym by) tt

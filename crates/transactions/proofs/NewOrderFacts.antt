@@ -7,7 +7,7 @@ use Rattle.catalog.specs.CardMap.{Cards}
 use Rattle.catalog.specs.Lookups.{warehouse_card, district_card, customer_card, item_card, stock_card}
 use Rattle.requests.specs.declared.request.NewOrder.{NewOrder}
 use Rattle.requests.specs.declared.request.OrderedLine.{OrderedLine}
-use Rattle.requests.specs.declared.reply.Refusal.TheVariants.{ItemNotValid}
+use Rattle.requests.specs.declared.reply.RequestRefusal.TheVariants.{ItemNotValid}
 use Rattle.tpcc_rows.specs.Limits.{IsBetween, between}
 use Rattle.tpcc_rows.specs.Rows.{district_row}
 use Rattle.tpcc_rows.specs.declared.key.RowKey.TheVariants as key

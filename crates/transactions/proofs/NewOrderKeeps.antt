@@ -25,7 +25,7 @@ use Rattle.tpcc_model.specs.Conditions.{Condition1, IsConsistent, district_share
 use Rattle.tpcc_model.specs.Database.{Database}
 use Rattle.tpcc_model.specs.NewOrders.{PlacedOrder, new_order, opened, order_of}
 use Rattle.tpcc_model.specs.Soundness.{IsEntry, IsSound}
-use Rattle.transactions.specs.Laws.{IsKept, KeepsHistory}
+use Rattle.transactions.specs.Laws.{IsKeptSound, KeepsHistory}
 use Rattle.transactions.specs.Requests.{IsNewOrder}
 use Rattle.transactions.proofs.Books.{IsBook, longer_book, none_by}
 use Rattle.transactions.proofs.Conditions.{still_consistent}
@@ -262,11 +262,11 @@ module _ (db : Database) (p : NewOrder) (moment : ℕ) (made : PlacedOrder) (sou
   history : (number : ℕ) → KeepsHistory rows last number
   history number n = inr (lines.elsewhere (key.History n) refl ∙ quiet (key.History n) (λ s. cc) (λ s. cc) (λ s. cc))
 
-pub new_order_keeps : (db : Database) (p : NewOrder) (number moment : ℕ) (made : PlacedOrder) → IsSound db → IsNewOrder p → IsBetween 0 999999999999 moment → new_order db p moment ≡ Ok made → IsKept db (after db.rows made.changes) number
+pub new_order_keeps : (db : Database) (p : NewOrder) (number moment : ℕ) (made : PlacedOrder) → IsSound db → IsNewOrder p → IsBetween 0 999999999999 moment → new_order db p moment ≡ Ok made → IsKeptSound db (after db.rows made.changes) number
 new_order_keeps db p number moment made sound fits timed h =
     let f = order_found db p moment made sound.cards fits h in
     let m = after db.rows f.last.changes in
-    subst (λ changes. IsKept db (after db.rows changes) number) f.changes (record {
+    subst (λ changes. IsKeptSound db (after db.rows changes) number) f.changes (record {
       sound = record {
         cards = sound.cards;
         there = (lines db p moment made sound fits timed f).there;

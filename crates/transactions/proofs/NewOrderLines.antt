@@ -83,14 +83,14 @@ stock-ordered w line old new h =
     })
 
 -- what one line made
-record IsDone (p : NewOrder) (o n : ℕ) (line : LineCards) (made more : OrderSoFar) : Type 0 where
+record IsLineDone (p : NewOrder) (o n : ℕ) (line : LineCards) (made more : OrderSoFar) : Type 0 where
   stock : StockRow
   amount : ℕ
   is_stock : IsStockRow stock
   is_amount : IsBetween 0 999999 amount
   changes : more.changes ≡ insert (insert made.changes (key.Stock line.ordered.supply line.ordered.item) (Some (row.Stock stock))) (key.OrderLine p.warehouse p.district o n) (Some (row.OrderLine (order_line_of p line amount)))
 
-done : (p : NewOrder) (o n : ℕ) (line : LineCards) (old : StockRow) (made more : OrderSoFar) → line_done p o n line old made ≡ Ok more → IsDone p o n line made more
+done : (p : NewOrder) (o n : ℕ) (line : LineCards) (old : StockRow) (made more : OrderSoFar) → line_done p o n line old made ≡ Ok more → IsLineDone p o n line made more
 unfolding line_done line_amount
 done p o n line old made more h =
     ok-by (ordered_stock p.warehouse line.ordered old) _ _ h λ stock es hs.

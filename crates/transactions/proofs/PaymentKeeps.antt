@@ -24,7 +24,7 @@ use Rattle.tpcc_model.specs.Conditions.{Condition1, IsConsistent, district_share
 use Rattle.tpcc_model.specs.Database.{Database}
 use Rattle.tpcc_model.specs.Payments.{Paid, payment, payment_changes}
 use Rattle.tpcc_model.specs.Soundness.{IsSound}
-use Rattle.transactions.specs.Laws.{IsKept, KeepsHistory}
+use Rattle.transactions.specs.Laws.{IsKeptSound, KeepsHistory}
 use Rattle.transactions.specs.Requests.{IsPayment}
 use Rattle.transactions.proofs.Conditions.{balanced, still_consistent}
 use Rattle.transactions.proofs.Entries.{Each, OrdersKept, There, each-insert, each-moved, there-insert}
@@ -157,7 +157,7 @@ unfolding payment_changes
 after-payment db p number paid = simp (after-insert, after-empty)
 
 pub payment_keeps : (db : Database) (p : Payment) (number moment : ℕ) (paid : Paid) → IsSound db → IsPayment p → IsBetween 1 999999999999999 number → IsBetween 0 999999999999 moment → payment db p moment ≡ Ok paid
-    → IsKept db (after db.rows (payment_changes p number paid)) number
+    → IsKeptSound db (after db.rows (payment_changes p number paid)) number
 payment_keeps db p number moment paid sound fits numbered timed h =
     let f = found db p number moment paid sound fits numbered timed h in
-    subst (λ (rows : Rows). IsKept db rows number) (sym (after-payment db p number paid)) (record { sound = kept_all db p number paid sound f; history = history db p number paid sound f })
+    subst (λ (rows : Rows). IsKeptSound db rows number) (sym (after-payment db p number paid)) (record { sound = kept_all db p number paid sound f; history = history db p number paid sound f })

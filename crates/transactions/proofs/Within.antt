@@ -5,7 +5,7 @@ use Rattle.requests.specs.declared.reply.Reply.{Reply}
 use Rattle.requests.specs.declared.request.Request.{Request}
 use Rattle.tpcc_rows.specs.RowMap.{Changes}
 use Rattle.tpcc_model.specs.Database.{Database}
-use Rattle.tpcc_model.specs.Steps.{Outcome, step}
+use Rattle.tpcc_model.specs.Steps.{StepOutcome, step}
 use Rattle.tpcc_model.specs.Touches.{Agree, touch}
 use Rattle.worker_rows.specs.Views.{View, covers}
 use Rattle.transactions.specs.Lending.{lent}
@@ -49,6 +49,6 @@ module _ (view : View) (cards : Cards) (q : Request) where
   -- so what is executed on the rows that are lent is executed on all of them
   pub executes_within : (number moment : ℕ) (result : Result (Reply × Changes) ExecError) → Executes (covers view (touch part q)) (step part q number moment) result → Executes (covers view (touch whole q)) (step whole q number moment) result
   executes_within number moment (Ok pair) (within, is) =
-      (touch_within within, subst (λ (o : Outcome). IsOutcome o pair) (sym (step_within number moment within)) is)
+      (touch_within within, subst (λ (o : StepOutcome). IsOutcome o pair) (sym (step_within number moment within)) is)
   executes_within number moment (Err exec_error.Strayed) strays = touch_strays strays
   executes_within number moment (Err exec_error.Memory) refused = refused

@@ -21,13 +21,13 @@ use Rattle.transactions.specs.Requests.{IsRequest}
 abbrev pub KeepsHistory : Rows → Rows → ℕ → Type 0
 KeepsHistory old new number = (n : ℕ) → (n ≡ number) ⊎ (map.get new (key.History n) ≡ map.get old (key.History n))
 
-pub record IsKept (db : Database) (rows : Rows) (number : ℕ) : Type 0 where
+pub record IsKeptSound (db : Database) (rows : Rows) (number : ℕ) : Type 0 where
   pub sound : IsSound (record db { rows = rows })
   pub history : KeepsHistory db.rows rows number
 
 abbrev pub StepKeeps : Type 0
 StepKeeps = (db : Database) (request : Request) (number moment : ℕ) → IsSound db → IsRequest request → IsBetween 1 999999999999999 number → IsBetween 0 999999999999 moment
-    → IsKept db (after db.rows (step db request number moment).changes) number
+    → IsKeptSound db (after db.rows (step db request number moment).changes) number
 
 -- what a request reads and writes is all that its step depends on and changes
 pub record StepFrames : Type 0 where

@@ -1,16 +1,16 @@
 -- What the code's types stand for.
 use Rattle.std.specs.Prelude.{◌≡◌, Bool, true, false, Result, Ok, Err, MatchResult}
 use Rattle.requests.specs.declared.reply.Reply.{Reply}
-use Rattle.requests.specs.declared.reply.Refusal.{Refusal}
+use Rattle.requests.specs.declared.reply.RequestRefusal.{RequestRefusal}
 use Rattle.tpcc_model.specs.Payments.{Paid}
-use Rattle.tpcc_model.specs.Steps.{Outcome}
+use Rattle.tpcc_model.specs.Steps.{StepOutcome}
 use Rattle.tpcc_rows.specs.RowMap.{Changes}
 use Rattle.transactions.specs.declared.payment.NewRows.{NewRows}
 use Rattle.transactions.specs.declared.exec_error.ExecError.{ExecError}
 use Rattle.transactions.specs.declared.exec_error.ExecError.TheVariants as exec_error
 
 -- the pair is the outcome
-pub record IsOutcome (outcome : Outcome) (pair : Reply × Changes) : Type 0 where
+pub record IsOutcome (outcome : StepOutcome) (pair : Reply × Changes) : Type 0 where
   pub reply : pair.0 ≡ outcome.reply
   pub changes : pair.1 ≡ outcome.changes
 
@@ -20,11 +20,11 @@ IsErrorWithin within exec_error.Strayed = within ≡ false
 IsErrorWithin within exec_error.Memory = Unit {0}
 
 -- the outcome where the touch is within the view
-abbrev pub Executes : Bool → Outcome → Result (Reply × Changes) ExecError → Type 0
+abbrev pub Executes : Bool → StepOutcome → Result (Reply × Changes) ExecError → Type 0
 Executes within outcome result = MatchResult result (λ pair. (within ≡ true) × IsOutcome outcome pair) (IsErrorWithin within)
 
 -- an answer of the code, as the definitions have it
-abbrev pub viewed : {A B : Type 0} → (A → B) → Result A Refusal → Result B Refusal
+abbrev pub viewed : {A B : Type 0} → (A → B) → Result A RequestRefusal → Result B RequestRefusal
 viewed view (Ok x) = Ok (view x)
 viewed view (Err why) = Err why
 

@@ -23,7 +23,7 @@ use crate::lent;
 use crate::new_order::line_number;
 use crate::seen::{customer_seen, order_line_seen, order_seen};
 use catalog::Catalog;
-use requests::reply::{DeliveryReply, Refusal, Reply};
+use requests::reply::{DeliveryReply, Reply, RequestRefusal};
 use requests::request::{Delivery, RequestKind};
 use std::alloc::Global;
 use tpcc_rows::delta::Delta;
@@ -66,11 +66,17 @@ fn lines_amount<V: RowView>(
 }
 
 #[tactic(auto, unfolding(tpcc_model::specs::Deliveries::credited))]
-fn credited(old: &CustomerRow, amount: u32) -> Result<CustomerRow, Refusal>
+fn credited(old: &CustomerRow, amount: u32) -> Result<CustomerRow, RequestRefusal>
     ensures { result ≡ credited old.now amount }
 {
-    let balance = old.balance.raised(amount).ok_or(Refusal::LimitReached)?;
-    let delivery_count = old.delivery_count.raised(1).ok_or(Refusal::LimitReached)?;
+    let balance = old
+        .balance
+        .raised(amount)
+        .ok_or(RequestRefusal::LimitReached)?;
+    let delivery_count = old
+        .delivery_count
+        .raised(1)
+        .ok_or(RequestRefusal::LimitReached)?;
     Ok(CustomerRow {
         balance,
         ytd_payment: old.ytd_payment,
@@ -169,9 +175,9 @@ fn order_delivered<V: RowView>(
     ensures { AnswersBy (λ done. changes.new) (order_delivered (lent (V.sees view.now)) p.now moment district order changes.old) result }
 {
     let row = order_seen(view, changes, p.warehouse, district, order);
-    let row = *row.ok_or(Refusal::UnknownKey)?;
+    let row = *row.ok_or(RequestRefusal::UnknownKey)?;
     let old = customer_seen(view, changes, p.warehouse, district, row.customer);
-    let old = old.ok_or(Refusal::UnknownKey)?;
+    let old = old.ok_or(RequestRefusal::UnknownKey)?;
     let amount = lines_amount(view, changes, p, district, order, row.line_count);
     let new = credited(old, amount)?;
     carried(p, district, order, row, changes)?;
@@ -300,7 +306,9 @@ fn delivery<V: RowView>(
 ) -> Result<(DeliveryReply, Delta), Fault>
     ensures { let db : Database = record { cards = catalog.now; rows = lent (V.sees view.now) } in AnswersWithin delivered_of (covers (V.sees view.now) (delivery_touch db p.now)) (delivery db p.now moment) result }
 {
-    catalog.warehouse(p.warehouse).ok_or(Refusal::UnknownKey)?;
+    catalog
+        .warehouse(p.warehouse)
+        .ok_or(RequestRefusal::UnknownKey)?;
     let orders = oldest_orders(view, p)?;
     let mut changes = Delta::new(alloc);
     districts_delivered(alloc, view, p, moment, &orders, &mut changes)?;

@@ -1,22 +1,22 @@
 //! Why a step has no outcome: it is refused, it strays, or memory was refused.
-use requests::reply::Refusal;
+use requests::reply::RequestRefusal;
 use std::alloc::{AllocError, AllocFailed};
 use tpcc_rows::memory::Memory;
 use worker_rows::Strayed;
 
 #[derive(Clone, Copy, Debug, PartialEq, Eq)]
 pub(crate) enum Fault {
-    Refused(Refusal),
+    Refused(RequestRefusal),
     Strayed,
     Memory,
 }
 
-impl From<Refusal> for Fault {
+impl From<RequestRefusal> for Fault {
     ghost use Rattle.transactions.specs.Faults.{IsRefused};
 
     ghost from_gives = { IsRefused };
 
-    fn from(refusal: Refusal) -> Fault {
+    fn from(refusal: RequestRefusal) -> Fault {
         Fault::Refused(refusal)
     }
 }

@@ -22,7 +22,7 @@ use crate::order_line::{
 };
 use crate::seen::stock_seen;
 use catalog::{Catalog, CustomerCard, DistrictCard, WarehouseCard};
-use requests::reply::{LineReplies, LineReply, NewOrderReply, Refusal, Reply};
+use requests::reply::{LineReplies, LineReply, NewOrderReply, Reply, RequestRefusal};
 use requests::request::{NewOrder, OrderedLine, RequestKind};
 use std::alloc::Global;
 use tpcc_rows::delta::Delta;
@@ -36,10 +36,10 @@ use tpcc_rows::total::total_cents;
 use worker_rows::RowView;
 
 #[tactic(auto, unfolding(tpcc_model::specs::NewOrders::raised_district))]
-fn raised_district(old: &DistrictRow) -> Result<DistrictRow, Refusal>
+fn raised_district(old: &DistrictRow) -> Result<DistrictRow, RequestRefusal>
     ensures { result ≡ raised_district old.now }
 {
-    let next_order = old.next_order.next().ok_or(Refusal::LimitReached)?;
+    let next_order = old.next_order.next().ok_or(RequestRefusal::LimitReached)?;
     Ok(DistrictRow { next_order, ..*old })
 }
 
@@ -130,7 +130,7 @@ fn lines_done<V: RowView>(
     for (index, line) in lines.iter().enumerate() {
         let OrderedLine { item, supply, .. } = *line.ordered;
         let row = stock_seen(view, &so_far.changes, supply, item);
-        let old = *row.ok_or(Refusal::UnknownKey)?;
+        let old = *row.ok_or(RequestRefusal::UnknownKey)?;
         line_done(p, order, line_number(index + 1), line, &old, so_far)?;
     }
     Ok(())
@@ -245,18 +245,20 @@ fn new_order<V: RowView>(
 ) -> Result<(NewOrderReply, Delta), Fault>
     ensures { let db : Database = record { cards = catalog.now; rows = lent (V.sees view.now) } in AnswersWithin placed_order_of (covers (V.sees view.now) (new_order_touch db p.now)) (new_order db p.now moment) result }
 {
-    let warehouse = catalog.warehouse(p.warehouse).ok_or(Refusal::UnknownKey)?;
+    let warehouse = catalog
+        .warehouse(p.warehouse)
+        .ok_or(RequestRefusal::UnknownKey)?;
     let district = catalog
         .district(p.warehouse, p.district)
-        .ok_or(Refusal::UnknownKey)?;
+        .ok_or(RequestRefusal::UnknownKey)?;
     let customer = catalog
         .customer(p.warehouse, p.district, p.customer)
-        .ok_or(Refusal::UnknownKey)?;
+        .ok_or(RequestRefusal::UnknownKey)?;
     let lines = found_lines(alloc, catalog, p.lines.as_slice())?;
     if !may_place(view, p) {
         return Err(Fault::Strayed);
     }
-    let old = lent::district(view, p.warehouse, p.district).ok_or(Refusal::UnknownKey)?;
+    let old = lent::district(view, p.warehouse, p.district).ok_or(RequestRefusal::UnknownKey)?;
     let order = old.next_order;
     let mut so_far = opened(alloc, p, moment, order, raised_district(old)?)?;
     lines_done(view, p, order, &lines, &mut so_far)?;

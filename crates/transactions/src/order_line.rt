@@ -9,7 +9,7 @@ ghost use Rattle.transactions.specs.Outcomes.{viewed};
 use crate::fault::Fault;
 use catalog::{Catalog, ItemCard, StockCard};
 use requests::number::OrderedQuantity;
-use requests::reply::{Brand, Refusal};
+use requests::reply::{Brand, RequestRefusal};
 use requests::request::{NewOrder, OrderedLine};
 use std::alloc::Global;
 use tpcc_rows::id::WarehouseId;
@@ -32,10 +32,13 @@ pub(crate) struct LineCards<'a> {
 }
 
 #[tactic(auto, unfolding(tpcc_model::specs::NewOrders::found_item))]
-fn found_item<'a>(catalog: &'a Catalog, line: &'a OrderedLine) -> Result<LineItem<'a>, Refusal>
+fn found_item<'a>(
+    catalog: &'a Catalog,
+    line: &'a OrderedLine,
+) -> Result<LineItem<'a>, RequestRefusal>
     ensures { viewed line_item_of result ≡ found_item catalog.now line.now }
 {
-    let item = catalog.item(line.item).ok_or(Refusal::ItemNotValid)?;
+    let item = catalog.item(line.item).ok_or(RequestRefusal::ItemNotValid)?;
     Ok(LineItem {
         ordered: line,
         item,
@@ -43,12 +46,15 @@ fn found_item<'a>(catalog: &'a Catalog, line: &'a OrderedLine) -> Result<LineIte
 }
 
 #[tactic(auto, unfolding(tpcc_model::specs::NewOrders::found_stock))]
-fn found_stock<'a>(catalog: &'a Catalog, line: &LineItem<'a>) -> Result<LineCards<'a>, Refusal>
+fn found_stock<'a>(
+    catalog: &'a Catalog,
+    line: &LineItem<'a>,
+) -> Result<LineCards<'a>, RequestRefusal>
     ensures { viewed line_cards_of result ≡ found_stock catalog.now (line_item_of line.now) }
 {
     let stock = catalog
         .stock(line.ordered.supply, line.ordered.item)
-        .ok_or(Refusal::UnknownKey)?;
+        .ok_or(RequestRefusal::UnknownKey)?;
     Ok(LineCards {
         ordered: line.ordered,
         item: line.item,
@@ -116,20 +122,23 @@ pub(crate) fn ordered_stock(
     warehouse: WarehouseId,
     line: &OrderedLine,
     old: &StockRow,
-) -> Result<StockRow, Refusal>
+) -> Result<StockRow, RequestRefusal>
     ensures { result ≡ ordered_stock warehouse line.now old.now }
 {
     let left = left_quantity(old.quantity, line.quantity);
-    let quantity = StockQuantity::new(left).ok_or(Refusal::LimitReached)?;
+    let quantity = StockQuantity::new(left).ok_or(RequestRefusal::LimitReached)?;
     let ytd = old
         .ytd
         .raised(line.quantity.value())
-        .ok_or(Refusal::LimitReached)?;
-    let order_count = old.order_count.raised(1).ok_or(Refusal::LimitReached)?;
+        .ok_or(RequestRefusal::LimitReached)?;
+    let order_count = old
+        .order_count
+        .raised(1)
+        .ok_or(RequestRefusal::LimitReached)?;
     let remote_count = old
         .remote_count
         .raised(remote_orders(warehouse, line))
-        .ok_or(Refusal::LimitReached)?;
+        .ok_or(RequestRefusal::LimitReached)?;
     Ok(StockRow {
         quantity,
         ytd,
@@ -139,11 +148,11 @@ pub(crate) fn ordered_stock(
 }
 
 #[tactic(auto, unfolding(tpcc_model::specs::NewOrders::line_amount))]
-pub(crate) fn line_amount(line: &LineCards<'_>) -> Result<Amount, Refusal>
+pub(crate) fn line_amount(line: &LineCards<'_>) -> Result<Amount, RequestRefusal>
     ensures { result ≡ line_amount (line_cards_of line.now) }
 {
     let quantity = u32::from(line.ordered.quantity.value());
-    Amount::new(quantity * line.item.price.cents()).ok_or(Refusal::LimitReached)
+    Amount::new(quantity * line.item.price.cents()).ok_or(RequestRefusal::LimitReached)
 }
 
 #[tactic(auto, unfolding(tpcc_model::specs::NewOrders::is_original))]

@@ -17,7 +17,7 @@ use crate::fault::Fault;
 use crate::lent;
 use crate::new_order::line_number;
 use catalog::{Catalog, CustomerCard};
-use requests::reply::{OrderStatusReply, Refusal, Reply, ShownLine, ShownLines, ShownOrder};
+use requests::reply::{OrderStatusReply, Reply, RequestRefusal, ShownLine, ShownLines, ShownOrder};
 use requests::request::{OrderStatus, RequestKind};
 use std::alloc::Global;
 use tpcc_rows::delta::Delta;
@@ -123,14 +123,14 @@ fn order_status<V: RowView>(
     ensures { let db : Database = record { cards = catalog.now; rows = lent (V.sees view.now) } in AnswersWithin (λ shown. shown) (covers (V.sees view.now) (order_status_touch db p.now)) (order_status db p.now) result }
 {
     let customer = chosen_customer(catalog, p.warehouse, p.district, &p.customer).ok_or(
-        Refusal::UnknownKey,
+        RequestRefusal::UnknownKey,
     )?;
     let card = catalog
         .customer(p.warehouse, p.district, customer)
-        .ok_or(Refusal::UnknownKey)?;
+        .ok_or(RequestRefusal::UnknownKey)?;
     let row = lent::read_customer(view, p.warehouse, p.district, customer)?;
     let last = lent::last_order(view, p.warehouse, p.district, customer)?;
-    let row = row.ok_or(Refusal::UnknownKey)?;
+    let row = row.ok_or(RequestRefusal::UnknownKey)?;
     Ok(order_status_reply(view, p, customer, card, row, last))
 }
 

@@ -17,7 +17,7 @@ use crate::fault::Fault;
 use crate::lent;
 use catalog::{Catalog, Credit};
 use requests::number::PaymentAmount;
-use requests::reply::{PaymentReply, Refusal, Reply, ShownCredit};
+use requests::reply::{PaymentReply, Reply, RequestRefusal, ShownCredit};
 use requests::request::{Payment, RequestKind};
 use std::alloc::Global;
 use tpcc_rows::delta::Delta;
@@ -42,18 +42,18 @@ pub(crate) struct NewRows {
 }
 
 #[tactic(auto, unfolding(tpcc_model::specs::Payments::paid_warehouse))]
-fn paid_warehouse(old: &WarehouseRow, amount: u32) -> Result<WarehouseRow, Refusal>
+fn paid_warehouse(old: &WarehouseRow, amount: u32) -> Result<WarehouseRow, RequestRefusal>
     ensures { result ≡ paid_warehouse old.now amount }
 {
-    let ytd = old.ytd.raised(amount).ok_or(Refusal::LimitReached)?;
+    let ytd = old.ytd.raised(amount).ok_or(RequestRefusal::LimitReached)?;
     Ok(WarehouseRow { ytd })
 }
 
 #[tactic(auto, unfolding(tpcc_model::specs::Payments::paid_district))]
-fn paid_district(old: &DistrictRow, amount: u32) -> Result<DistrictRow, Refusal>
+fn paid_district(old: &DistrictRow, amount: u32) -> Result<DistrictRow, RequestRefusal>
     ensures { result ≡ paid_district old.now amount }
 {
-    let ytd = old.ytd.raised(amount).ok_or(Refusal::LimitReached)?;
+    let ytd = old.ytd.raised(amount).ok_or(RequestRefusal::LimitReached)?;
     Ok(DistrictRow { ytd, ..*old })
 }
 
@@ -100,13 +100,22 @@ fn paid_customer(
     customer: CustomerId,
     credit: Credit,
     old: &CustomerRow,
-) -> Result<CustomerRow, Refusal>
+) -> Result<CustomerRow, RequestRefusal>
     ensures { result ≡ paid_customer p.now customer credit old.now }
 {
     let amount = p.amount.cents();
-    let balance = old.balance.lowered(amount).ok_or(Refusal::LimitReached)?;
-    let ytd_payment = old.ytd_payment.raised(amount).ok_or(Refusal::LimitReached)?;
-    let payment_count = old.payment_count.raised(1).ok_or(Refusal::LimitReached)?;
+    let balance = old
+        .balance
+        .lowered(amount)
+        .ok_or(RequestRefusal::LimitReached)?;
+    let ytd_payment = old
+        .ytd_payment
+        .raised(amount)
+        .ok_or(RequestRefusal::LimitReached)?;
+    let payment_count = old
+        .payment_count
+        .raised(1)
+        .ok_or(RequestRefusal::LimitReached)?;
     Ok(CustomerRow {
         balance,
         ytd_payment,
@@ -181,28 +190,30 @@ fn payment<V: RowView>(
 ) -> Result<NewRows, Fault>
     ensures { let db : Database = record { cards = catalog.now; rows = lent (V.sees view.now) } in AnswersWithin paid_of (covers (V.sees view.now) (payment_touch db p.now)) (payment db p.now moment) result }
 {
-    let warehouse_card = catalog.warehouse(p.warehouse).ok_or(Refusal::UnknownKey)?;
+    let warehouse_card = catalog
+        .warehouse(p.warehouse)
+        .ok_or(RequestRefusal::UnknownKey)?;
     let district_card = catalog
         .district(p.warehouse, p.district)
-        .ok_or(Refusal::UnknownKey)?;
+        .ok_or(RequestRefusal::UnknownKey)?;
     let chosen = chosen_customer(
         catalog,
         p.customer_warehouse,
         p.customer_district,
         &p.customer,
     );
-    let customer_id = chosen.ok_or(Refusal::UnknownKey)?;
+    let customer_id = chosen.ok_or(RequestRefusal::UnknownKey)?;
     let customer_card = catalog
         .customer(p.customer_warehouse, p.customer_district, customer_id)
-        .ok_or(Refusal::UnknownKey)?;
+        .ok_or(RequestRefusal::UnknownKey)?;
     if !may_pay(view, p, customer_id) {
         return Err(Fault::Strayed);
     }
-    let warehouse = lent::warehouse(view, p.warehouse).ok_or(Refusal::UnknownKey)?;
-    let district = lent::district(view, p.warehouse, p.district).ok_or(Refusal::UnknownKey)?;
+    let warehouse = lent::warehouse(view, p.warehouse).ok_or(RequestRefusal::UnknownKey)?;
+    let district = lent::district(view, p.warehouse, p.district).ok_or(RequestRefusal::UnknownKey)?;
     let (of_warehouse, of_district) = (p.customer_warehouse, p.customer_district);
     let customer = lent::customer(view, of_warehouse, of_district, customer_id);
-    let customer = customer.ok_or(Refusal::UnknownKey)?;
+    let customer = customer.ok_or(RequestRefusal::UnknownKey)?;
     let amount = p.amount.cents();
     Ok(NewRows {
         warehouse: paid_warehouse(warehouse, amount)?,

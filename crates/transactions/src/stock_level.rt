@@ -19,7 +19,7 @@ use crate::fault::Fault;
 use crate::lent;
 use crate::new_order::line_number;
 use catalog::Catalog;
-use requests::reply::{Refusal, Reply, StockLevelReply};
+use requests::reply::{Reply, RequestRefusal, StockLevelReply};
 use requests::request::{RequestKind, StockLevel};
 use std::alloc::{AllocError, Global};
 use std::collections::BTreeSet;
@@ -134,11 +134,11 @@ fn stock_level<V: RowView>(
 {
     catalog
         .district(p.warehouse, p.district)
-        .ok_or(Refusal::UnknownKey)?;
+        .ok_or(RequestRefusal::UnknownKey)?;
     let district = lent::read_district(view, p.warehouse, p.district)?;
     // The book is looked at, whether or not there are lines in it.
     lent::book(view, p.warehouse, p.district)?;
-    let district = district.ok_or(Refusal::UnknownKey)?;
+    let district = district.ok_or(RequestRefusal::UnknownKey)?;
     let low_stock = low_stock(alloc, catalog, view, p, district.next_order)?;
     Ok(StockLevelReply { low_stock })
 }

@@ -13,7 +13,7 @@ use Rattle.catalog.specs.CardMap.{Cards}
 use Rattle.requests.specs.declared.request.Batch.{Batch}
 use Rattle.tickets.proofs.Lists.{get-below}
 use Rattle.tickets.specs.Once.{times}
-use Rattle.tickets.specs.Seats.{IsDone as HasEnded, IsSeatOf, entry_of}
+use Rattle.tickets.specs.Seats.{HasStopped as HasEnded, IsSeatOf, entry_of}
 use Rattle.tickets.specs.declared.desk.Desk.{Desk}
 use Rattle.tickets.specs.declared.seat.Seat.{Seat}
 use Rattle.workers.specs.Parts.{AreGathered, AreWorked, Drawn, IsOutcomeOf, IsPart, IsPartOf, Part, ticket_of}

@@ -11,7 +11,7 @@ use Rattle.requests.specs.declared.request.Batch.{Batch}
 use Rattle.requests.specs.declared.request.Request.{Request}
 use Rattle.tpcc_model.specs.Machine.{tpcc}
 use Rattle.tickets.proofs.Lists.{Some-injective, get_there}
-use Rattle.workers.specs.LevelEnds.{AreDone, IsDone, IsStray}
+use Rattle.workers.specs.LevelEnds.{AreDone, IsPlaceDone, IsStray}
 use Rattle.workers.specs.Parts.{AreInOrder, CameOf, Drawn, IsOutcomeOf, is_stray, ticket_of}
 use Rattle.workers.specs.declared.job.PlaceOutcome.{PlaceOutcome}
 use Rattle.workers.specs.declared.part.Outcome.{Outcome}
@@ -20,7 +20,7 @@ use Rattle.workers.specs.declared.part.Outcome.TheVariants as came
 -- ---- all done
 -- the job at the place is done
 abbrev IsDoneAt : Cards → Rows → ℕ → List (Job Granule Request) → ℕ → PlaceOutcome → Type 0
-IsDoneAt cards rows moment all place done = (job : Job Granule Request) × (slice_get all place ≡ Some job) × IsDone cards rows moment job place done
+IsDoneAt cards rows moment all place done = (job : Job Granule Request) × (slice_get all place ≡ Some job) × IsPlaceDone cards rows moment job place done
 
 number_at : {G Q : Type 0} (first place : ℕ) (requests : List Q) (footprints : List (Footprint G)) (job : Job G Q) → slice_get (jobs first requests footprints) place ≡ Some job → job.number ≡ first + place
 number_at first place [] footprints job at = cc

@@ -22,16 +22,16 @@ abbrev pub job_of : JobInHand → Job Granule Request
 job_of job = record { number = job.number; request = job.request.now; declared = job.declared.now }
 
 -- the job, which doesn't stray on these rows, has this outcome at its place
-pub record IsDone (cards : Cards) (rows : Rows) (moment : ℕ) (job : Job Granule Request) (place : ℕ) (done : PlaceOutcome) : Type 0 where
+pub record IsPlaceDone (cards : Cards) (rows : Rows) (moment : ℕ) (job : Job Granule Request) (place : ℕ) (done : PlaceOutcome) : Type 0 where
   pub within : job_strays (tpcc cards moment) rows job ≡ false
   pub here : done.place ≡ place
   pub reply : done.reply ≡ (outcome (tpcc cards moment) rows job).reply
   pub changes : entries done.changes ≡ (outcome (tpcc cards moment) rows job).changes
 
 -- it strays; memory may be refused at any time
-abbrev pub IsStrayWhere : Bool → ExecError → Type 0
-IsStrayWhere strays exec_error.Strayed = strays ≡ true
-IsStrayWhere strays exec_error.Memory = Unit {0}
+abbrev pub StraysWhere : Bool → ExecError → Type 0
+StraysWhere strays exec_error.Strayed = strays ≡ true
+StraysWhere strays exec_error.Memory = Unit {0}
 
 -- ---- a level
 -- no job of the level strays on these rows, and these are their outcomes, in the order of their places

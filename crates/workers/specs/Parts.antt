@@ -15,8 +15,8 @@ use Rattle.tickets.specs.declared.desk.Desk.{Desk}
 use Rattle.tickets.specs.declared.seat.Seat.{Seat}
 use Rattle.tickets.specs.Entries.{has_stopped}
 use Rattle.tickets.specs.Once.{times}
-use Rattle.tickets.specs.Seats.{IsDone as HasEnded, IsSeatOf, entry_of}
-use Rattle.workers.specs.LevelEnds.{IsDone}
+use Rattle.tickets.specs.Seats.{HasStopped as HasEnded, IsSeatOf, entry_of}
+use Rattle.workers.specs.LevelEnds.{IsPlaceDone}
 use Rattle.workers.specs.declared.job.PlaceOutcome.{PlaceOutcome}
 use Rattle.workers.specs.declared.part.Outcome.{Outcome}
 use Rattle.workers.specs.declared.part.Outcome.TheVariants as outcome
@@ -35,7 +35,7 @@ is_stray outcome.Strayed = true
 
 -- this came of the job, which stands at this place of its batch
 abbrev pub CameOf : Cards → Rows → ℕ → Job Granule Request → ℕ → Outcome → Type 0
-CameOf cards rows moment job place (outcome.Done done) = IsDone cards rows moment job place done
+CameOf cards rows moment job place (outcome.Done done) = IsPlaceDone cards rows moment job place done
 CameOf cards rows moment job place outcome.Strayed = job_strays (tpcc cards moment) rows job ≡ true
 
 -- this came of the job at the ticket's place

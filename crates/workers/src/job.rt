@@ -2,7 +2,7 @@
 ghost use Rattle.std.specs.Prelude.{◌≡◌, ◌+◌, ◌<◌, ◌≤◌, Some, length, slice_get, MatchResult};
 ghost use Rattle.serializability.specs.Levels.{job_strays, jobs};
 ghost use Rattle.tpcc_model.specs.Machine.{tpcc};
-ghost use Rattle.workers.specs.LevelEnds.{IsDone, IsStrayWhere, job_of};
+ghost use Rattle.workers.specs.LevelEnds.{IsPlaceDone, StraysWhere, job_of};
 
 use crate::gate::Gate;
 use catalog::Catalog;
@@ -66,7 +66,7 @@ pub(crate) fn execute_job<G: Gate>(
     job: Job<'_>,
     gate: &G,
 ) -> Result<PlaceOutcome, ExecError>
-    ensures { MatchResult result (IsDone catalog.now store.now.rows moment (job_of job.entry) job.entry.place) (IsStrayWhere (job_strays (tpcc catalog.now moment) store.now.rows (job_of job.entry))) }
+    ensures { MatchResult result (IsPlaceDone catalog.now store.now.rows moment (job_of job.entry) job.entry.place) (StraysWhere (job_strays (tpcc catalog.now moment) store.now.rows (job_of job.entry))) }
 {
     let view = Loan {
         store,

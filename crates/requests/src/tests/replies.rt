@@ -1,8 +1,8 @@
 //! The records of replies.
 use crate::{
     Brand, DeliveryReply, LineReplies, LineReply, NewOrderReply, OrderStatusReply, PaymentReply,
-    Refusal, Reply, RequestKind, ShownCredit, ShownLine, ShownLines, ShownOrder, StockLevelReply,
-    write_reply,
+    Reply, RequestKind, RequestRefusal, ShownCredit, ShownLine, ShownLines, ShownOrder,
+    StockLevelReply, write_reply,
 };
 use std::alloc::Global;
 use std::test::Fail;
@@ -143,30 +143,30 @@ fn deliveries(rt: HostRuntime) -> Result<(), Fail> {
 }
 
 /// Refusals and their records.
-const REFUSALS: [(RequestKind, Refusal, &[u8]); 5] = [
+const REFUSALS: [(RequestKind, RequestRefusal, &[u8]); 5] = [
     (
         RequestKind::NewOrder,
-        Refusal::ItemNotValid,
+        RequestRefusal::ItemNotValid,
         b"before\n1,new-order,refused,1,Item number is not valid\n",
     ),
     (
         RequestKind::Payment,
-        Refusal::LimitReached,
+        RequestRefusal::LimitReached,
         b"before\n1,payment,refused,3,Limit reached\n",
     ),
     (
         RequestKind::OrderStatus,
-        Refusal::UnknownKey,
+        RequestRefusal::UnknownKey,
         b"before\n1,order-status,refused,2,Unknown key\n",
     ),
     (
         RequestKind::Delivery,
-        Refusal::LimitReached,
+        RequestRefusal::LimitReached,
         b"before\n1,delivery,refused,3,Limit reached\n",
     ),
     (
         RequestKind::StockLevel,
-        Refusal::UnknownKey,
+        RequestRefusal::UnknownKey,
         b"before\n1,stock-level,refused,2,Unknown key\n",
     ),
 ];

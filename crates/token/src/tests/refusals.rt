@@ -1,33 +1,33 @@
 //! Refused requests, no reply, and several.
 use super::{digest, digest_of_one};
-use requests::{Refusal, Reply, RequestKind, StockLevelReply};
+use requests::{Reply, RequestKind, RequestRefusal, StockLevelReply};
 use std::test::Fail;
 
 /// Refusals, and the digest of each as the reply to request 1.
-const REFUSALS: [(RequestKind, Refusal, &str); 5] = [
+const REFUSALS: [(RequestKind, RequestRefusal, &str); 5] = [
     (
         RequestKind::NewOrder,
-        Refusal::ItemNotValid,
+        RequestRefusal::ItemNotValid,
         "4392e823e43e4b52e544d25a95117cd03eca59a7360fdef63e34c72ba37bf297",
     ),
     (
         RequestKind::Payment,
-        Refusal::LimitReached,
+        RequestRefusal::LimitReached,
         "16434950e224f5ddff4791efda9efd4dd1affad2b98cdd2a2e38ee6c620d021d",
     ),
     (
         RequestKind::OrderStatus,
-        Refusal::UnknownKey,
+        RequestRefusal::UnknownKey,
         "aea4e928d0f597b4c6d19e2538685861c8bd3e6698faf552302af333e4fcd0ff",
     ),
     (
         RequestKind::Delivery,
-        Refusal::LimitReached,
+        RequestRefusal::LimitReached,
         "dcef9eeab08854bbbcef7579f7c7b7a9796347d3773f962274dca7838395175b",
     ),
     (
         RequestKind::StockLevel,
-        Refusal::UnknownKey,
+        RequestRefusal::UnknownKey,
         "71bb96c6e2f2ce83ee0651a8df49e3cafa3e1a0226c2c4b6e9d66a03df9bf322",
     ),
 ];
@@ -56,11 +56,11 @@ fn several_replies(rt: HostRuntime) -> Result<(), Fail> {
         Reply::StockLevel(StockLevelReply { low_stock: 17 }),
         Reply::Refused {
             kind: RequestKind::Payment,
-            refusal: Refusal::LimitReached,
+            refusal: RequestRefusal::LimitReached,
         },
         Reply::Refused {
             kind: RequestKind::Delivery,
-            refusal: Refusal::UnknownKey,
+            refusal: RequestRefusal::UnknownKey,
         },
     ];
     assert_eq!(rt;

@@ -1,5 +1,5 @@
 use Rattle.std.proofs.Common.{◌≡◌, List, map, Result, Ok, ap, sym, subst, ◌∙◌}
-use Rattle.requests.specs.declared.reply.Refusal.{Refusal}
+use Rattle.requests.specs.declared.reply.RequestRefusal.{RequestRefusal}
 use Rattle.requests.specs.declared.request.OrderedLine.{OrderedLine}
 use Rattle.catalog.specs.CardMap.{Cards}
 use Rattle.tpcc_model.specs.NewOrders as model
@@ -22,7 +22,7 @@ found_lines-items cards lines items now same found =
 pub returns-clause-answer : goal.returns-clause-answer
 returns-clause-answer c =
     let is = found_lines-items c.args.catalog.now c.args.lines.now _ _ c.deref.ensures.value c.in_ok-items.ensures in
-    subst (λ (definition : Result (List model.LineCards) Refusal). AnswersBy (λ found. map line_cards_of found.items) definition c.found_stocks.result) is c.found_stocks.ensures
+    subst (λ (definition : Result (List model.LineCards) RequestRefusal). AnswersBy (λ found. map line_cards_of found.items) definition c.found_stocks.result) is c.found_stocks.ensures
 
 pub returns-clause-len : goal.returns-clause-len
 returns-clause-len c = found_count line_cards_of (λ found. found.items) c.args.catalog.now c.args.lines.now c.found_stocks.result (returns-clause-answer c)

@@ -10,8 +10,8 @@ use Rattle.executor.proofs.Admissions.{numbers_for, place_for}
 use Rattle.executor.proofs.LineFacts.{length-states_of, line_extended, stamped_more, state_after}
 use Rattle.executor.proofs.executor.Executor.execute_by.Goals as goal
 
-pub attempt-requires-clause-room : goal.attempt-requires-clause-room
-attempt-requires-clause-room g c κs lives =
+pub execute_batch-requires-clause-room : goal.execute_batch-requires-clause-room
+execute_batch-requires-clause-room g c κs lives =
     let none : refusal_for 1 c.args.self.now c.args.batch.now ≡ None = sym c.refusal_for.ensures ∙ c.in_default.is in
     let place = place_for 1 c.args.self.now c.args.batch.now none in
     let kept = sym (ap (λ (l : Line). length l.earlier) c.self.view_is) ∙ length-states_of c.self.inside.store.points c.self.inside.earlier.items c.self.invariant.stamped in
@@ -33,7 +33,7 @@ invariant_of-self-2 g c =
     let record_is = c.in_ok-record.ensures.record in
     let stamp : Stamp = record { next = c.self.inside.present.next + c.len.result; sequence = c.in_ok-record.record.sequence; token = c.in_ok-record.record.token } in
     let next = ap (λ (n : ℕ). c.self.inside.present.next + n) c.len.ensures in
-    let state = state_after cards c.self.inside.store.rows c.attempt.new.store.rows c.self.inside.present stamp batch c.in_ok-record.ensures.rows next record_is.sequence record_is.token in
+    let state = state_after cards c.self.inside.store.rows c.execute_batch.new.store.rows c.self.inside.present stamp batch c.in_ok-record.ensures.rows next record_is.sequence record_is.token in
     let none : refusal_for 1 c.args.self.now batch ≡ None = sym c.refusal_for.ensures ∙ c.in_default.is in
     let numbers = numbers_for 1 c.args.self.now batch none in
     let next_there = ap (λ (l : Line). l.present.next) c.self.view_is in
@@ -50,7 +50,7 @@ invariant_of-self-2 g c =
     } in
     record {
       of_catalog = c.self.invariant.of_catalog;
-      stamped = stamped_more c.self.inside.store.points c.attempt.new.store.points c.self.inside.earlier.items c.push.new.self.items c.self.inside.store.rows c.self.inside.present c.in_ok-record.ensures.points c.push.ensures.items c.self.invariant.stamped;
+      stamped = stamped_more c.self.inside.store.points c.execute_batch.new.store.points c.self.inside.earlier.items c.push.new.self.items c.self.inside.store.rows c.self.inside.present c.in_ok-record.ensures.points c.push.ensures.items c.self.invariant.stamped;
       sound = subst (IsSoundState cards) (sym state) (c.sound_states.ensures.after cards old batch c.self.invariant.sound limits);
       next_within = (let n = c.len.ensures in omega (arith, low, n), let n = c.len.ensures in omega (arith, end, next_there, n));
       sequence_within = omega (arith, sequence, last, sequence_there);
@@ -63,8 +63,8 @@ returns-clause-line g c =
     let record_is = c.in_ok-record.ensures.record in
     let stamp : Stamp = record { next = c.self.inside.present.next + c.len.result; sequence = c.in_ok-record.record.sequence; token = c.in_ok-record.record.token } in
     let next = ap (λ (n : ℕ). c.self.inside.present.next + n) c.len.ensures in
-    let state = state_after cards c.self.inside.store.rows c.attempt.new.store.rows c.self.inside.present stamp batch c.in_ok-record.ensures.rows next record_is.sequence record_is.token in
-    line_extended cards c.self.inside.store.rows c.attempt.new.store.rows c.self.inside.store.points c.attempt.new.store.points c.self.inside.earlier.items c.push.new.self.items c.self.inside.present stamp batch c.self.invariant.stamped c.in_ok-record.ensures.points c.push.ensures.items state
+    let state = state_after cards c.self.inside.store.rows c.execute_batch.new.store.rows c.self.inside.present stamp batch c.in_ok-record.ensures.rows next record_is.sequence record_is.token in
+    line_extended cards c.self.inside.store.rows c.execute_batch.new.store.rows c.self.inside.store.points c.execute_batch.new.store.points c.self.inside.earlier.items c.push.new.self.items c.self.inside.present stamp batch c.self.invariant.stamped c.in_ok-record.ensures.points c.push.ensures.items state
     ∙ ap (λ (l : Line). extended l batch) c.self.view_is
 
 pub returns-clause-sound : goal.returns-clause-sound
@@ -75,7 +75,7 @@ returns-clause-sound g c =
     let record_is = c.in_ok-record.ensures.record in
     let stamp : Stamp = record { next = c.self.inside.present.next + c.len.result; sequence = c.in_ok-record.record.sequence; token = c.in_ok-record.record.token } in
     let next = ap (λ (n : ℕ). c.self.inside.present.next + n) c.len.ensures in
-    let state = state_after cards c.self.inside.store.rows c.attempt.new.store.rows c.self.inside.present stamp batch c.in_ok-record.ensures.rows next record_is.sequence record_is.token in
+    let state = state_after cards c.self.inside.store.rows c.execute_batch.new.store.rows c.self.inside.present stamp batch c.in_ok-record.ensures.rows next record_is.sequence record_is.token in
     let none : refusal_for 1 c.args.self.now batch ≡ None = sym c.refusal_for.ensures ∙ c.in_default.is in
     let numbers = numbers_for 1 c.args.self.now batch none in
     let next_there = ap (λ (l : Line). l.present.next) c.self.view_is in

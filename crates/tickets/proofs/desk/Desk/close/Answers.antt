@@ -6,7 +6,7 @@ use Rattle.tickets.specs.Entries.{blank}
 use Rattle.tickets.specs.Seats.{entry_of, IsSeatOf}
 use Rattle.tickets.proofs.Dealing.{single, joins, joins_more}
 use Rattle.tickets.proofs.Closing.{closes, drawn_by_seats, all_drawn_by_seats, halt_by_seats, seen_by_seats}
-use Rattle.tickets.specs.Rule.{IsKept}
+use Rattle.tickets.specs.Rule.{FollowsRule}
 use Rattle.std.specs.Slots.{slots_items}
 use Rattle.tickets.proofs.desk.Desk.close.Goals as goal
 use Rattle.tickets.proofs.desk.Desk.close.Goals.{After-drop-seats}
@@ -52,7 +52,7 @@ all_joined c =
 all_back : (c : After-drop-seats) → length c.args.seats.items ≡ c.args.self.size.workers
 all_back c = search rules
 
-kept : (c : After-drop-seats) → IsKept c.args.self.size (c.word.result ∷ c.word-2.result ∷ []) (map entry_of c.args.seats.items ∷ [])
+kept : (c : After-drop-seats) → FollowsRule c.args.self.size (c.word.result ∷ c.word-2.result ∷ []) (map entry_of c.args.seats.items ∷ [])
 kept c =
     let desk = c.args.self in
     closes desk.table.shared.key desk.size c.loop-seat.joined.id c.loop-seat.joined.me.0 (map entry_of c.args.seats.items) c.word.result c.word-2.result (slots_items c.close_with-closed.result.words) (slots_items c.close_with-closed.result.slots) desk.sized (all_joined c)

@@ -1,6 +1,6 @@
 use Rattle.std.proofs.Common.{◌≡◌, ◌+◌, ◌++◌, drop}
 use Rattle.tpcc_model.specs.Steps.{replies, rows_after}
-use Rattle.executor.proofs.in_turn.execute_in_turn.Given as goal
+use Rattle.executor.proofs.sequential.execute_sequential.Given as goal
 
 -- what is told so far, and where what is left leads
 abbrev pub invariant-loop-place : goal.invariant-loop-place

@@ -1,6 +1,6 @@
 use Rattle.std.proofs.Common.{◌≡◌, ◌++◌, drop, map}
 use Rattle.tpcc_model.specs.Touches.{touch}
-use Rattle.executor.proofs.levelled.declare_all.Given as goal
+use Rattle.executor.proofs.parallel.declare_all.Given as goal
 
 abbrev pub invariant-loop-request : goal.invariant-loop-request
 invariant-loop-request l =

@@ -12,7 +12,7 @@ use Rattle.executor.specs.LevelRuns.{declared_footprints, levels_by}
 use Rattle.executor.specs.Lines.{state_of}
 use Rattle.executor.specs.States.{AreWithinLimits}
 use Rattle.executor.proofs.LevelResults.{as_many, as_serial, filed_in_order, none_missing, ok_unless, same_replies}
-use Rattle.executor.proofs.levelled.execute_levels.Goals as goal
+use Rattle.executor.proofs.parallel.execute_parallel.Goals as goal
 
 pub unwrap-requires : goal.unwrap-requires
 unwrap-requires g c =

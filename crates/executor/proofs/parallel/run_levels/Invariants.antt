@@ -4,7 +4,7 @@ use Rattle.tpcc_model.specs.Machine.{tpcc}
 use Rattle.gather.specs.Books.{blank}
 use Rattle.executor.specs.LevelRuns.{cut_by, levels_by}
 use Rattle.executor.proofs.Filing.{FilesRest}
-use Rattle.executor.proofs.levelled.run_levels.Given as goal
+use Rattle.executor.proofs.parallel.run_levels.Given as goal
 
 -- the levels that are left come to what all come to
 abbrev pub invariant-loop-level : goal.invariant-loop-level

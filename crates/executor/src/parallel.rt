@@ -13,7 +13,7 @@ ghost use Rattle.serializability.specs.Levels as levels;
 ghost use Rattle.tpcc_model.specs.Machine.{tpcc};
 ghost use Rattle.tpcc_model.specs.Serial.{batch_replies, batch_rows};
 ghost use Rattle.tpcc_model.specs.Touches.{touch};
-ghost use Rattle.workers.specs.LevelEnds.{IsStrayWhere};
+ghost use Rattle.workers.specs.LevelEnds.{StraysWhere};
 
 use crate::laws::{cuts, declared_levels};
 use crate::limits::requests_within;
@@ -98,7 +98,7 @@ fn settle_level<R: Threads + Sync, G: Gate>(
     ensures within { OnOk result (list_any (job_strays (tpcc catalog.now batch.now.moment) store.old.rows) (jobs_at (jobs first batch.now.requests footprints.now) places.now) ≡ false) }
     ensures rows { OnOk result (store.new.rows ≡ level_rows (tpcc catalog.now batch.now.moment) store.old.rows (jobs_at (jobs first batch.now.requests footprints.now) places.now)) }
     ensures filed { OnOk result (FilesEach (level_replies (tpcc catalog.now batch.now.moment) store.old.rows (jobs_at (jobs first batch.now.requests footprints.now) places.now)) book.old book.new) }
-    ensures err { IfErr result (IsStrayWhere (list_any (job_strays (tpcc catalog.now batch.now.moment) store.old.rows) (jobs_at (jobs first batch.now.requests footprints.now) places.now))) }
+    ensures err { IfErr result (StraysWhere (list_any (job_strays (tpcc catalog.now batch.now.moment) store.old.rows) (jobs_at (jobs first batch.now.requests footprints.now) places.now))) }
     ensures points { store.new.points ≡ store.old.points }
 {
     match run_level(
@@ -135,7 +135,7 @@ fn run_levels<R: Threads + Sync, G: Gate>(
     ensures rows { OnOk result (store.new.rows ≡ levels.run_rows (tpcc catalog.now batch.now.moment) store.old.rows (levels_by first batch.now.requests footprints.now)) }
     ensures size { IfOk result (λ book. length book.replies ≡ length batch.now.requests) }
     ensures replies { IfOk result (λ book. (place : ℕ) → place < length batch.now.requests → reply_at book place ≡ find nat_cmp (first + place) (levels.run_replies (tpcc catalog.now batch.now.moment) store.old.rows (levels_by first batch.now.requests footprints.now))) }
-    ensures err { IfErr result (IsStrayWhere (levels.strays (tpcc catalog.now batch.now.moment) store.old.rows (levels_by first batch.now.requests footprints.now))) }
+    ensures err { IfErr result (StraysWhere (levels.strays (tpcc catalog.now batch.now.moment) store.old.rows (levels_by first batch.now.requests footprints.now))) }
     ensures points { store.new.points ≡ store.old.points }
 {
     cuts();
@@ -153,7 +153,7 @@ fn run_levels<R: Threads + Sync, G: Gate>(
 
 /// Executes the requests of a batch level by level, as they declare on the rows that the batch meets. It ends where one
 /// strays; then, and where memory was refused, the rows are those of no one state.
-pub(crate) fn execute_levels<R: Threads + Sync, G: Gate>(
+pub(crate) fn execute_parallel<R: Threads + Sync, G: Gate>(
     rt: &R,
     alloc: Global,
     catalog: &Catalog,
@@ -170,7 +170,7 @@ pub(crate) fn execute_levels<R: Threads + Sync, G: Gate>(
     ensures within { OnOk result (strays catalog.now (state_of store.old.rows stamp.now) batch.now ≡ false) }
     ensures replies { IfOk result (λ replies. replies.items ≡ batch_replies catalog.now (state_of store.old.rows stamp.now) batch.now) }
     ensures rows { OnOk result (store.new.rows ≡ batch_rows catalog.now (state_of store.old.rows stamp.now) batch.now) }
-    ensures err { IfErr result (IsStrayWhere (strays catalog.now (state_of store.old.rows stamp.now) batch.now)) }
+    ensures err { IfErr result (StraysWhere (strays catalog.now (state_of store.old.rows stamp.now) batch.now)) }
     ensures points { store.new.points ≡ store.old.points }
 {
     let requests = batch.requests.as_slice();

@@ -1,7 +1,7 @@
 use Rattle.std.proofs.Common.{◌≡◌, ◌+◌, ◌++◌, ◌<◌, map}
 use Rattle.std.specs.List.{All}
 use Rattle.executor.proofs.Filing.{FilesRest}
-use Rattle.executor.proofs.levelled.file_replies.Given as goal
+use Rattle.executor.proofs.parallel.file_replies.Given as goal
 
 abbrev pub invariant-loop-outcome : goal.invariant-loop-outcome
 invariant-loop-outcome l =

@@ -3,7 +3,7 @@ use Rattle.requests.specs.declared.reply.Reply.{Reply}
 use Rattle.workers.specs.declared.job.PlaceOutcome.{PlaceOutcome}
 use Rattle.executor.specs.Filing.{FilesEach}
 use Rattle.executor.proofs.Filing.{FilesRest, all_behind, file_one, files_more, kept_more}
-use Rattle.executor.proofs.levelled.file_replies.Goals as goal
+use Rattle.executor.proofs.parallel.file_replies.Goals as goal
 
 pub loop-outcome-preserved : goal.loop-outcome-preserved
 loop-outcome-preserved c =

@@ -8,7 +8,7 @@ use Rattle.transactions.specs.declared.exec_error.ExecError.{ExecError}
 use Rattle.transactions.specs.declared.exec_error.ExecError.TheVariants as exec_error
 use Rattle.worker_rows.specs.Views.{View, covers}
 use Rattle.worker_rows.proofs.AllCovered.{covers_whole}
-use Rattle.executor.proofs.in_turn.executed.Goals as goal
+use Rattle.executor.proofs.sequential.executed.Goals as goal
 
 -- on all rows nothing strays
 none_strays : (rows : Rows) (touch : Footprint Granule) (e : ExecError) → e ≡ exec_error.Strayed → IsErrorWithin (let view : View = record { rows = rows; bounds = None } in covers view touch) e → ⊥

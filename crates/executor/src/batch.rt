@@ -8,10 +8,10 @@ ghost use Rattle.tpcc_model.specs.Roots.{root};
 ghost use Rattle.tpcc_model.specs.Serial.{batch_replies, batch_rows};
 ghost use Rattle.tpcc_model.specs.Tokens.{replies_digest, token_of};
 
-use crate::in_turn::execute_in_turn;
-use crate::levelled::execute_levels;
+use crate::parallel::execute_parallel;
 use crate::path::Path;
 use crate::record::Record;
+use crate::sequential::execute_sequential;
 use crate::stamp::Stamp;
 use catalog::Catalog;
 use merkle::Tree;
@@ -77,10 +77,10 @@ fn replies_of<R: Threads + Sync, G: Gate>(
     ensures points { store.new.points ≡ store.old.points }
 {
     let Some(workers) = workers else {
-        let replies = execute_in_turn(alloc, catalog, store, batch, stamp.next, gate)?;
+        let replies = execute_sequential(alloc, catalog, store, batch, stamp.next, gate)?;
         return Ok((replies, Path::Sequential));
     };
-    let path = match execute_levels(rt, alloc, catalog, store, stamp, batch, workers, gate) {
+    let path = match execute_parallel(rt, alloc, catalog, store, stamp, batch, workers, gate) {
         Ok(replies) => match batch.verdict {
             Verdict::Commit => return Ok((replies, Path::Parallel)),
             Verdict::Rerun => Path::Verdict,
@@ -92,7 +92,7 @@ fn replies_of<R: Threads + Sync, G: Gate>(
         Err(ExecError::Memory) => return Err(Memory),
     };
     rewind(alloc, store, point)?;
-    let replies = execute_in_turn(alloc, catalog, store, batch, stamp.next, gate)?;
+    let replies = execute_sequential(alloc, catalog, store, batch, stamp.next, gate)?;
     Ok((replies, path))
 }
 
@@ -160,7 +160,7 @@ fn recorded<R: Threads + Sync, G: Gate>(
 
 /// Executes a batch. The rows that it met are a new point; where memory was refused, they are the present ones again, and no
 /// point is new.
-pub(crate) fn attempt<R: Threads + Sync, G: Gate>(
+pub(crate) fn execute_batch<R: Threads + Sync, G: Gate>(
     rt: &R,
     alloc: Global,
     catalog: &Catalog,

@@ -9,7 +9,7 @@ use Rattle.executor.specs.LevelRuns.{cut_by, levels_by}
 use Rattle.executor.proofs.Filing.{FilesRest, files_more}
 use Rattle.executor.proofs.LevelSteps.{replies_on, rows_on, strays_here, strays_on, levels_from}
 use Rattle.executor.proofs.LevelResults.{each_place, lent_at, stray_up}
-use Rattle.executor.proofs.levelled.run_levels.Goals as goal
+use Rattle.executor.proofs.parallel.run_levels.Goals as goal
 
 pub unwrap-places-requires : goal.unwrap-places-requires
 unwrap-places-requires g c =

@@ -37,7 +37,7 @@ fn executed(
 /// Executes the requests of a batch one after the other, the first with this number, and makes the changes of each
 /// before the next. Where memory was refused, a beginning of the changes is made. The gate is told of each execution.
 #[tactic(auto, unfolding(tpcc_rows::specs::Changing::after))]
-pub(crate) fn execute_in_turn<G: Gate>(
+pub(crate) fn execute_sequential<G: Gate>(
     alloc: Global,
     catalog: &Catalog,
     store: &mut PointedStore,

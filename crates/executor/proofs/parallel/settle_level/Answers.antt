@@ -4,7 +4,7 @@ use Rattle.gather.specs.Merged.{after_each}
 use Rattle.workers.specs.LevelEnds.{AreDone, IsStray}
 use Rattle.workers.proofs.Ends.{level_strays, rows_after_level}
 use Rattle.executor.proofs.Settling.{after_outcomes, numbers_within}
-use Rattle.executor.proofs.levelled.settle_level.Goals as goal
+use Rattle.executor.proofs.parallel.settle_level.Goals as goal
 
 pub file_replies-requires-clause-high : goal.file_replies-requires-clause-high
 file_replies-requires-clause-high g c =

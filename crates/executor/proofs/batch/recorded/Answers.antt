@@ -1,7 +1,7 @@
 use Rattle.std.proofs.Common.{◌∙◌, ap, length, arith}
 use Rattle.serializability.proofs.Folding.{length-fold_replies}
 use Rattle.tpcc_model.specs.Steps.{steps_at}
-use Rattle.executor.proofs.attempt.recorded.Goals as goal
+use Rattle.executor.proofs.batch.recorded.Goals as goal
 
 pub token_of-requires-clause-numbers : goal.token_of-requires-clause-numbers
 token_of-requires-clause-numbers g c κs =
