@@ -12,10 +12,12 @@ mod size;
 #[cfg(test)]
 mod tests;
 mod worker;
+mod workers;
 mod world;
 
 pub use desk::Desk;
 pub use event::Event;
 pub use seat::Seat;
 pub use worker::Worker;
+pub use workers::Workers;
 pub use world::World;

@@ -5,7 +5,6 @@ ghost use Rattle.tickets.specs.Seats.{IsNewSeatOf, places_of};
 ghost use Rattle.workers.specs.LevelEnds.{IsEndOf};
 ghost use Rattle.workers.specs.Parts.{AreWorked, IsPartOf};
 
-use crate::count::Workers;
 use crate::filing::{gathered, in_order, stray_among};
 use crate::gate::Gate;
 use crate::job::PlaceOutcome;
@@ -16,7 +15,7 @@ use rollback::PointedStore;
 use std::alloc::Global;
 use std::thread;
 use std::thread::Threads;
-use tickets::{Desk, Seat};
+use tickets::{Desk, Seat, Workers};
 use tpcc_rows::footprint::Footprint;
 use tpcc_rows::memory::Memory;
 

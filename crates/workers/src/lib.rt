@@ -2,18 +2,17 @@
 //! on several threads.
 #![tactic(auto)]
 
-mod count;
 mod filing;
 mod gate;
 mod job;
 mod level;
 mod part;
 
-pub use count::Workers;
 pub use gate::{Gate, NoGate};
 pub use job::PlaceOutcome;
 pub use level::{LevelEnd, run_level};
 pub use part::{Outcome, run_seat};
+pub use tickets::Workers;
 
 #[cfg(test)]
 mod tests;
