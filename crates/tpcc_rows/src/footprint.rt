@@ -7,15 +7,21 @@ ghost use Rattle.tpcc_rows.specs.Granules.{same_granule};
 
 use crate::granule::Granule;
 use crate::memory::Memory;
+use smallvec::SmallVec;
 use std::alloc::Global;
 use std::marker::Model;
+
+/// How many granules a list holds in the footprint itself. A delivery reads and writes twenty at most, the order books of
+/// ten districts and a customer of each; a new order names nineteen at most, its fifteen stocks among them. A granule
+/// takes eight bytes, and so a footprint some 350.
+const INLINE: usize = 20;
 
 /// Granules that are read and granules that are written, in the order in which they were named. A granule that is
 /// written is read too.
 #[derive(Drop)]
 pub struct Footprint {
-    reads: Vec<Granule>,
-    writes: Vec<Granule>,
+    reads: SmallVec<Granule, INLINE>,
+    writes: SmallVec<Granule, INLINE>,
 }
 
 impl Model for Footprint {
@@ -50,8 +56,8 @@ impl Footprint {
         ensures { result ≡ untouched }
     {
         Footprint {
-            reads: Vec::new(alloc),
-            writes: Vec::new(alloc),
+            reads: SmallVec::new(alloc),
+            writes: SmallVec::new(alloc),
         }
     }
 

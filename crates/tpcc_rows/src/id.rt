@@ -43,6 +43,15 @@ impl WarehouseId {
     }
 }
 
+impl Default for WarehouseId {
+    ghost is_default = { λ x. x ≡ 1 };
+
+    /// The least number.
+    fn default() -> WarehouseId {
+        WarehouseId { number: 1 }
+    }
+}
+
 /// A district's number within its warehouse, D_ID: 1 to 10.
 #[derive(Clone, Copy, Debug, PartialEq, Eq, PartialOrd, Ord)]
 pub struct DistrictId {
