@@ -1,13 +1,15 @@
 -- Cards, each at its own key, after one card more.
-use Rattle.std.proofs.Common.{◌≡◌, List, [], ◌∷◌, ◌++◌, map, cond, Bool, true, false, Option, Some, None, IsSome, refl, sym, ap, subst, ◌∙◌, inl, inr, Bor}
+use Rattle.std.proofs.Common.{◌≡◌, List, [], ◌∷◌, ◌++◌, map, cond, Bool, ◌||◌, true, false, Option, Some, None, refl, sym, ap, ap₂, subst, ◌∙◌, inl, inr, Bor}
 use Rattle.std.specs.Prelude.{is_some, option_copied}
+use Rattle.std.specs.List.{list_any}
 use Rattle.std.specs.Ordering.{eq_by_cmp}
 use Rattle.std.specs.FinMap.{get, insert, find, from_entries, get-from_entries, get-insert, same_map}
 use Rattle.std.proofs.lemmas.Bool.{cases_Bool}
+use Rattle.std.proofs.lemmas.List.Folds.{list_any-append}
 use Rattle.catalog.specs.declared.card.CardKey.{CardKey}
 use Rattle.catalog.specs.declared.card.Card.{Card}
 use Rattle.catalog.specs.CardKinds.{card_key}
-use Rattle.catalog.specs.CardMap.{AreKeyed, Cards, HasTwins, card_key_cmp, cards_of, keyed}
+use Rattle.catalog.specs.CardMap.{AreKeyed, Cards, card_key_cmp, cards_of, has_key, has_twins, keyed}
 use Rattle.catalog.proofs.CardKeys.{card_key_cmp_total, exact_cards}
 use Rattle.tpcc_rows.proofs.Singles.{entry_of, tied, ties_itself}
 
@@ -59,32 +61,43 @@ cards_of-more seen card fresh =
     ∙ sym (get-insert card_key_cmp_total (cards_of seen) (card_key card) card q
     ∙ ap (cond (eq_by_cmp card_key_cmp q (card_key card)) (Some card)) (get-from_entries card_key_cmp_total (map keyed seen) q)))
 
--- a card that is found by a key stands among those before
-pub record StandsIn (seen : List Card) (q : CardKey) : Type 0 where
-  pub before : List Card
-  pub twin : Card
-  pub behind : List Card
-  pub whole : seen ≡ before ++ twin ∷ behind
-  pub same : card_key twin ≡ q
+-- a key finds a card where one of the cards has it
+any-find : (seen : List Card) (q : CardKey) → list_any (has_key q) seen ≡ is_some (find card_key_cmp q (map keyed seen))
+any-find [] q = refl
+any-find (c ∷ seen) q =
+    let later = any-find seen q in
+    elim (has_key q c) as (λ here. (here || list_any (has_key q) seen) ≡ is_some (cond here (Some c) (find card_key_cmp q (map keyed seen)))) [ true ↦ refl | false ↦ later ]
 
-stands : (seen : List Card) (q : CardKey) → IsSome (find card_key_cmp q (map keyed seen)) → StandsIn seen q
-stands [] q h = cc
-stands (c ∷ seen) q h = elim (cases_Bool (eq_by_cmp card_key_cmp q (card_key c))) [
-  | inl same ↦ record { before = []; twin = c; behind = seen; whole = refl; same = sym (exact_cards q (card_key c) (tied _ same)) }
-  | inr apart ↦
-      let later = stands seen q (subst IsSome (ap (λ b. cond b (Some c) (find card_key_cmp q (map keyed seen))) apart) h) in
-      record { before = c ∷ later.before; twin = later.twin; behind = later.behind; whole = ap (λ t. c ∷ t) later.whole; same = later.same }
-]
+pub any-get : (seen : List Card) (q : CardKey) → list_any (has_key q) seen ≡ is_some (get (cards_of seen) q)
+any-get seen q = any-find seen q ∙ sym (ap is_some (get-from_entries card_key_cmp_total (map keyed seen) q))
 
-pub twins : (all seen : List Card) (card : Card) (rest : List Card) → all ≡ seen ++ card ∷ rest → IsSome (get (cards_of seen) (card_key card)) → HasTwins all
-twins all seen card rest whole h =
-    let is = stands seen (card_key card) (subst IsSome (get-from_entries card_key_cmp_total (map keyed seen) (card_key card)) h) in
-    record {
-      before = is.before;
-      twin = is.twin;
-      between = is.behind;
-      card = card;
-      behind = rest;
-      whole = whole ∙ ap (λ t. t ++ card ∷ rest) is.whole;
-      same = is.same;
-    }
+-- one card more, whose key none of those before has
+pub has_twins-fresh : (seen : List Card) (card : Card) → list_any (has_key (card_key card)) seen ≡ false → has_twins (seen ++ card ∷ []) ≡ has_twins seen
+has_twins-fresh [] card fresh = refl
+has_twins-fresh (c ∷ seen) card fresh =
+    let apart = neither (has_key (card_key card) c) _ fresh in
+    ap₂ (λ a b. a || b)
+    (list_any-append (λ twin. has_key (card_key twin) c) seen (card ∷ []) ∙ last (list_any (λ twin. has_key (card_key twin) c) seen) (has_key (card_key card) c) apart.0)
+    (has_twins-fresh seen card apart.1)
+  where
+    neither : (a b : Bool) → (a || b) ≡ false → (a ≡ false) × (b ≡ false)
+    neither true b none = cc
+    neither false b none = (refl, none)
+
+    last : (a b : Bool) → b ≡ false → (a || (b || false)) ≡ a
+    last true b none = refl
+    last false b none = rw none refl
+
+-- a card whose key one of those before has
+pub has_twins-seen : (seen : List Card) (card : Card) (rest : List Card) → list_any (has_key (card_key card)) seen ≡ true → has_twins (seen ++ card ∷ rest) ≡ true
+has_twins-seen [] card rest there = cc
+has_twins-seen (c ∷ seen) card rest there = elim (has_key (card_key card) c) as (λ here. has_key (card_key card) c ≡ here → (here || list_any (has_key (card_key card)) seen) ≡ true
+    → (list_any (λ twin. has_key (card_key twin) c) (seen ++ card ∷ rest) || has_twins (seen ++ card ∷ rest)) ≡ true) [
+      | true ↦ λ is found. ap (λ b. b || has_twins (seen ++ card ∷ rest)) (list_any-append (λ twin. has_key (card_key twin) c) seen (card ∷ rest)
+          ∙ ap (λ b. list_any (λ twin. has_key (card_key twin) c) seen || (b || list_any (λ twin. has_key (card_key twin) c) rest)) is ∙ or_true _)
+      | false ↦ λ is found. ap (λ b. list_any (λ twin. has_key (card_key twin) c) (seen ++ card ∷ rest) || b) (has_twins-seen seen card rest found) ∙ or_true _
+    ] refl there
+  where
+    or_true : (a : Bool) → (a || true) ≡ true
+    or_true true = refl
+    or_true false = refl

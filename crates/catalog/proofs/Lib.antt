@@ -1,3 +1,4 @@
+pub mod CardCodes
 pub mod CardKeys
 pub mod Counts
 pub mod Keyed

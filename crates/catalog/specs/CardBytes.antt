@@ -1,17 +1,19 @@
 -- The bytes of cards, and the digest of them all: of each the code of its key, the length of the body, and the body.
-use Rattle.std.specs.Prelude.{ℕ, ◌+◌, ◌*◌, ◌^◌, List, [], ◌∷◌, ◌++◌, codes}
+use Rattle.std.specs.Prelude.{◌≡◌, ℕ, ◌+◌, ◌*◌, ◌^◌, List, [], ◌∷◌, ◌++◌, codes}
 use Rattle.std.specs.FinMap as map
 use Rattle.std.specs.List.{flat_map}
+use Rattle.std.specs.Ordering.{nat_cmp}
 use Rattle.sha2.specs.Sha256.{sha256}
-use Rattle.catalog.specs.CardMap.{Cards}
+use Rattle.catalog.specs.CardMap.{Cards, card_key_cmp}
 use Rattle.catalog.specs.declared.card.Card.{Card}
 use Rattle.catalog.specs.declared.card.Card.TheVariants as card
 use Rattle.catalog.specs.declared.card.CardKey.{CardKey}
 use Rattle.catalog.specs.declared.card.CardKey.TheVariants as key
 use Rattle.catalog.specs.declared.card.Credit.{Credit}
 use Rattle.catalog.specs.declared.card.Credit.TheVariants as credit
-use Rattle.tpcc_rows.specs.Codes.{code}
+use Rattle.tpcc_rows.specs.Codes.{IsKey, code}
 use Rattle.tpcc_rows.specs.Encodings.{bytes_16, bytes_32, bytes_64, short_text, sized}
+use Rattle.tpcc_rows.specs.Limits.{IsBetween}
 use Rattle.tpcc_rows.specs.declared.key.RowKey.TheVariants as row_key
 
 -- the code of a card's key: that of its row, and of an item, which has no row, one of its own
@@ -21,6 +23,18 @@ card_code (key.District w d) = code (row_key.District w d)
 card_code (key.Customer w d c) = code (row_key.Customer w d c)
 card_code (key.Stock w i) = code (row_key.Stock w i)
 card_code (key.Item i) = 11 * 2 ^ 56 + i
+
+-- the key is within the limits of the tables
+abbrev pub IsCardKey : CardKey → Type 0
+IsCardKey (key.Warehouse w) = IsKey (row_key.Warehouse w)
+IsCardKey (key.District w d) = IsKey (row_key.District w d)
+IsCardKey (key.Customer w d c) = IsKey (row_key.Customer w d c)
+IsCardKey (key.Stock w i) = IsKey (row_key.Stock w i)
+IsCardKey (key.Item i) = IsBetween 1 100000 i
+
+-- keys of cards stand in the order of their codes
+abbrev pub OrderIsOfCardCodes : Type 0
+OrderIsOfCardCodes = (a b : CardKey) → IsCardKey a → IsCardKey b → card_key_cmp a b ≡ nat_cmp (card_code a) (card_code b)
 
 abbrev pub credit_text : Credit → List ℕ
 credit_text credit.Good = codes "GC"

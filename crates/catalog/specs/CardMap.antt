@@ -1,7 +1,9 @@
 -- The cards of a database, as a finite map.
-use Rattle.std.specs.Prelude.{◌≡◌, List, ◌∷◌, ◌++◌, map, Some}
+use Rattle.std.specs.Prelude.{◌≡◌, ◌||◌, Bool, false, List, [], ◌∷◌, map, Some}
 use Rattle.std.specs.Coded.{Coded}
 use Rattle.std.specs.FinMap as finmap
+use Rattle.std.specs.List.{list_any}
+use Rattle.std.specs.Ordering.{eq_by_cmp}
 use Rattle.std.specs.declared.cmp.Ordering.{Ordering}
 use Rattle.catalog.specs.declared.card.CardKey.{CardKey}
 use Rattle.catalog.specs.declared.card.Card.{Card}
@@ -31,12 +33,11 @@ AreKeyed cards = (key : CardKey) (card : Card) → finmap.get cards key ≡ Some
 abbrev pub cards_of : List Card → Cards
 cards_of list = finmap.from_entries (map keyed list)
 
--- some card has the key of an earlier one
-pub record HasTwins (list : List Card) : Type 0 where
-  pub before : List Card
-  pub twin : Card
-  pub between : List Card
-  pub card : Card
-  pub behind : List Card
-  pub whole : list ≡ before ++ twin ∷ between ++ card ∷ behind
-  pub same : card_key twin ≡ card_key card
+-- the card has this key
+abbrev pub has_key : CardKey → Card → Bool
+has_key key card = eq_by_cmp card_key_cmp key (card_key card)
+
+-- two of the cards have one key
+abbrev pub has_twins : List Card → Bool
+has_twins [] = false
+has_twins (card ∷ later) = list_any (λ twin. has_key (card_key twin) card) later || has_twins later

@@ -1,8 +1,8 @@
 //! How a catalog is made.
-ghost use Rattle.std.specs.Prelude.{◌≡◌, IfOk, IfErr, IsSome, Ok, OnErr, OnOk, None};
+ghost use Rattle.std.specs.Prelude.{◌≡◌, IfOk, IfErr, IsSome, Ok, OnErr, OnOk, None, false, true};
 ghost use Rattle.std.specs.FinMap as map;
 ghost use Rattle.catalog.specs.CardKinds.{card_key};
-ghost use Rattle.catalog.specs.CardMap.{AreKeyed, HasTwins, cards_of};
+ghost use Rattle.catalog.specs.CardMap.{AreKeyed, cards_of, has_twins};
 ghost use Rattle.catalog.specs.declared.builder.CatalogError.TheVariants.{Twice};
 ghost use Rattle.catalog.specs.declared.builder.CatalogError.TheVariants as catalog_error;
 
@@ -93,11 +93,12 @@ impl CatalogBuilder {
 }
 
 impl Catalog {
-    /// The catalog of these cards; `Twice` where two of them have one key.
+    /// The catalog of these cards, of which no two have one key; `Twice` where two have.
     pub fn new(alloc: Global, cards: Vec<Card>) -> Result<Catalog, CatalogError>
         ensures ok { IfOk result (λ catalog. catalog ≡ cards_of cards.items) }
         ensures keyed { IfOk result AreKeyed }
-        ensures twice { IfErr result (λ e. e ≡ Twice → HasTwins cards.items) }
+        ensures apart { OnOk result (has_twins cards.items ≡ false) }
+        ensures twice { IfErr result (λ e. e ≡ Twice → has_twins cards.items ≡ true) }
     {
         let mut builder = CatalogBuilder::new(alloc);
         for card in cards {

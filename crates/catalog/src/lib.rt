@@ -7,6 +7,7 @@ pub mod card;
 pub mod cards;
 mod digest;
 mod last_names;
+pub mod laws;
 
 pub use builder::{CatalogBuilder, CatalogError};
 pub use card::{
