@@ -1,4 +1,5 @@
 pub mod RecentLines
+pub mod OrderLines
 pub mod Touching
 pub mod Stages
 pub mod Agreeing

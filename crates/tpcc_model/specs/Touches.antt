@@ -130,6 +130,10 @@ touch db (request.OrderStatus p) = order_status_touch db p
 touch db (request.Delivery p) = delivery_touch db p
 touch db (request.StockLevel p) = stock_level_touch db p
 
+-- what each of the requests touches, where all of them meet these rows
+abbrev pub declared : Database → List Request → List (Footprint Granule)
+declared db requests = map (touch db) requests
+
 -- ---- what touching comes to
 -- the two agree on the rows whose granules are in the list
 abbrev pub Agree : Rows → Rows → List Granule → Type 0
