@@ -72,8 +72,8 @@ fn encode_page(page: &plain::RowStore) -> u64 {
     count.wrapping_add(waiting.as_slice().len() as u64)
 }
 
-/// Looks at the first rows of eight leaves, as the tree does.
-fn look_at_firsts(store: &PointedStore, first: usize) -> u64 {
+/// Prefetches the first rows of eight leaves, as the tree does.
+fn prefetch_first_rows(store: &PointedStore, first: usize) -> u64 {
     let mut bytes = 0u64;
     for leaf in first..first.saturating_add(8).min(LEAVES) {
         if let Some((_, row)) = store.page(leaf).iter().next() {
@@ -88,7 +88,7 @@ fn encode_alone(rt: &impl Clock, store: &PointedStore) -> io::Result<(Duration, 
     let mut count = 0u64;
     for leaf in 0..LEAVES {
         if leaf % 8 == 0 {
-            count = count.wrapping_add(look_at_firsts(store, leaf));
+            count = count.wrapping_add(prefetch_first_rows(store, leaf));
         }
         count = count.wrapping_add(encode_page(store.page(leaf)));
     }

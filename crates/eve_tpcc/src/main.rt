@@ -2,12 +2,11 @@
 //! thin layer over the crates below: it opens files, and prints what they answer.
 #![tactic(auto)]
 
-ghost use Rattle.std.specs.Prelude.{IfSome};
 ghost use Rattle.tpcc_rows.specs.Limits.{IsBetween};
 
 use command_line::{Line, LineFault, line_of, line_status};
 use requests::ends::Counting;
-use runner::{RunFault, check_text, fault_line, make_text, run_text, run_text_sequential};
+use runner::{RunFault, check_text, fault_line, make_text, run_text};
 use std::process::ExitCode;
 use std::rt::{Env, Files};
 use std::thread::Threads;
@@ -29,16 +28,14 @@ fn report<R: Eprint + AllocGlobal>(rt: &R, fault: &RunFault) -> ExitCode {
     ExitCode::FAILURE
 }
 
-/// In levels on so many workers, where a number of workers is given; else one request after the other.
 fn run<R: Files + Print + Eprint + AllocGlobal + Threads + Sync>(
     rt: &R,
     image: &str,
     batches: &str,
-    workers: Option<u8>,
+    workers: Workers,
 ) -> ExitCode
 where
     R::File: Drop,
-    requires { IfSome workers (IsBetween 1 64) }
 {
     let Ok(image_file) = fs::open(rt, image) else {
         return cannot_open(rt, image);
@@ -49,24 +46,15 @@ where
     let mut image_source = Counting::new(image_file);
     let mut batches_source = Counting::new(batches_file);
     let mut output = Counting::new(io::writer(rt));
-    let ran = match workers {
-        Some(count) => run_text(
-            rt,
-            rt.alloc(),
-            &mut image_source,
-            &mut batches_source,
-            &mut output,
-            Workers::new(usize::from(count)).unwrap(),
-            &NoGate,
-        ),
-        None => run_text_sequential(
-            rt,
-            rt.alloc(),
-            &mut image_source,
-            &mut batches_source,
-            &mut output,
-        ),
-    };
+    let ran = run_text(
+        rt,
+        rt.alloc(),
+        &mut image_source,
+        &mut batches_source,
+        &mut output,
+        workers,
+        &NoGate,
+    );
     match ran {
         Ok(_) => ExitCode::SUCCESS,
         Err(fault) => report(rt, &fault),

@@ -6,13 +6,14 @@ use Rattle.serializability.proofs.Folding.{length-fold_replies}
 use Rattle.catalog.specs.CardMap.{Cards}
 use Rattle.executor.specs.Executions.{IsRecordOf, exhausts, refusal_for}
 use Rattle.executor.specs.Lines.{Line}
+use Rattle.executor.specs.Paths.{path_of}
 use Rattle.executor.specs.declared.path.Path.{Path}
 use Rattle.executor.specs.declared.record.Record.{Record}
 use Rattle.executor.specs.declared.refusal.Refusal.TheVariants as refusal
 use Rattle.requests.specs.declared.request.Batch.{Batch}
 use Rattle.requests.specs.declared.reply.Reply.{Reply}
 use Rattle.runner.specs.Runs.{NumbersFit}
-use Rattle.runner.specs.Text.{Paths, batch_record_text, batch_text, replies_text}
+use Rattle.runner.specs.Text.{batch_record_text, batch_text, replies_text}
 use Rattle.tpcc_model.specs.Serial.{State, batch_replies}
 use Rattle.tpcc_model.specs.Steps.{steps_at}
 
@@ -40,10 +41,10 @@ pub count_of_replies : (how : Path) (cards : Cards) (state : State) (batch : Bat
 count_of_replies how cards state batch r is = ap length is.replies ∙ length-fold_replies (steps_at cards batch.moment) state.rows state.next batch.requests
 
 -- the text of what was recorded is that of the batch
-pub recorded_text : (paths : Paths) (cards : Cards) (state : State) (batch : Batch) (r : Record) → IsRecordOf cards state batch (paths cards state batch) r
-    → replies_text r.first r.replies.items ++ batch_record_text r.sequence r.path r.token ≡ batch_text paths cards state batch
+pub recorded_text : (cards : Cards) (state : State) (batch : Batch) (r : Record) → IsRecordOf cards state batch (path_of cards state batch) r
+    → replies_text r.first r.replies.items ++ batch_record_text r.sequence r.path r.token ≡ batch_text cards state batch
 unfolding batch_text
-recorded_text paths cards state batch r is =
+recorded_text cards state batch r is =
     ap₂ (λ (first : ℕ) (replies : List Reply). replies_text first replies ++ batch_record_text r.sequence r.path r.token) is.first is.replies
     ∙ ap₂ (λ (sequence : ℕ) (path : Path). replies_text state.next (batch_replies cards state batch) ++ batch_record_text sequence path r.token) is.sequence is.path
-    ∙ ap (λ (token : List ℕ). replies_text state.next (batch_replies cards state batch) ++ batch_record_text (state.sequence + 1) (paths cards state batch) token) is.token
+    ∙ ap (λ (token : List ℕ). replies_text state.next (batch_replies cards state batch) ++ batch_record_text (state.sequence + 1) (path_of cards state batch) token) is.token

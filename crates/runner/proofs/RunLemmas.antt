@@ -18,8 +18,8 @@ use Rattle.requests.specs.declared.request.Request.{Request}
 use Rattle.requests.specs.Ends.{AppendsFront}
 use Rattle.requests.specs.declared.request.Batch.{Batch}
 use Rattle.requests.proofs.EndsLemmas.{appends_twice}
-use Rattle.runner.specs.Runs.{AllFit, Began, IsOfRecords, LeavesBatch, Left, NumbersFit, Taken}
-use Rattle.runner.specs.Text.{Paths, batch_text, text}
+use Rattle.runner.specs.Runs.{AreCompleted, Began, Completes, IsOfRecords, LeavesBatch, Left, Taken, TookFront}
+use Rattle.runner.specs.Text.{batch_text, text}
 use Rattle.runner.specs.declared.fault.RunFault.{RunFault}
 use Rattle.runner.specs.declared.fault.RunFault.TheVariants as run_fault
 use Rattle.tpcc_model.specs.Serial.{State, after_batch, next_number, opening, serial}
@@ -53,22 +53,22 @@ pub next-serial : (cards : Cards) (state : State) (done : List Batch) → 1 ≤ 
 next-serial cards state [] low = low
 next-serial cards state (b ∷ done) low = let more : 1 ≤ state.next + length b.requests = omega (arith, low) in next-serial cards (after_batch cards state b) done more
 
-pub text-both : (paths : Paths) (cards : Cards) (state : State) (done more : List Batch) → text paths cards state (done ++ more) ≡ text paths cards state done ++ text paths cards (serial cards state done) more
-text-both paths cards state [] more = refl
-text-both paths cards state (b ∷ done) more =
-    ap (λ t. batch_text paths cards state b ++ t) (text-both paths cards (after_batch cards state b) done more)
-    ∙ sym (append_assoc (batch_text paths cards state b) (text paths cards (after_batch cards state b) done) (text paths cards (serial cards (after_batch cards state b) done) more))
+pub text-both : (cards : Cards) (state : State) (done more : List Batch) → text cards state (done ++ more) ≡ text cards state done ++ text cards (serial cards state done) more
+text-both cards state [] more = refl
+text-both cards state (b ∷ done) more =
+    ap (λ t. batch_text cards state b ++ t) (text-both cards (after_batch cards state b) done more)
+    ∙ sym (append_assoc (batch_text cards state b) (text cards (after_batch cards state b) done) (text cards (serial cards (after_batch cards state b) done) more))
 
-pub fit-more : (cards : Cards) (state : State) (done : List Batch) (batch : Batch) → AllFit cards state done → NumbersFit (serial cards state done) batch → AllFit cards state (done ++ batch ∷ [])
-fit-more cards state [] batch all one = (one, tt)
-fit-more cards state (b ∷ done) batch all one = (all.0, fit-more cards (after_batch cards state b) done batch all.1 one)
+pub completed-more : (cards : Cards) (state : State) (done : List Batch) (batch : Batch) → AreCompleted cards state done → Completes cards (serial cards state done) batch → AreCompleted cards state (done ++ batch ∷ [])
+completed-more cards state [] batch all one = (all, one.0, one.1)
+completed-more cards state (b ∷ done) batch all one = (all.0, all.1.0, completed-more cards (after_batch cards state b) done batch all.1.1 one)
 
-pub text-more : (paths : Paths) (cards : Cards) (state : State) (done : List Batch) (batch : Batch) (old mid new : Taken) → Appends old mid (text paths cards state done) → Appends mid new (batch_text paths cards (serial cards state done) batch)
-    → Appends old new (text paths cards state (done ++ batch ∷ []))
-text-more paths cards state done batch old mid new a b =
-    let whole : text paths cards state (done ++ batch ∷ []) ≡ text paths cards state done ++ batch_text paths cards (serial cards state done) batch =
-    text-both paths cards state done (batch ∷ []) ∙ ap (λ t. text paths cards state done ++ t) (append-nil (batch_text paths cards (serial cards state done) batch)) in
-    subst (Appends old new) (sym whole) (appends_twice old mid new (text paths cards state done) (batch_text paths cards (serial cards state done) batch) a b)
+pub text-more : (cards : Cards) (state : State) (done : List Batch) (batch : Batch) (old mid new : Taken) → Appends old mid (text cards state done) → Appends mid new (batch_text cards (serial cards state done) batch)
+    → Appends old new (text cards state (done ++ batch ∷ []))
+text-more cards state done batch old mid new a b =
+    let whole : text cards state (done ++ batch ∷ []) ≡ text cards state done ++ batch_text cards (serial cards state done) batch =
+    text-both cards state done (batch ∷ []) ∙ ap (λ t. text cards state done ++ t) (append-nil (batch_text cards (serial cards state done) batch)) in
+    subst (Appends old new) (sym whole) (appends_twice old mid new (text cards state done) (batch_text cards (serial cards state done) batch) a b)
 
 -- one batch more was read
 pub reading-more : (all left new : Reading) (done : List Batch) (batch : Batch) → all ≡ (done ++ left.0, left.1) → left ≡ with_front batch new → all ≡ ((done ++ batch ∷ []) ++ new.0, new.1)
@@ -80,39 +80,34 @@ pub next_in : (all left new : Reading) (done : List Batch) (batch : Batch) → a
 next_in all left new done batch e split = ap (λ (r : Reading). r.0) e ∙ ap (λ (r : Reading). done ++ r.0) split
 
 -- ---- a run that ends in the midst of a batch
-module _ (paths : Paths) (cards : Cards) (state : State) (all : Reading) (done : List Batch) (batch : Batch) (rest : List Batch) (old mid new : Taken) (parts : all.0 ≡ done ++ batch ∷ rest) (fit : AllFit cards state done) (written : Appends old mid (text paths cards state done)) where
-  began : Keeps mid new → Began paths cards state all.0 old new done (batch ∷ rest)
-  began k = record { parts = parts; fit = fit; written = then_kept old mid new (text paths cards state done) written k }
+module _ (cards : Cards) (state : State) (all : Reading) (done : List Batch) (batch : Batch) (rest : List Batch) (old mid new : Taken) (parts : all.0 ≡ done ++ batch ∷ rest) (completed : AreCompleted cards state done) (written : Appends old mid (text cards state done)) where
+  began : Keeps mid new → Began cards state all.0 old new done (batch ∷ rest)
+  began k = record { parts = parts; completed = completed; written = then_kept old mid new (text cards state done) written k }
 
-  -- a beginning of its text was written
-  front_written : AppendsFront mid new (batch_text paths cards (serial cards state done) batch) → AppendsFront old new (text paths cards state all.0)
-  front_written b =
+  -- it was completed, and a beginning of its text was written
+  front_written : Completes cards (serial cards state done) batch → AppendsFront mid new (batch_text cards (serial cards state done) batch) → TookFront cards state all.0 old new
+  front_written completes b =
       let (front, back, cut, took) = b in
       let now = serial cards state done in
-      let tail = text paths cards (after_batch cards now batch) rest in
-      let first = text paths cards state done in
-      let whole : text paths cards state all.0 ≡ (first ++ front) ++ (back ++ tail) =
-      ap (text paths cards state) parts ∙ text-both paths cards state done (batch ∷ rest) ∙ ap (λ (t : List ℕ). first ++ (t ++ tail)) cut
-      ∙ ap (λ (t : List ℕ). first ++ t) (append_assoc front back tail) ∙ sym (append_assoc first front (back ++ tail)) in
-      (first ++ front, back ++ tail, whole, appends_twice old mid new first front written took)
+      let first = text cards state done in
+      let whole : text cards state (done ++ batch ∷ []) ≡ (first ++ front) ++ back =
+      text-both cards state done (batch ∷ []) ∙ ap (λ (t : List ℕ). first ++ t) (append-nil (batch_text cards now batch) ∙ cut) ∙ sym (append_assoc first front back) in
+      (done ++ batch ∷ [], rest, parts ∙ sym (append_assoc done (batch ∷ []) rest), completed-more cards state done batch completed completes, first ++ front, back, whole, appends_twice old mid new first front written took)
 
-  pub left_in_batch : (e : RunFault) → LeavesBatch e paths cards (serial cards state done) batch mid new → Left e paths cards state all old new
+  pub left_in_batch : (e : RunFault) → LeavesBatch e cards (serial cards state done) batch mid new → Left e cards state all old new
   left_in_batch (run_fault.Exec refusal.NumbersExhausted) h = (done, batch, rest, began h.1, h.0)
   left_in_batch (run_fault.Exec refusal.Memory) h = (done, batch ∷ rest, began h)
   left_in_batch (run_fault.Exec refusal.BatchTooLong) h = absurd h
   left_in_batch (run_fault.Exec refusal.PointsFull) h = absurd h
   left_in_batch (run_fault.Exec refusal.NoSuchPoint) h = absurd h
   left_in_batch run_fault.Memory h = (done, batch ∷ rest, began h)
-  left_in_batch run_fault.Write h = front_written h.1
+  left_in_batch run_fault.Write h = front_written h.0 h.1
   left_in_batch (run_fault.Read e) h = absurd h
   left_in_batch (run_fault.Load e) h = absurd h
 
 -- ---- a run that read all batches
 pub all_read : (all left : Reading) (done : List Batch) → all ≡ (done ++ left.0, left.1) → left ≡ ([], clean) → all.0 ≡ done
 all_read all left done e end = ap (λ (r : Reading). r.0) e ∙ ap (λ (r : Reading). done ++ r.0) end ∙ append-nil done
-
-pub text_of_all : (paths : Paths) (cards : Cards) (state : State) (all : Reading) (done : List Batch) → all.0 ≡ done → text paths cards state all.0 ≡ text paths cards state done ++ []
-text_of_all paths cards state all done e = ap (text paths cards state) e ∙ sym (append-nil (text paths cards state done))
 
 -- ---- how the records of batches end
 abbrev pub EndsByRecords : End → Type 0

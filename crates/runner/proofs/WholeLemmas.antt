@@ -6,34 +6,33 @@ use Rattle.requests.specs.Ends.{AppendsFront}
 use Rattle.runner.proofs.RunLemmas.{then_kept}
 use Rattle.runner.specs.CheckTexts.{ChecksImage, LeavesCheck, opening_text}
 use Rattle.runner.specs.Runs.{Taken}
-use Rattle.runner.specs.Text.{Paths}
 use Rattle.runner.specs.WholeRuns.{IsOfDatabase, LeavesDatabase, LeavesRun, RanOn, RanWhole}
 use Rattle.runner.specs.declared.fault.RunFault.{RunFault}
 use Rattle.runner.specs.declared.fault.RunFault.TheVariants as run_fault
 use Rattle.tpcc_model.specs.Database.{Database}
 
-pub ran_whole : (paths : Paths) (r : Result ℕ RunFault) (images batches : Option (List ℕ)) (db : Database) (old new : Taken) → IfSome images (λ image_bytes. image image_bytes ≡ Ok db)
-    → IfOk r (λ count. IfSome batches (λ batch_bytes. RanOn paths db batch_bytes old new count))
-    → IfOk r (λ count. IfSome images (λ image_bytes. IfSome batches (λ batch_bytes. RanWhole paths image_bytes batch_bytes old new count)))
-ran_whole paths (Err e) images batches db old new is ran = tt
-ran_whole paths (Ok count) None batches db old new is ran = tt
-ran_whole paths (Ok count) (Some bytes) None db old new is ran = tt
-ran_whole paths (Ok count) (Some bytes) (Some batch_bytes) db old new is ran = (db, is, ran)
+pub ran_whole : (r : Result ℕ RunFault) (images batches : Option (List ℕ)) (db : Database) (old new : Taken) → IfSome images (λ image_bytes. image image_bytes ≡ Ok db)
+    → IfOk r (λ count. IfSome batches (λ batch_bytes. RanOn db batch_bytes old new count))
+    → IfOk r (λ count. IfSome images (λ image_bytes. IfSome batches (λ batch_bytes. RanWhole image_bytes batch_bytes old new count)))
+ran_whole (Err e) images batches db old new is ran = tt
+ran_whole (Ok count) None batches db old new is ran = tt
+ran_whole (Ok count) (Some bytes) None db old new is ran = tt
+ran_whole (Ok count) (Some bytes) (Some batch_bytes) db old new is ran = (db, is, ran)
 
-left_by : (paths : Paths) (e : RunFault) (image_bytes batch_bytes : List ℕ) (db : Database) (old new : Taken) → image image_bytes ≡ Ok db → IsOfDatabase e → LeavesDatabase e paths db batch_bytes old new → LeavesRun e paths image_bytes batch_bytes old new
-left_by paths (run_fault.Load e) image_bytes batch_bytes db old new is kind left = absurd kind
-left_by paths (run_fault.Read e) image_bytes batch_bytes db old new is kind left = (db, is, left)
-left_by paths (run_fault.Exec r) image_bytes batch_bytes db old new is kind left = (db, is, left)
-left_by paths run_fault.Write image_bytes batch_bytes db old new is kind left = (db, is, left)
-left_by paths run_fault.Memory image_bytes batch_bytes db old new is kind left = (db, is, left)
+left_by : (e : RunFault) (image_bytes batch_bytes : List ℕ) (db : Database) (old new : Taken) → image image_bytes ≡ Ok db → IsOfDatabase e → LeavesDatabase e db batch_bytes old new → LeavesRun e image_bytes batch_bytes old new
+left_by (run_fault.Load e) image_bytes batch_bytes db old new is kind left = absurd kind
+left_by (run_fault.Read e) image_bytes batch_bytes db old new is kind left = (db, is, left)
+left_by (run_fault.Exec r) image_bytes batch_bytes db old new is kind left = (db, is, left)
+left_by run_fault.Write image_bytes batch_bytes db old new is kind left = (db, is, left)
+left_by run_fault.Memory image_bytes batch_bytes db old new is kind left = (db, is, left)
 
-pub left_run : (paths : Paths) (r : Result ℕ RunFault) (images batches : Option (List ℕ)) (db : Database) (old new : Taken) → IfSome images (λ image_bytes. image image_bytes ≡ Ok db) → IfErr r IsOfDatabase
-    → IfErr r (λ e. IfSome batches (λ batch_bytes. LeavesDatabase e paths db batch_bytes old new))
-    → IfErr r (λ e. IfSome images (λ image_bytes. IfSome batches (λ batch_bytes. LeavesRun e paths image_bytes batch_bytes old new)))
-left_run paths (Ok count) images batches db old new is kind left = tt
-left_run paths (Err e) None batches db old new is kind left = tt
-left_run paths (Err e) (Some bytes) None db old new is kind left = tt
-left_run paths (Err e) (Some bytes) (Some batch_bytes) db old new is kind left = left_by paths e bytes batch_bytes db old new is kind left
+pub left_run : (r : Result ℕ RunFault) (images batches : Option (List ℕ)) (db : Database) (old new : Taken) → IfSome images (λ image_bytes. image image_bytes ≡ Ok db) → IfErr r IsOfDatabase
+    → IfErr r (λ e. IfSome batches (λ batch_bytes. LeavesDatabase e db batch_bytes old new))
+    → IfErr r (λ e. IfSome images (λ image_bytes. IfSome batches (λ batch_bytes. LeavesRun e image_bytes batch_bytes old new)))
+left_run (Ok count) images batches db old new is kind left = tt
+left_run (Err e) None batches db old new is kind left = tt
+left_run (Err e) (Some bytes) None db old new is kind left = tt
+left_run (Err e) (Some bytes) (Some batch_bytes) db old new is kind left = left_by e bytes batch_bytes db old new is kind left
 
 -- ---- the line of an image
 pub checks_image : (images : Option (List ℕ)) (db : Database) (old new : Taken) → IfSome images (λ image_bytes. image image_bytes ≡ Ok db) → Appends old new (opening_text db)

@@ -10,6 +10,4 @@ use Rattle.runner.specs.declared.fault.RunFault.TheVariants as run_fault
 abbrev pub LeavesImage : RunFault → List ℕ → Taken → Taken → Type 0
 LeavesImage run_fault.Memory text old new = Keeps old new
 LeavesImage run_fault.Write text old new = AppendsFront old new text
-LeavesImage (run_fault.Load e) text old new = ⊥
-LeavesImage (run_fault.Read e) text old new = ⊥
-LeavesImage (run_fault.Exec r) text old new = ⊥
+LeavesImage _ text old new = ⊥

@@ -2,13 +2,14 @@
 use Rattle.std.specs.Prelude.{◌≡◌, ◌⊎◌, ℕ, ◌+◌, ◌<◌, ◌≤◌, Bool, true, false, List, [], ◌∷◌, ◌++◌, length, Option, Result, Ok, Err}
 use Rattle.std.specs.Io.KnownBytes.{Appends, Keeps}
 use Rattle.catalog.specs.CardMap.{Cards}
+use Rattle.executor.specs.States.{IsSoundState}
 use Rattle.executor.specs.declared.refusal.Refusal.TheVariants as refusal
 use Rattle.requests.specs.Batches.{Reading, clean, fault}
 use Rattle.requests.specs.Ends.{AppendsFront}
 use Rattle.requests.specs.declared.fault.ReadError.{ReadError}
 use Rattle.requests.specs.declared.fault.ReadError.TheVariants as read_error
 use Rattle.requests.specs.declared.request.Batch.{Batch}
-use Rattle.runner.specs.Text.{Paths, batch_text, text}
+use Rattle.runner.specs.Text.{batch_text, text}
 use Rattle.runner.specs.declared.fault.RunFault.{RunFault}
 use Rattle.runner.specs.declared.fault.RunFault.TheVariants as run_fault
 use Rattle.tpcc_model.specs.Serial.{State, after_batch, serial}
@@ -24,55 +25,60 @@ NumbersFit state batch = (state.sequence + 1 ≤ 999999999999999) × (state.next
 abbrev pub NumbersExhaust : State → Batch → Type 0
 NumbersExhaust state batch = (999999999999999 < state.sequence + 1) ⊎ (1000000000000000 < state.next + length batch.requests)
 
-abbrev pub AllFit : Cards → State → List Batch → Type 0
-AllFit cards state [] = Unit {0}
-AllFit cards state (batch ∷ batches) = NumbersFit state batch × AllFit cards (after_batch cards state batch) batches
+-- batches that are completed one after the other: the numbers of each fit, and each state, the first and the last included,
+-- is sound: the four consistency conditions hold
+abbrev pub AreCompleted : Cards → State → List Batch → Type 0
+AreCompleted cards state [] = IsSoundState cards state
+AreCompleted cards state (batch ∷ batches) = IsSoundState cards state × NumbersFit state batch × AreCompleted cards (after_batch cards state batch) batches
 
--- all batches were executed and written, and no fault came behind them
-pub record Ran (paths : Paths) (cards : Cards) (state : State) (reading : Reading) (old new : Taken) (count : ℕ) : Type 0 where
+-- the numbers of a batch fit, and the state that it leaves is sound
+abbrev pub Completes : Cards → State → Batch → Type 0
+Completes cards state batch = NumbersFit state batch × IsSoundState cards (after_batch cards state batch)
+
+-- all batches were completed and written, and no fault came behind them
+pub record Ran (cards : Cards) (state : State) (reading : Reading) (old new : Taken) (count : ℕ) : Type 0 where
   pub end : reading.1 ≡ clean
   pub counted : count ≡ length reading.0
-  pub fit : AllFit cards state reading.0
-  pub written : Appends old new (text paths cards state reading.0)
+  pub completed : AreCompleted cards state reading.0
+  pub written : Appends old new (text cards state reading.0)
 
--- the first of the batches were executed and written, and no other byte
-pub record Began (paths : Paths) (cards : Cards) (state : State) (batches : List Batch) (old new : Taken) (done rest : List Batch) : Type 0 where
+-- the first of the batches were completed and written, and no other byte
+pub record Began (cards : Cards) (state : State) (batches : List Batch) (old new : Taken) (done rest : List Batch) : Type 0 where
   pub parts : batches ≡ done ++ rest
-  pub fit : AllFit cards state done
-  pub written : Appends old new (text paths cards state done)
+  pub completed : AreCompleted cards state done
+  pub written : Appends old new (text cards state done)
 
-abbrev pub TookSome : Paths → Cards → State → List Batch → Taken → Taken → Type 0
-TookSome paths cards state batches old new = (done rest : List Batch) × Began paths cards state batches old new done rest
+abbrev pub TookSome : Cards → State → List Batch → Taken → Taken → Type 0
+TookSome cards state batches old new = (done rest : List Batch) × Began cards state batches old new done rest
 
 -- the same, and the next batch would pass the limit of numbers
-abbrev pub TookUntilExhausted : Paths → Cards → State → List Batch → Taken → Taken → Type 0
-TookUntilExhausted paths cards state batches old new =
-    (done : List Batch) × (batch : Batch) × (rest : List Batch) × Began paths cards state batches old new done (batch ∷ rest) × NumbersExhaust (serial cards state done) batch
+abbrev pub TookUntilExhausted : Cards → State → List Batch → Taken → Taken → Type 0
+TookUntilExhausted cards state batches old new =
+    (done : List Batch) × (batch : Batch) × (rest : List Batch) × Began cards state batches old new done (batch ∷ rest) × NumbersExhaust (serial cards state done) batch
 
--- what a fault in one batch leaves that isn't too long and has none before it uncommitted
-abbrev pub LeavesBatch : RunFault → Paths → Cards → State → Batch → Taken → Taken → Type 0
-LeavesBatch (run_fault.Exec refusal.NumbersExhausted) paths cards state batch old new = NumbersExhaust state batch × Keeps old new
-LeavesBatch (run_fault.Exec refusal.Memory) paths cards state batch old new = Keeps old new
-LeavesBatch (run_fault.Exec refusal.BatchTooLong) paths cards state batch old new = ⊥
-LeavesBatch (run_fault.Exec refusal.PointsFull) paths cards state batch old new = ⊥
-LeavesBatch (run_fault.Exec refusal.NoSuchPoint) paths cards state batch old new = ⊥
-LeavesBatch run_fault.Memory paths cards state batch old new = Keeps old new
-LeavesBatch run_fault.Write paths cards state batch old new = NumbersFit state batch × AppendsFront old new (batch_text paths cards state batch)
-LeavesBatch (run_fault.Read e) paths cards state batch old new = ⊥
-LeavesBatch (run_fault.Load e) paths cards state batch old new = ⊥
+-- a beginning of the text of the first batches, which were completed: so a beginning of the text of all
+abbrev pub TookFront : Cards → State → List Batch → Taken → Taken → Type 0
+TookFront cards state batches old new =
+    (done rest : List Batch) × (batches ≡ done ++ rest) × AreCompleted cards state done × AppendsFront old new (text cards state done)
 
--- what a run leaves that ended early; no batch that was read is too long, and none before it is left uncommitted
-abbrev pub Left : RunFault → Paths → Cards → State → Reading → Taken → Taken → Type 0
-Left (run_fault.Read e) paths cards state reading old new =
-    ((reading.1 ≡ fault e) × AllFit cards state reading.0 × Appends old new (text paths cards state reading.0)) ⊎ ((e ≡ read_error.Memory) × TookSome paths cards state reading.0 old new)
-Left (run_fault.Exec refusal.NumbersExhausted) paths cards state reading old new = TookUntilExhausted paths cards state reading.0 old new
-Left (run_fault.Exec refusal.Memory) paths cards state reading old new = TookSome paths cards state reading.0 old new
-Left (run_fault.Exec refusal.BatchTooLong) paths cards state reading old new = ⊥
-Left (run_fault.Exec refusal.PointsFull) paths cards state reading old new = ⊥
-Left (run_fault.Exec refusal.NoSuchPoint) paths cards state reading old new = ⊥
-Left run_fault.Memory paths cards state reading old new = TookSome paths cards state reading.0 old new
-Left run_fault.Write paths cards state reading old new = AppendsFront old new (text paths cards state reading.0)
-Left (run_fault.Load e) paths cards state reading old new = ⊥
+-- what a fault in one batch leaves that isn't too long and has none before it uncommitted; there is no other fault
+abbrev pub LeavesBatch : RunFault → Cards → State → Batch → Taken → Taken → Type 0
+LeavesBatch (run_fault.Exec refusal.NumbersExhausted) cards state batch old new = NumbersExhaust state batch × Keeps old new
+LeavesBatch (run_fault.Exec refusal.Memory) cards state batch old new = Keeps old new
+LeavesBatch run_fault.Memory cards state batch old new = Keeps old new
+LeavesBatch run_fault.Write cards state batch old new = Completes cards state batch × AppendsFront old new (batch_text cards state batch)
+LeavesBatch _ cards state batch old new = ⊥
+
+-- what a run leaves that ended early; no batch that was read is too long, and none before it is left uncommitted, so that
+-- there is no other fault
+abbrev pub Left : RunFault → Cards → State → Reading → Taken → Taken → Type 0
+Left (run_fault.Read e) cards state reading old new =
+    ((reading.1 ≡ fault e) × AreCompleted cards state reading.0 × Appends old new (text cards state reading.0)) ⊎ ((e ≡ read_error.Memory) × TookSome cards state reading.0 old new)
+Left (run_fault.Exec refusal.NumbersExhausted) cards state reading old new = TookUntilExhausted cards state reading.0 old new
+Left (run_fault.Exec refusal.Memory) cards state reading old new = TookSome cards state reading.0 old new
+Left run_fault.Memory cards state reading old new = TookSome cards state reading.0 old new
+Left run_fault.Write cards state reading old new = TookFront cards state reading.0 old new
+Left _ cards state reading old new = ⊥
 
 abbrev pub is_write : {A : Type 0} → Result A RunFault → Bool
 is_write (Err run_fault.Write) = true

@@ -10,8 +10,6 @@ use Rattle.requests.specs.Replies.{reply_text}
 use Rattle.requests.specs.Spelling.{text_of_record}
 use Rattle.requests.specs.declared.reply.Reply.{Reply}
 use Rattle.requests.specs.declared.request.Batch.{Batch}
-use Rattle.runner.specs.declared.schedule.Schedule.{Schedule}
-use Rattle.runner.specs.declared.schedule.Schedule.TheVariants as schedule
 use Rattle.tpcc_model.specs.Serial.{State, after_batch, batch_replies}
 
 -- the records of replies, the first with this number
@@ -37,24 +35,12 @@ batch_record_fields sequence path token = codes "batch" ∷ decimal sequence ∷
 abbrev pub batch_record_text : ℕ → Path → List ℕ → List ℕ
 batch_record_text sequence path token = text_of_record (batch_record_fields sequence path token)
 
--- the path that a batch takes on a state
-abbrev pub Paths : Type 0
-Paths = Cards → State → Batch → Path
-
--- each batch one request after the other
-abbrev pub in_turn : Paths
-in_turn cards state batch = path.Sequential
-
-abbrev pub paths_of : Schedule → Paths
-paths_of schedule.InTurn = in_turn
-paths_of (schedule.InLevels workers) = path_of
-
 -- the records of the replies, and that of the batch
-unfoldable pub batch_text : Paths → Cards → State → Batch → List ℕ
-batch_text paths cards state batch =
-    replies_text state.next (batch_replies cards state batch) ++ batch_record_text (state.sequence + 1) (paths cards state batch) (after_batch cards state batch).token
+unfoldable pub batch_text : Cards → State → Batch → List ℕ
+batch_text cards state batch =
+    replies_text state.next (batch_replies cards state batch) ++ batch_record_text (state.sequence + 1) (path_of cards state batch) (after_batch cards state batch).token
 
 -- the texts of batches, from this state on
-abbrev pub text : Paths → Cards → State → List Batch → List ℕ
-text paths cards state [] = []
-text paths cards state (batch ∷ batches) = batch_text paths cards state batch ++ text paths cards (after_batch cards state batch) batches
+abbrev pub text : Cards → State → List Batch → List ℕ
+text cards state [] = []
+text cards state (batch ∷ batches) = batch_text cards state batch ++ text cards (after_batch cards state batch) batches

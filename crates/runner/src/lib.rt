@@ -5,11 +5,10 @@ mod check;
 pub mod fault;
 mod make;
 mod run;
-mod schedule;
 mod serving;
 mod text;
 
 pub use check::check_text;
 pub use fault::{RunFault, fault_line};
 pub use make::make_text;
-pub use run::{run_text, run_text_sequential};
+pub use run::run_text;

@@ -1,13 +1,10 @@
 //! From the bytes of an image and of batches to the bytes of the replies.
 ghost use Rattle.std.specs.Prelude.{◌≡◌, ◌+◌, ◌<◌, ◌^◌, [], IfErr, IfOk, IfSome, if◌then◌else◌};
 ghost use Rattle.runner.specs.WholeRuns.{IsOfDatabase, LeavesDatabase, LeavesRun, RanOn, RanWhole, is_batches_read, is_image_read};
-ghost use Rattle.executor.specs.Paths.{path_of};
 ghost use Rattle.runner.specs.Runs.{is_write};
-ghost use Rattle.runner.specs.Text.{in_turn, paths_of};
 ghost use Rattle.tpcc_model.specs.Soundness.{IsSound};
 
 use crate::fault::RunFault;
-use crate::schedule::Schedule;
 use crate::serving::run_batches;
 use catalog::Catalog;
 use executor::{Executor, Refusal};
@@ -17,7 +14,7 @@ use requests::whole::slurp;
 use rollback::PointedStore;
 use std::alloc::Global;
 use std::thread::Threads;
-use workers::{Gate, NoGate, Workers};
+use workers::{Gate, Workers};
 
 /// The most bytes of batches.
 const MOST_BATCH_BYTES: usize = 1_073_741_824;
@@ -30,15 +27,15 @@ fn run_database<R: Threads + Sync, B: Source, S: Sink, G: Gate>(
     store: PointedStore,
     batches: &mut B,
     sink: &mut S,
-    schedule: &Schedule,
+    workers: Workers,
     gate: &G,
 ) -> Result<u64, RunFault>
     requires sound { IsSound (record { cards = catalog; rows = store.rows }) }
     requires points { store.points ≡ [] }
     requires batches { B.failed batches.old < 2 ^ 63 }
     requires sink { S.failed sink.old < 2 ^ 63 }
-    ensures ok { IfOk result (λ count. IfSome (B.left batches.old) (λ batch_bytes. RanOn (paths_of schedule.now) (record { cards = catalog; rows = store.rows }) batch_bytes (S.taken sink.old) (S.taken sink.new) count)) }
-    ensures err { IfErr result (λ e. IfSome (B.left batches.old) (λ batch_bytes. LeavesDatabase e (paths_of schedule.now) (record { cards = catalog; rows = store.rows }) batch_bytes (S.taken sink.old) (S.taken sink.new))) }
+    ensures ok { IfOk result (λ count. IfSome (B.left batches.old) (λ batch_bytes. RanOn (record { cards = catalog; rows = store.rows }) batch_bytes (S.taken sink.old) (S.taken sink.new) count)) }
+    ensures err { IfErr result (λ e. IfSome (B.left batches.old) (λ batch_bytes. LeavesDatabase e (record { cards = catalog; rows = store.rows }) batch_bytes (S.taken sink.old) (S.taken sink.new))) }
     ensures kinds { IfErr result IsOfDatabase }
     ensures batches_failures { B.failed batches.new ≡ B.failed batches.old + (if is_batches_read result then 1 else 0) }
     ensures sink_failures { S.failed sink.new ≡ S.failed sink.old + (if is_write result then 1 else 0) }
@@ -56,35 +53,9 @@ fn run_database<R: Threads + Sync, B: Source, S: Sink, G: Gate>(
         &mut executor,
         text.as_slice(),
         sink,
-        schedule,
+        workers,
         gate,
     )
-}
-
-/// Loads an image, reads all bytes of batches, and runs them as the schedule has it.
-fn run_whole<R: Threads + Sync, I: Source, B: Source, S: Sink, G: Gate>(
-    rt: &R,
-    alloc: Global,
-    image: &mut I,
-    batches: &mut B,
-    sink: &mut S,
-    schedule: &Schedule,
-    gate: &G,
-) -> Result<u64, RunFault>
-    requires image { I.failed image.old < 2 ^ 63 }
-    requires batches { B.failed batches.old < 2 ^ 63 }
-    requires sink { S.failed sink.old < 2 ^ 63 }
-    ensures ok { IfOk result (λ count. IfSome (I.left image.old) (λ image_bytes. IfSome (B.left batches.old) (λ batch_bytes. RanWhole (paths_of schedule.now) image_bytes batch_bytes (S.taken sink.old) (S.taken sink.new) count))) }
-    ensures err { IfErr result (λ e. IfSome (I.left image.old) (λ image_bytes. IfSome (B.left batches.old) (λ batch_bytes. LeavesRun e (paths_of schedule.now) image_bytes batch_bytes (S.taken sink.old) (S.taken sink.new)))) }
-    ensures image_failures { I.failed image.new ≡ I.failed image.old + (if is_image_read result then 1 else 0) }
-    ensures batches_failures { B.failed batches.new ≡ B.failed batches.old + (if is_batches_read result then 1 else 0) }
-    ensures sink_failures { S.failed sink.new ≡ S.failed sink.old + (if is_write result then 1 else 0) }
-{
-    let (catalog, store) = match load(alloc, image) {
-        Ok(database) => database,
-        Err(error) => return Err(RunFault::Load(error)),
-    };
-    run_database(rt, alloc, catalog, store, batches, sink, schedule, gate)
 }
 
 /// Loads an image, reads all bytes of batches, and then reads, executes, commits and writes batch after batch. The answer is
@@ -101,41 +72,17 @@ pub fn run_text<R: Threads + Sync, I: Source, B: Source, S: Sink, G: Gate>(
     requires image { I.failed image.old < 2 ^ 63 }
     requires batches { B.failed batches.old < 2 ^ 63 }
     requires sink { S.failed sink.old < 2 ^ 63 }
-    ensures ok { IfOk result (λ count. IfSome (I.left image.old) (λ image_bytes. IfSome (B.left batches.old) (λ batch_bytes. RanWhole path_of image_bytes batch_bytes (S.taken sink.old) (S.taken sink.new) count))) }
-    ensures err { IfErr result (λ e. IfSome (I.left image.old) (λ image_bytes. IfSome (B.left batches.old) (λ batch_bytes. LeavesRun e path_of image_bytes batch_bytes (S.taken sink.old) (S.taken sink.new)))) }
+    ensures ok { IfOk result (λ count. IfSome (I.left image.old) (λ image_bytes. IfSome (B.left batches.old) (λ batch_bytes. RanWhole image_bytes batch_bytes (S.taken sink.old) (S.taken sink.new) count))) }
+    ensures err { IfErr result (λ e. IfSome (I.left image.old) (λ image_bytes. IfSome (B.left batches.old) (λ batch_bytes. LeavesRun e image_bytes batch_bytes (S.taken sink.old) (S.taken sink.new)))) }
 
     // An end that failed is the reason of the answer, and every failure is answered.
     ensures image_failures { I.failed image.new ≡ I.failed image.old + (if is_image_read result then 1 else 0) }
     ensures batches_failures { B.failed batches.new ≡ B.failed batches.old + (if is_batches_read result then 1 else 0) }
     ensures sink_failures { S.failed sink.new ≡ S.failed sink.old + (if is_write result then 1 else 0) }
 {
-    run_whole(
-        rt,
-        alloc,
-        image,
-        batches,
-        sink,
-        &Schedule::InLevels(workers),
-        gate,
-    )
-}
-
-/// The same, but each batch is executed one request after the other, and says so.
-pub fn run_text_sequential<R: Threads + Sync, I: Source, B: Source, S: Sink>(
-    rt: &R,
-    alloc: Global,
-    image: &mut I,
-    batches: &mut B,
-    sink: &mut S,
-) -> Result<u64, RunFault>
-    requires image { I.failed image.old < 2 ^ 63 }
-    requires batches { B.failed batches.old < 2 ^ 63 }
-    requires sink { S.failed sink.old < 2 ^ 63 }
-    ensures ok { IfOk result (λ count. IfSome (I.left image.old) (λ image_bytes. IfSome (B.left batches.old) (λ batch_bytes. RanWhole in_turn image_bytes batch_bytes (S.taken sink.old) (S.taken sink.new) count))) }
-    ensures err { IfErr result (λ e. IfSome (I.left image.old) (λ image_bytes. IfSome (B.left batches.old) (λ batch_bytes. LeavesRun e in_turn image_bytes batch_bytes (S.taken sink.old) (S.taken sink.new)))) }
-    ensures image_failures { I.failed image.new ≡ I.failed image.old + (if is_image_read result then 1 else 0) }
-    ensures batches_failures { B.failed batches.new ≡ B.failed batches.old + (if is_batches_read result then 1 else 0) }
-    ensures sink_failures { S.failed sink.new ≡ S.failed sink.old + (if is_write result then 1 else 0) }
-{
-    run_whole(rt, alloc, image, batches, sink, &Schedule::InTurn, &NoGate)
+    let (catalog, store) = match load(alloc, image) {
+        Ok(database) => database,
+        Err(error) => return Err(RunFault::Load(error)),
+    };
+    run_database(rt, alloc, catalog, store, batches, sink, workers, gate)
 }

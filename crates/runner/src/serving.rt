@@ -1,45 +1,22 @@
 //! Batch after batch: read, executed, committed and written before the next is read.
 ghost use Rattle.std.specs.Prelude.{◌≡◌, ◌+◌, ◌<◌, ◌≤◌, ◌^◌, [], length, IfErr, IfOk, None, OnErr, OnOk, if◌then◌else◌};
 ghost use Rattle.std.specs.Io.KnownBytes.{Appends};
-ghost use Rattle.executor.specs.Executions.{IsRecordOf, IsRefusedFor, refusal_for};
 ghost use Rattle.executor.specs.Lines.{committed, extended};
+ghost use Rattle.executor.specs.States.{IsSoundState};
 ghost use Rattle.requests.specs.Batches.{batches};
-ghost use Rattle.runner.specs.Runs.{IsOfBatches, LeavesBatch, Left, NumbersFit, Ran, is_write};
-ghost use Rattle.runner.specs.Text.{batch_text, paths_of};
+ghost use Rattle.runner.specs.Runs.{Completes, IsOfBatches, LeavesBatch, Left, Ran, is_write};
+ghost use Rattle.runner.specs.Text.{batch_text};
 
 use crate::fault::RunFault;
-use crate::schedule::Schedule;
 use crate::text::batch_text;
-use executor::{Executor, Record, Refusal};
+use executor::Executor;
 use requests::batch_reader::BatchReader;
 use requests::ends::Sink;
 use requests::request::Batch;
 use requests::whole::push_all;
-use rollback::POINTS;
 use std::alloc::Global;
 use std::thread::Threads;
-use workers::Gate;
-
-/// Executes a batch as the schedule has it.
-fn execute<R: Threads + Sync, G: Gate>(
-    rt: &R,
-    alloc: Global,
-    executor: &mut Executor,
-    batch: &Batch,
-    schedule: &Schedule,
-    gate: &G,
-) -> Result<Record, Refusal>
-    ensures admitted { OnOk result (refusal_for POINTS executor.old batch.now ≡ None) }
-    ensures line { OnOk result (executor.new ≡ extended executor.old batch.now) }
-    ensures record { IfOk result (IsRecordOf executor.old.cards executor.old.present batch.now (paths_of schedule.now executor.old.cards executor.old.present batch.now)) }
-    ensures refused { IfErr result (IsRefusedFor (refusal_for POINTS executor.old batch.now)) }
-    ensures err { OnErr result (executor.new ≡ executor.old) }
-{
-    match schedule {
-        Schedule::InLevels(workers) => executor.execute(rt, alloc, batch, *workers, gate),
-        Schedule::InTurn => executor.execute_sequential(rt, alloc, batch),
-    }
-}
+use workers::{Gate, Workers};
 
 /// Executes a batch where all before it are committed, commits it, and writes its replies and its own record.
 fn serve_batch<R: Threads + Sync, S: Sink, G: Gate>(
@@ -48,20 +25,20 @@ fn serve_batch<R: Threads + Sync, S: Sink, G: Gate>(
     executor: &mut Executor,
     batch: &Batch,
     sink: &mut S,
-    schedule: &Schedule,
+    workers: Workers,
     gate: &G,
 ) -> Result<(), RunFault>
     requires alone { executor.old.earlier ≡ [] }
     requires low { 1 ≤ executor.old.present.next }
     requires few { length batch.now.requests ≤ 1024 }
     requires count { S.failed sink.old < 2 ^ 63 }
-    ensures fits { OnOk result (NumbersFit executor.old.present batch.now) }
+    ensures completed { OnOk result (Completes executor.old.cards executor.old.present batch.now) }
     ensures line { OnOk result (executor.new ≡ committed (extended executor.old batch.now)) }
-    ensures text { OnOk result (Appends (S.taken sink.old) (S.taken sink.new) (batch_text (paths_of schedule.now) executor.old.cards executor.old.present batch.now)) }
-    ensures err { IfErr result (λ e. LeavesBatch e (paths_of schedule.now) executor.old.cards executor.old.present batch.now (S.taken sink.old) (S.taken sink.new)) }
+    ensures text { OnOk result (Appends (S.taken sink.old) (S.taken sink.new) (batch_text executor.old.cards executor.old.present batch.now)) }
+    ensures err { IfErr result (λ e. LeavesBatch e executor.old.cards executor.old.present batch.now (S.taken sink.old) (S.taken sink.new)) }
     ensures failures { S.failed sink.new ≡ S.failed sink.old + (if is_write result then 1 else 0) }
 {
-    let record = match execute(rt, alloc, executor, batch, schedule, gate) {
+    let record = match executor.execute(rt, alloc, batch, workers, gate) {
         Ok(record) => record,
         Err(refusal) => return Err(RunFault::Exec(refusal)),
     };
@@ -83,15 +60,16 @@ pub(crate) fn run_batches<R: Threads + Sync, S: Sink, G: Gate>(
     executor: &mut Executor,
     text: &[u8],
     sink: &mut S,
-    schedule: &Schedule,
+    workers: Workers,
     gate: &G,
 ) -> Result<u64, RunFault>
     requires alone { executor.old.earlier ≡ [] }
+    requires sound { IsSoundState executor.old.cards executor.old.present }
     requires low { 1 ≤ executor.old.present.next }
     requires small { length text.now < 2 ^ 32 }
     requires count { S.failed sink.old < 2 ^ 63 }
-    ensures ok { IfOk result (Ran (paths_of schedule.now) executor.old.cards executor.old.present (batches text.now) (S.taken sink.old) (S.taken sink.new)) }
-    ensures err { IfErr result (λ e. Left e (paths_of schedule.now) executor.old.cards executor.old.present (batches text.now) (S.taken sink.old) (S.taken sink.new)) }
+    ensures ok { IfOk result (Ran executor.old.cards executor.old.present (batches text.now) (S.taken sink.old) (S.taken sink.new)) }
+    ensures err { IfErr result (λ e. Left e executor.old.cards executor.old.present (batches text.now) (S.taken sink.old) (S.taken sink.new)) }
     ensures kinds { IfErr result IsOfBatches }
     ensures failures { S.failed sink.new ≡ S.failed sink.old + (if is_write result then 1 else 0) }
 {
@@ -106,7 +84,7 @@ pub(crate) fn run_batches<R: Threads + Sync, S: Sink, G: Gate>(
             Ok(None) => break,
             Err(error) => return Err(RunFault::Read(error)),
         };
-        if let Err(fault) = serve_batch(rt, alloc, executor, &batch, sink, schedule, gate) {
+        if let Err(fault) = serve_batch(rt, alloc, executor, &batch, sink, workers, gate) {
             return Err(fault);
         }
         done += 1;

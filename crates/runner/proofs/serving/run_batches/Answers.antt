@@ -1,41 +1,41 @@
-use Rattle.std.proofs.Common.{rules, ◌≡◌, ◌≤◌, ◌∙◌, ◌∷◌, ◌++◌, [], arith, length-append, ap, subst, sym}
+use Rattle.std.proofs.Common.{rules, ◌≡◌, ◌≤◌, ◌∙◌, ◌∷◌, ◌++◌, [], arith, length-append, append-nil, ap, subst, sym}
 use Rattle.std.specs.Io.KnownBytes.{Appends}
 use Rattle.executor.specs.Lines.{Line, committed, extended}
 use Rattle.requests.specs.Batches.{StopsBy, batches, clean}
-use Rattle.runner.specs.Runs.{LeavesBatch, NumbersFit}
-use Rattle.runner.specs.Text.{batch_text, paths_of, text}
-use Rattle.runner.proofs.RunLemmas.{all_read, fit-more, left_in_batch, line-more, next_in, next-serial, reading-more, stops_by_records, text-more, text_of_all, then_kept}
+use Rattle.runner.specs.Runs.{Completes, LeavesBatch}
+use Rattle.runner.specs.Text.{batch_text, text}
+use Rattle.runner.proofs.RunLemmas.{all_read, completed-more, left_in_batch, line-more, next_in, next-serial, reading-more, stops_by_records, text-more, then_kept}
 use Rattle.runner.proofs.ShortBatches.{short_batch}
 use Rattle.runner.proofs.serving.run_batches.Goals as goal
 
 pub serve_batch-requires-clause-alone : goal.serve_batch-requires-clause-alone
 serve_batch-requires-clause-alone g c _ _ =
-    let (same, done, read, count, line, fit, written) = c.batches.invariant in
+    let (same, done, read, count, line, completed, written) = c.batches.invariant in
     ap (λ (l : Line). l.earlier) line
 
 pub serve_batch-requires-clause-low : goal.serve_batch-requires-clause-low
 serve_batch-requires-clause-low g c _ _ =
-    let (same, done, read, count, line, fit, written) = c.batches.invariant in
+    let (same, done, read, count, line, completed, written) = c.batches.invariant in
     subst (λ (l : Line). 1 ≤ l.present.next) (sym line) (next-serial c.args.executor.now.cards c.args.executor.now.present done c.requires.low)
 
 pub serve_batch-requires-clause-few : goal.serve_batch-requires-clause-few
 serve_batch-requires-clause-few g c _ _ =
-    let (same, done, read, count, line, fit, written) = c.batches.invariant in
+    let (same, done, read, count, line, completed, written) = c.batches.invariant in
     let parts = next_in _ c.batches.reader c.next_batch.new.self done c.in-Ok-Some.batch read (search rules) in
     short_batch c.args.text.now done c.in-Ok-Some.batch c.next_batch.new.self.0 parts
 
 pub returns-in-Err-serve_batch-clause-err : goal.returns-in-Err-serve_batch-clause-err
 returns-in-Err-serve_batch-clause-err g c =
-    let (same, done, read, count, line, fit, written) = c.batches.invariant in
+    let (same, done, read, count, line, completed, written) = c.batches.invariant in
     let cards = c.args.executor.now.cards in
     let state = c.args.executor.now.present in
     let parts = next_in _ c.batches.reader c.next_batch.new.self done c.in-Ok-Some.batch read (search rules) in
-    let left = subst (λ (l : Line). LeavesBatch c.in-Err-serve_batch.fault (paths_of c.args.schedule.now) l.cards l.present c.in-Ok-Some.batch (g.S.Sink.taken c.batches.sink) (g.S.Sink.taken c.serve_batch.new.sink)) line c.in-Err-serve_batch.ensures.err in
-    left_in_batch (paths_of c.args.schedule.now) cards state _ done c.in-Ok-Some.batch c.next_batch.new.self.0 _ _ _ parts fit written c.in-Err-serve_batch.fault left
+    let left = subst (λ (l : Line). LeavesBatch c.in-Err-serve_batch.fault l.cards l.present c.in-Ok-Some.batch (g.S.Sink.taken c.batches.sink) (g.S.Sink.taken c.serve_batch.new.sink)) line c.in-Err-serve_batch.ensures.err in
+    left_in_batch cards state _ done c.in-Ok-Some.batch c.next_batch.new.self.0 _ _ _ parts completed written c.in-Err-serve_batch.fault left
 
 pub batches-preserved : goal.batches-preserved
 batches-preserved g c =
-    let (same, done, read, count, line, fit, written) = c.batches.invariant in
+    let (same, done, read, count, line, completed, written) = c.batches.invariant in
     let cards = c.args.executor.now.cards in
     let state = c.args.executor.now.present in
     let batch = c.in-Ok-Some.batch in
@@ -46,21 +46,21 @@ batches-preserved g c =
       split,
       omega (arith, long, count),
       c.in_default.ensures.line ∙ ap (λ (l : Line). committed (extended l batch)) line ∙ line-more cards state done batch,
-      fit-more cards state done batch fit (subst (λ (l : Line). NumbersFit l.present batch) line c.in_default.ensures.fits),
-      text-more (paths_of c.args.schedule.now) cards state done batch _ _ _ written (subst (λ (l : Line). Appends (g.S.Sink.taken c.batches.sink) (g.S.Sink.taken c.serve_batch.new.sink) (batch_text (paths_of c.args.schedule.now) l.cards l.present batch)) line c.in_default.ensures.text),
+      completed-more cards state done batch completed (subst (λ (l : Line). Completes l.cards l.present batch) line c.in_default.ensures.completed),
+      text-more cards state done batch _ _ _ written (subst (λ (l : Line). Appends (g.S.Sink.taken c.batches.sink) (g.S.Sink.taken c.serve_batch.new.sink) (batch_text l.cards l.present batch)) line c.in_default.ensures.text),
     )
 
 pub returns-then-is_err-clause-err : goal.returns-then-is_err-clause-err
 returns-then-is_err-clause-err g c =
-    let (same, done, read, count, line, fit, written) = c.batches.invariant in
+    let (same, done, read, count, line, completed, written) = c.batches.invariant in
     let cards = c.args.executor.now.cards in
     let state = c.args.executor.now.present in
     let end : c.batches.reader ≡ ([], clean) = search rules in
     let all = all_read _ c.batches.reader done read end in
-    (text (paths_of c.args.schedule.now) cards state done, [], text_of_all (paths_of c.args.schedule.now) cards state (batches c.args.text.now) done all, then_kept _ _ _ _ written c.flush.ensures.bytes)
+    (done, [], all ∙ sym (append-nil done), completed, text cards state done, [], sym (append-nil (text cards state done)), then_kept _ _ _ _ written c.flush.ensures.bytes)
 
 pub returns-in-Err-next_batch-clause-kinds : goal.returns-in-Err-next_batch-clause-kinds
 returns-in-Err-next_batch-clause-kinds g c =
-    let (same, done, read, count, line, fit, written) = c.batches.invariant in
+    let (same, done, read, count, line, completed, written) = c.batches.invariant in
     let stops : StopsBy c.in-Err-next_batch.error c.batches.reader = search rules in
     stops_by_records c.args.text.now c.batches.reader done c.in-Err-next_batch.error read stops

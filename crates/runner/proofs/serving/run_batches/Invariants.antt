@@ -2,20 +2,20 @@ use Rattle.std.proofs.Common.{◌≡◌, ◌++◌, List, length}
 use Rattle.std.specs.Io.KnownBytes.{Appends}
 use Rattle.requests.specs.Batches.{batches}
 use Rattle.requests.specs.declared.request.Batch.{Batch}
-use Rattle.runner.specs.Runs.{AllFit}
-use Rattle.runner.specs.Text.{paths_of, text}
+use Rattle.runner.specs.Runs.{AreCompleted}
+use Rattle.runner.specs.Text.{text}
 use Rattle.runner.proofs.RunLemmas.{line_on}
 use Rattle.runner.proofs.serving.run_batches.Given as goal
 
--- some batches are executed, committed and written; the others are left to be read
+-- some batches are completed, committed and written; the others are left to be read
 abbrev pub invariant-batches : goal.invariant-batches
 invariant-batches g l = (g.S.Sink.failed l.sink ≡ g.S.Sink.failed l.initial.sink)
     × (written : List Batch)
     × (batches l.text ≡ (written ++ l.reader.0, l.reader.1))
     × (length written ≡ l.done)
     × (l.executor ≡ line_on l.initial.executor.cards l.initial.executor.present written)
-    × AllFit l.initial.executor.cards l.initial.executor.present written
-    × Appends (g.S.Sink.taken l.initial.sink) (g.S.Sink.taken l.sink) (text (paths_of l.schedule) l.initial.executor.cards l.initial.executor.present written)
+    × AreCompleted l.initial.executor.cards l.initial.executor.present written
+    × Appends (g.S.Sink.taken l.initial.sink) (g.S.Sink.taken l.sink) (text l.initial.executor.cards l.initial.executor.present written)
 
 abbrev pub decreases-batches : goal.decreases-batches
 decreases-batches g l = length l.reader.0

@@ -2,7 +2,7 @@ use Rattle.std.proofs.Common.{rules, ◌≡◌, ◌∙◌, arith, subst}
 use Rattle.std.specs.Io.KnownBytes.{Appends}
 use Rattle.requests.specs.Ends.{AppendsFront}
 use Rattle.runner.specs.Runs.{NumbersFit}
-use Rattle.runner.specs.Text.{batch_text, paths_of}
+use Rattle.runner.specs.Text.{batch_text}
 use Rattle.runner.proofs.ExecutedBatches.{admitted_fits, count_of_replies, recorded_text}
 use Rattle.runner.proofs.serving.serve_batch.Goals as goal
 
@@ -19,7 +19,7 @@ pub returns-then-is_err-clause-err : goal.returns-then-is_err-clause-err
 returns-then-is_err-clause-err g c =
     let line = c.args.executor.now in
     let batch = c.args.batch.now in
-    let text : c.as_slice.result.now ≡ batch_text (paths_of c.args.schedule.now) line.cards line.present batch = c.as_slice.ensures.value ∙ c.in-Ok-batch_text.ensures ∙ recorded_text (paths_of c.args.schedule.now) line.cards line.present batch c.in-Ok.record c.in-Ok.ensures.record in
+    let text : c.as_slice.result.now ≡ batch_text line.cards line.present batch = c.as_slice.ensures.value ∙ c.in-Ok-batch_text.ensures ∙ recorded_text line.cards line.present batch c.in-Ok.record c.in-Ok.ensures.record in
     let front : AppendsFront (g.S.Sink.taken c.args.sink.now) (g.S.Sink.taken c.push_all.new.sink) c.as_slice.result.now = search rules in
     (admitted_fits 1 line batch c.in-Ok.ensures.admitted, subst (AppendsFront (g.S.Sink.taken c.args.sink.now) (g.S.Sink.taken c.push_all.new.sink)) text front)
 
@@ -27,6 +27,6 @@ pub returns-clause-text : goal.returns-clause-text
 returns-clause-text g c =
     let line = c.args.executor.now in
     let batch = c.args.batch.now in
-    let text : c.as_slice.result.now ≡ batch_text (paths_of c.args.schedule.now) line.cards line.present batch = c.as_slice.ensures.value ∙ c.in-Ok-batch_text.ensures ∙ recorded_text (paths_of c.args.schedule.now) line.cards line.present batch c.in-Ok.record c.in-Ok.ensures.record in
+    let text : c.as_slice.result.now ≡ batch_text line.cards line.present batch = c.as_slice.ensures.value ∙ c.in-Ok-batch_text.ensures ∙ recorded_text line.cards line.present batch c.in-Ok.record c.in-Ok.ensures.record in
     let written : Appends (g.S.Sink.taken c.args.sink.now) (g.S.Sink.taken c.push_all.new.sink) c.as_slice.result.now = search rules in
     subst (Appends (g.S.Sink.taken c.args.sink.now) (g.S.Sink.taken c.push_all.new.sink)) text written
