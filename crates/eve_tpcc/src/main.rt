@@ -5,7 +5,7 @@
 ghost use Rattle.tpcc_rows.specs.Limits.{IsBetween};
 
 use command_line::{Line, LineFault, line_of, line_status};
-use requests::ends::Counting;
+use records::io::Counting;
 use runner::{RunFault, check_text, fault_line, make_text, run_text};
 use std::process::ExitCode;
 use std::rt::{Env, Files};

@@ -5,7 +5,7 @@ use Rattle.std.proofs.lemmas.List.{get_or-replicate}
 use Rattle.std.proofs.Math.ListN.{replicate}
 use Rattle.std.specs.FinMap.{entries}
 use Rattle.std.specs.List.{cons_option, filter_map}
-use Rattle.requests.specs.Fields.{IsWithin}
+use Rattle.records.specs.Fields.{IsWithin}
 use Rattle.tpcc_model.specs.Conditions.{line_share, new_order_share, promised_share}
 use Rattle.tpcc_rows.specs.Limits.{IsBetween}
 use Rattle.tpcc_rows.specs.Picks.{greatest, larger, least, lesser, new_pick, picked}

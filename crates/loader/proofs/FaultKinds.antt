@@ -1,9 +1,9 @@
 -- The faults that a text can have.
 use Rattle.std.proofs.Common.{◌+◌, ℕ, List, [], ◌∷◌, Bool, true, false, cond, Result, Ok, Err, sym, subst, inl, inr}
-use Rattle.requests.specs.Fields.{Fields}
-use Rattle.requests.specs.Records.{records_in}
-use Rattle.requests.specs.declared.fault.Slip.{Slip}
-use Rattle.requests.specs.declared.fault.Slip.TheVariants as slip
+use Rattle.records.specs.Fields.{Fields}
+use Rattle.records.specs.Records.{records_in}
+use Rattle.records.specs.declared.fault.Slip.{Slip}
+use Rattle.records.specs.declared.fault.Slip.TheVariants as slip
 use Rattle.tpcc_model.specs.Database.{Database}
 use Rattle.loader.specs.Faults.{IsOfText, StopsBy, fault_of}
 use Rattle.loader.specs.Image.{counts, ended, is_end, is_first, placed, read_all, read_from}

@@ -9,9 +9,9 @@ use Rattle.std.proofs.lemmas.Bool.{cases_Bool}
 use Rattle.std.proofs.lemmas.List.Elements.{All-cons, All-nil}
 use Rattle.std.proofs.lemmas.Bool.Decides.{nat_tests}
 use Rattle.csv.specs.Records.{field_at}
-use Rattle.requests.specs.Fields.{◌>>=◌, Fields, below_zero, in_range, is_numeral, is_text as is_field, number_at, number_in, number_or_null_at, said_by, signed_at, signed_in, text_at, text_in}
-use Rattle.requests.specs.declared.fault.Slip.{Slip}
-use Rattle.requests.specs.declared.fault.Slip.TheVariants as slip
+use Rattle.records.specs.Fields.{◌>>=◌, Fields, below_zero, in_range, is_numeral, is_text as is_field, number_at, number_in, number_or_null_at, said_by, signed_at, signed_in, text_at, text_in}
+use Rattle.records.specs.declared.fault.Slip.{Slip}
+use Rattle.records.specs.declared.fault.Slip.TheVariants as slip
 use Rattle.tpcc_rows.specs.Limits.{IsBetween, IsCents, IsStockQuantity}
 use Rattle.tpcc_rows.specs.Texts.{ArePrintable, IsPrintable, IsText, is_printable, is_text}
 use Rattle.loader.specs.Columns.{texts_at}

@@ -1,9 +1,9 @@
 -- The database of an image is sound.
 use Rattle.std.proofs.Common.{◌≡◌, ◌+◌, ℕ, List, [], ◌∷◌, Bool, true, false, not, cond, Result, Ok, Err, refl, subst}
 use Rattle.std.specs.Prelude.{IfOk}
-use Rattle.requests.specs.Fields.{Fields}
-use Rattle.requests.specs.Records.{records_in}
-use Rattle.requests.specs.declared.fault.Slip.{Slip}
+use Rattle.records.specs.Fields.{Fields}
+use Rattle.records.specs.Records.{records_in}
+use Rattle.records.specs.declared.fault.Slip.{Slip}
 use Rattle.tpcc_model.specs.Database.{Database}
 use Rattle.tpcc_model.specs.Soundness.{IsSound}
 use Rattle.loader.specs.Checks.{parents_there, ytds_agree}

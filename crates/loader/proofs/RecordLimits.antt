@@ -3,10 +3,9 @@ use Rattle.std.proofs.Common.{◌≡◌, ℕ, ℤ, List, Bool, cond, Option, IfS
 use Rattle.std.specs.Prelude.{IfOk, ◌==◌, length, codes}
 use Rattle.std.specs.List.{AllByRecursion}
 use Rattle.csv.specs.Records.{field_at}
-use Rattle.requests.specs.BatchRecords.{of_count}
-use Rattle.requests.specs.Fields.{◌>>=◌, Fields, is_text, number_at, number_or_null_at, signed_at, text_at}
-use Rattle.requests.specs.declared.fault.Slip.{Slip}
-use Rattle.requests.specs.declared.fault.Slip.TheVariants as slip
+use Rattle.records.specs.Fields.{◌>>=◌, Fields, is_text, number_at, number_or_null_at, of_count, signed_at, text_at}
+use Rattle.records.specs.declared.fault.Slip.{Slip}
+use Rattle.records.specs.declared.fault.Slip.TheVariants as slip
 use Rattle.tpcc_rows.specs.Limits.{IsBetween, IsCents, IsStockQuantity}
 use Rattle.tpcc_rows.specs.Texts.{IsText}
 use Rattle.loader.specs.Columns.{credit_of, texts_at}

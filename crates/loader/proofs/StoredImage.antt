@@ -16,9 +16,9 @@ use Rattle.catalog.proofs.CardKeys.{card_key_cmp_total, exact_cards}
 use Rattle.csv.specs.Reading.{strip_bom}
 use Rattle.csv.specs.Records.{field_at}
 use Rattle.csv.specs.Writing.{read_back}
-use Rattle.requests.specs.Fields.{Fields}
-use Rattle.requests.specs.Records.{records_in}
-use Rattle.requests.proofs.SpellingLemmas.{records_after-text}
+use Rattle.records.specs.Fields.{Fields}
+use Rattle.records.specs.Records.{records_in}
+use Rattle.records.proofs.SpellingLemmas.{records_after-text}
 use Rattle.tpcc_model.specs.Database.{Database}
 use Rattle.tpcc_model.specs.Soundness.{IsSound}
 use Rattle.tpcc_rows.specs.RowMap.{Rows, row_key_cmp}

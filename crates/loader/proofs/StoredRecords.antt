@@ -17,11 +17,11 @@ use Rattle.catalog.specs.declared.card.ItemCard.{ItemCard}
 use Rattle.catalog.specs.declared.card.StockCard.{StockCard}
 use Rattle.catalog.specs.declared.card.WarehouseCard.{WarehouseCard}
 use Rattle.csv.specs.Records.{field_at}
-use Rattle.requests.specs.Fields.{Fields, number_in, number_or_null_at, signed_in}
-use Rattle.requests.specs.Spelling.{number_or_dash}
-use Rattle.requests.specs.declared.fault.Slip.{Slip}
-use Rattle.requests.specs.declared.fault.Slip.TheVariants as slip
-use Rattle.requests.proofs.SpellingLemmas.{number_in-decimal, signed_in-decimal}
+use Rattle.records.specs.Fields.{Fields, number_in, number_or_null_at, signed_in}
+use Rattle.records.specs.Spelling.{number_or_dash}
+use Rattle.records.specs.declared.fault.Slip.{Slip}
+use Rattle.records.specs.declared.fault.Slip.TheVariants as slip
+use Rattle.records.proofs.SpellingLemmas.{number_in-decimal, signed_in-decimal}
 use Rattle.tpcc_model.specs.Soundness.{IsCard, IsCustomerRow, IsStockRow}
 use Rattle.tpcc_rows.specs.Limits.{IsBetween, IsCents, IsStockQuantity, ten}
 use Rattle.tpcc_rows.specs.Texts.{ArePrintable, IsPrintable, IsText, is_printable, is_text}

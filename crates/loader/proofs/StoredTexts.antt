@@ -7,8 +7,8 @@ use Rattle.std.proofs.lemmas.List.{map-append}
 use Rattle.catalog.specs.declared.card.Card.{Card}
 use Rattle.catalog.specs.declared.card.CardKey.{CardKey}
 use Rattle.catalog.specs.declared.card.CardKey.TheVariants as card_key
-use Rattle.requests.specs.Fields.{Fields}
-use Rattle.requests.specs.Spelling.{text_of_record, text_of_records}
+use Rattle.records.specs.Fields.{Fields}
+use Rattle.records.specs.Spelling.{text_of_record, text_of_records}
 use Rattle.tpcc_model.specs.Database.{Database}
 use Rattle.tpcc_rows.specs.RowMap.{Rows}
 use Rattle.loader.specs.StoredImage.{card_said, image_records, image_said, part_said, row_said}

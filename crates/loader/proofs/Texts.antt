@@ -2,8 +2,8 @@
 use Rattle.std.proofs.Common.{◌≡◌, ◌+◌, ℕ, suc, List, [], ◌∷◌, ◌++◌, Bool, true, false, Option, Some, None, Result, Ok, Err, refl, ap, sym, subst, append-nil, append_assoc, arith, length, length-append}
 use Rattle.std.specs.Prelude.{if◌then◌else◌}
 use Rattle.std.specs.Result.{IsErrAnd}
-use Rattle.requests.specs.Fields.{◌>>=◌, Fields, text_at}
-use Rattle.requests.specs.declared.fault.Slip.{Slip}
+use Rattle.records.specs.Fields.{◌>>=◌, Fields, text_at}
+use Rattle.records.specs.declared.fault.Slip.{Slip}
 use Rattle.loader.specs.Columns.{texts_at}
 use Rattle.loader.specs.Faults.{IsFaultOf, Reads}
 use Rattle.loader.specs.declared.record_fault.RecordFault.{RecordFault}

@@ -1,6 +1,6 @@
 -- A book for each district: what its orders, new orders and order lines come to.
 use Rattle.std.specs.Prelude.{◌≡◌, ◌+◌, ◌*◌, ◌+ℤ◌, max, min, slice_index_or, ℕ, pos, List, Option, Some, None}
-use Rattle.requests.specs.Fields.{IsWithin}
+use Rattle.records.specs.Fields.{IsWithin}
 use Rattle.tpcc_model.specs.Conditions.{line_share, new_order_share, promised_share}
 use Rattle.tpcc_rows.specs.Limits.{IsBetween}
 use Rattle.tpcc_rows.specs.Picks.{greatest, least, new_pick}

@@ -7,7 +7,7 @@ use Rattle.catalog.specs.CardMap.{Cards}
 use Rattle.catalog.specs.declared.card.Card.{Card}
 use Rattle.catalog.specs.declared.card.CardKey.{CardKey}
 use Rattle.catalog.specs.declared.card.CardKey.TheVariants as card_key
-use Rattle.requests.specs.Fields.{IsWithin}
+use Rattle.records.specs.Fields.{IsWithin}
 use Rattle.tpcc_model.specs.Conditions.{district_share}
 use Rattle.tpcc_model.specs.Database.{Database}
 use Rattle.tpcc_rows.specs.Limits.{ten}

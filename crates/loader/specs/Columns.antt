@@ -2,9 +2,9 @@
 use Rattle.std.specs.Prelude.{◌+◌, List, [], ◌∷◌, ℕ, zero, suc, codes, Option, Result, Ok, Err, if◌then◌else◌}
 use Rattle.catalog.specs.declared.card.Credit.{Credit}
 use Rattle.catalog.specs.declared.card.Credit.TheVariants as credit
-use Rattle.requests.specs.Fields.{Fields, ◌>>=◌, is_text, text_at}
-use Rattle.requests.specs.declared.fault.Slip.{Slip}
-use Rattle.requests.specs.declared.fault.Slip.TheVariants as slip
+use Rattle.records.specs.Fields.{Fields, ◌>>=◌, is_text, text_at}
+use Rattle.records.specs.declared.fault.Slip.{Slip}
+use Rattle.records.specs.declared.fault.Slip.TheVariants as slip
 
 -- C_CREDIT
 abbrev pub credit_of : Option (List ℕ) → Result Credit Slip

@@ -1,7 +1,7 @@
 -- Faults of an image.
 use Rattle.std.specs.Prelude.{◌≡◌, ◌⊎◌, ℕ, List, codes, Option, Some, None, Result, Ok, Err, MatchResult}
-use Rattle.requests.specs.declared.fault.Slip.{Slip}
-use Rattle.requests.specs.declared.fault.Slip.TheVariants as slip
+use Rattle.records.specs.declared.fault.Slip.{Slip}
+use Rattle.records.specs.declared.fault.Slip.TheVariants as slip
 use Rattle.loader.specs.declared.fault.LoadError.{LoadError}
 use Rattle.loader.specs.declared.fault.LoadError.TheVariants as err
 use Rattle.loader.specs.declared.record_fault.RecordFault.{RecordFault}

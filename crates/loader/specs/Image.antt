@@ -1,9 +1,9 @@
 -- The database of an image, or its one fault.
 use Rattle.std.specs.Prelude.{◌==◌, ◌&&◌, ◌+◌, ◌-◌, ◌∷◌, [], Bool, ℕ, List, length, codes, decimal, Result, Ok, Err, if◌then◌else◌}
 use Rattle.csv.specs.Records.{field_at}
-use Rattle.requests.specs.Fields.{Fields, is_text}
-use Rattle.requests.specs.Records.{records_in}
-use Rattle.requests.specs.declared.fault.Slip.{Slip}
+use Rattle.records.specs.Fields.{Fields, is_text}
+use Rattle.records.specs.Records.{records_in}
+use Rattle.records.specs.declared.fault.Slip.{Slip}
 use Rattle.tpcc_model.specs.Database.{Database}
 use Rattle.loader.specs.Checks.{checked}
 use Rattle.loader.specs.Faults.{fault_of}

@@ -1,10 +1,9 @@
 -- What a record of an image says.
 use Rattle.std.specs.Prelude.{Bool, true, false, ◌==◌, ℕ, List, Result, Ok, Err, codes, if◌then◌else◌}
 use Rattle.csv.specs.Records.{field_at}
-use Rattle.requests.specs.BatchRecords.{of_count}
-use Rattle.requests.specs.Fields.{Fields, ◌>>=◌, is_text, number_at, number_or_null_at, signed_at, text_at}
-use Rattle.requests.specs.declared.fault.Slip.{Slip}
-use Rattle.requests.specs.declared.fault.Slip.TheVariants as slip
+use Rattle.records.specs.Fields.{Fields, ◌>>=◌, is_text, number_at, number_or_null_at, of_count, signed_at, text_at}
+use Rattle.records.specs.declared.fault.Slip.{Slip}
+use Rattle.records.specs.declared.fault.Slip.TheVariants as slip
 use Rattle.loader.specs.Columns.{credit_of, texts_at}
 use Rattle.loader.specs.declared.image_record.ImageRecord.{ImageRecord}
 use Rattle.loader.specs.declared.image_record.ImageRecord.TheVariants as said

@@ -9,8 +9,8 @@ use Rattle.catalog.specs.declared.card.Card.{Card}
 use Rattle.catalog.specs.declared.card.Card.TheVariants as card
 use Rattle.catalog.specs.declared.card.CardKey.{CardKey}
 use Rattle.catalog.specs.declared.card.CardKey.TheVariants as card_key
-use Rattle.requests.specs.Fields.{Fields}
-use Rattle.requests.specs.Spelling.{text_of_records}
+use Rattle.records.specs.Fields.{Fields}
+use Rattle.records.specs.Spelling.{text_of_records}
 use Rattle.tpcc_model.specs.Database.{Database}
 use Rattle.tpcc_rows.specs.RowMap.{Rows, row_key_cmp}
 use Rattle.tpcc_rows.specs.Rows.{customer_row, district_row, stock_row, warehouse_row}

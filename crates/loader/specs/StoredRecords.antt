@@ -9,8 +9,8 @@ use Rattle.catalog.specs.declared.card.DistrictCard.{DistrictCard}
 use Rattle.catalog.specs.declared.card.ItemCard.{ItemCard}
 use Rattle.catalog.specs.declared.card.StockCard.{StockCard}
 use Rattle.catalog.specs.declared.card.WarehouseCard.{WarehouseCard}
-use Rattle.requests.specs.Fields.{Fields}
-use Rattle.requests.specs.Spelling.{number_or_dash}
+use Rattle.records.specs.Fields.{Fields}
+use Rattle.records.specs.Spelling.{number_or_dash}
 use Rattle.tpcc_rows.specs.Limits.{ten}
 use Rattle.tpcc_rows.specs.declared.row.CustomerRow.{CustomerRow}
 use Rattle.tpcc_rows.specs.declared.row.DistrictRow.{DistrictRow}

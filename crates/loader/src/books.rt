@@ -2,7 +2,7 @@
 ghost use Rattle.std.specs.Prelude.{◌≡◌, ◌<◌, ◌+◌, ◌-◌, ◌*◌, ◌^◌, ◌==◌, ◌&&◌, ◌+ℤ◌, max, min, unwrap_or, true, ℕ, IfNone, IfSome, if◌then◌else◌};
 ghost use Rattle.std.specs.Option.{option_map_or};
 ghost use Rattle.std.specs.Ordering.{int_eq};
-ghost use Rattle.requests.specs.Fields.{IsWithin};
+ghost use Rattle.records.specs.Fields.{IsWithin};
 ghost use Rattle.tpcc_rows.specs.Limits.{IsBetween};
 ghost use Rattle.loader.specs.Books.{AreBooks, AreOfRows, IsOfRows, book_at, book_of, book_of_row, both, empty_book, one_of};
 ghost use Rattle.loader.specs.Districts.{are_without_gap};

@@ -6,7 +6,7 @@ ghost use Rattle.tpcc_model.specs.Conditions.{district_share};
 ghost use Rattle.tpcc_rows.specs.Limits.{IsCents, ten};
 ghost use Rattle.tpcc_rows.specs.Rows.{order_row};
 ghost use Rattle.tpcc_rows.specs.declared.key.RowKey.TheVariants as row_key;
-ghost use Rattle.requests.specs.Fields.{IsWithin};
+ghost use Rattle.records.specs.Fields.{IsWithin};
 ghost use Rattle.loader.specs.Checks.{AreSums, AreWithin, card_has_parents, checked, has_line, parents_there, row_has_parents, sum_at, ytd_agrees, ytds_agree};
 ghost use Rattle.loader.specs.Tables.{database, has_card, has_row};
 

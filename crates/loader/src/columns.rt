@@ -7,8 +7,8 @@ ghost use Rattle.loader.specs.Faults.{Reads};
 use crate::record_fault::RecordFault;
 use catalog::card::{Credit, DistrictInfos};
 use csv::ByteRecord;
-use requests::fault::Slip;
-use requests::fields::{has_text, text};
+use records::fault::Slip;
+use records::fields::{has_text, text};
 use std::alloc::Global;
 
 /// C_CREDIT: `GC` or `BC`.

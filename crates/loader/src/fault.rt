@@ -3,7 +3,7 @@ ghost use Rattle.std.specs.Prelude.{◌≡◌};
 ghost use Rattle.loader.specs.Faults.{code_of, fault_of, name_of, place_of};
 ghost use Rattle.loader.specs.declared.fault.LoadError.TheVariants as load_error;
 
-use requests::fault::Slip;
+use records::fault::Slip;
 use std::alloc::{AllocError, AllocFailed};
 use thiserror::Error;
 use tpcc_rows::memory::Memory;

@@ -11,9 +11,9 @@ use crate::fault::LoadError;
 use crate::reading::read_tables;
 use crate::tables::on_pages;
 use catalog::Catalog;
-use requests::ends::Source;
-use requests::fault::ReadError;
-use requests::whole::slurp;
+use records::fault::ReadError;
+use records::io::Source;
+use records::slurp::slurp;
 use rollback::PointedStore;
 use std::alloc::Global;
 

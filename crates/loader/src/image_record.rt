@@ -8,8 +8,8 @@ use crate::columns::{credit, district_infos};
 use crate::record_fault::RecordFault;
 use catalog::card::{CustomerCard, DistrictCard, ItemCard, StockCard, WarehouseCard};
 use csv::ByteRecord;
-use requests::fault::Slip;
-use requests::fields::{
+use records::fault::Slip;
+use records::fields::{
     amount, carrier_or_null, cents, count, customer, district, has_text, item, line_number,
     line_quantity, moment, moment_or_null, next_order, number_at, order, price, rate,
     request_number, stock_quantity, text, warehouse,

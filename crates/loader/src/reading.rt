@@ -1,7 +1,7 @@
 //! The tables of the records of an image.
 ghost use Rattle.std.specs.Prelude.{◌≡◌, ◌+◌, ◌<◌, ◌≤◌, ◌^◌, [], length, Ok, IfOk, IfErr, OnOk};
 ghost use Rattle.csv.specs.Records.{fields_of};
-ghost use Rattle.requests.specs.Records.{IsGoing, records_in, records_left};
+ghost use Rattle.records.specs.Records.{IsGoing, records_in, records_left};
 ghost use Rattle.loader.specs.Faults.{StopsBy};
 ghost use Rattle.loader.specs.Image.{Rest, counts, ended, is_first, placed, read_all, read_from};
 ghost use Rattle.loader.specs.ImageRecords.{record_at};
@@ -14,8 +14,8 @@ use crate::tables::Tables;
 use catalog::builder::CatalogError;
 use csv::{ByteRecord, Reader};
 use itoa::Buffer;
-use requests::fields::has_text;
-use requests::records::{next_record, records_of};
+use records::fields::has_text;
+use records::reading::{next_record, records_of};
 use std::alloc::Global;
 
 /// Whether this is `eve-tpcc,1`.

@@ -2,7 +2,7 @@
 ghost use Rattle.std.specs.Prelude.{◌≡◌};
 ghost use Rattle.loader.specs.declared.record_fault.RecordFault.TheVariants as record_fault;
 
-use requests::fault::Slip;
+use records::fault::Slip;
 use std::alloc::{AllocError, AllocFailed};
 
 /// Why a record isn't taken in: what is wrong with it, or that memory was refused.

@@ -1,8 +1,8 @@
 //! The image of a database.
 ghost use Rattle.std.specs.Prelude.{◌≡◌, ◌++◌, filter_map, length, map, IfOk, OnErr, OnOk};
 ghost use Rattle.std.specs.FinMap as finmap;
-ghost use Rattle.requests.specs.Spelling.{text_of_records};
-ghost use Rattle.requests.specs.Writer.{IsWriting, written};
+ghost use Rattle.records.specs.Spelling.{text_of_records};
+ghost use Rattle.records.specs.Writer.{IsWriting, written};
 ghost use Rattle.loader.specs.StoredImage.{image_said, image_text, part_said, said_at, stands_in};
 ghost use Rattle.loader.specs.StoredRecords.{written_record};
 ghost use Rattle.loader.specs.Tables.{loaded};
@@ -12,7 +12,7 @@ use crate::stored_record::{card_record, end_record, first_record, record_at};
 use catalog::Catalog;
 use catalog::card::CardKey;
 use csv::{ByteRecord, Writer};
-use requests::record_writer::{record_writer, write_record, written_text};
+use records::record_writer::{record_writer, write_record, written_text};
 use rollback::PointedStore;
 use std::alloc::Global;
 use std::collections::BTreeSet;

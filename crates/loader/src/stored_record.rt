@@ -2,7 +2,7 @@
 ghost use Rattle.std.specs.Prelude.{◌≡◌, ◌∷◌, [], IfOk, OnOk, Some, None, if◌then◌else◌, map, option_copied, option_map};
 ghost use Rattle.catalog.specs.StockCards.{district_info};
 ghost use Rattle.csv.specs.Records.{fields_of, partial_of};
-ghost use Rattle.requests.specs.Spelling.{AddsFields};
+ghost use Rattle.records.specs.Spelling.{AddsFields};
 ghost use Rattle.tpcc_rows.specs.Limits.{ten};
 ghost use Rattle.tpcc_rows.specs.Rows.{stock_row};
 ghost use Rattle.loader.specs.StoredImage.{card_said, row_said, said_at};
@@ -10,7 +10,7 @@ ghost use Rattle.loader.specs.StoredRecords.{credit_text, written_customer, writ
 
 use catalog::card::{Card, Credit, CustomerCard, DistrictCard, ItemCard, StockCard, WarehouseCard};
 use csv::ByteRecord;
-use requests::record_text::{push, push_number, push_number_or_dash, push_signed};
+use records::record_text::{push, push_number, push_number_or_dash, push_signed};
 use rollback::PointedStore;
 use tpcc_rows::id::{DistrictId, ItemId, LineNumber, OrderId, RequestNumber, WarehouseId};
 use tpcc_rows::key::RowKey;

@@ -4,12 +4,12 @@ use Rattle.std.specs.Prelude.{◌==◌, Result, Ok, Err}
 use Rattle.std.proofs.lemmas.Bool.{cases_Bool}
 use Rattle.requests.specs.BatchRecords.{head_at, request_at}
 use Rattle.requests.specs.Batches.{Place, Reading, batches, begun, between, continued, reading_from, settled, within}
-use Rattle.requests.specs.Fields.{Fields}
-use Rattle.requests.specs.Records.{records_in}
+use Rattle.records.specs.Fields.{Fields}
+use Rattle.records.specs.Records.{records_in}
 use Rattle.requests.specs.declared.batch_record.BatchHead.{BatchHead}
-use Rattle.requests.specs.declared.fault.Slip.{Slip}
+use Rattle.records.specs.declared.fault.Slip.{Slip}
 use Rattle.requests.specs.declared.request.Request.{Request}
-use Rattle.requests.proofs.RecordLemmas.{length-records_in}
+use Rattle.records.proofs.RecordLemmas.{length-records_in}
 
 length-settled : (h : BatchHead) (qs : List Request) (rest : Place → Reading) (n : ℕ) → ((p : Place) → length (rest p).0 ≤ n) → length (settled h qs rest).0 ≤ n + 1
 length-settled h qs rest n less = elim (cases_Bool (length qs == h.count)) [

@@ -1,9 +1,4 @@
-pub mod EndsLemmas
-pub mod RecordLemmas
 pub mod BatchLemmas
-pub mod FieldLemmas
 pub mod LineLemmas
-pub mod SpellingLemmas
 pub mod RequestRoundTrip
 pub mod RoundTrip
-pub mod WriterLemmas

@@ -1,9 +1,9 @@
 -- The lines of a new order, as a loop reads them.
 use Rattle.std.proofs.Common.{◌≡◌, ◌∙◌, ◌+◌, ◌*◌, ◌-◌, ◌<◌, ◌≤◌, ℕ, suc, List, [], ◌∷◌, ◌++◌, refl, sym, ap, arith, append-nil, append_assoc}
 use Rattle.std.specs.Prelude.{Result, Ok, Err}
-use Rattle.requests.specs.Fields.{◌>>=◌, Fields}
+use Rattle.records.specs.Fields.{◌>>=◌, Fields}
 use Rattle.requests.specs.RequestRecords.{ordered_line_at, ordered_lines_at}
-use Rattle.requests.specs.declared.fault.Slip.{Slip}
+use Rattle.records.specs.declared.fault.Slip.{Slip}
 use Rattle.requests.specs.declared.request.OrderedLine.{OrderedLine}
 
 -- these lines, and then those

@@ -9,8 +9,8 @@ use Rattle.csv.specs.Records.{field_at}
 use Rattle.csv.specs.Writing.{read_back}
 use Rattle.requests.specs.BatchRecords.{head_at, head_fields, verdict_of}
 use Rattle.requests.specs.Batches.{Reading, batch_of, batches, between, clean, reading_from, settled, with_front}
-use Rattle.requests.specs.Fields.{Fields}
-use Rattle.requests.specs.Records.{records_in}
+use Rattle.records.specs.Fields.{Fields}
+use Rattle.records.specs.Records.{records_in}
 use Rattle.requests.specs.BatchText.{IsReadBatch, IsReadRequest, batch_records, batches_text, head_record, request_record, verdict_text}
 use Rattle.requests.specs.declared.batch_record.BatchHead.{BatchHead}
 use Rattle.requests.specs.declared.request.Batch.{Batch}
@@ -19,7 +19,7 @@ use Rattle.requests.specs.declared.request.Request.TheVariants as request
 use Rattle.requests.specs.declared.request.Verdict.{Verdict}
 use Rattle.requests.specs.declared.request.Verdict.TheVariants as verdict
 use Rattle.requests.proofs.RequestRoundTrip.{request_at-request_record}
-use Rattle.requests.proofs.SpellingLemmas.{number-read, records_after-text}
+use Rattle.records.proofs.SpellingLemmas.{number-read, records_after-text}
 
 verdict-read : (v : Verdict) → verdict_of (Some (verdict_text v)) ≡ Ok v
 verdict-read verdict.Commit = refl

@@ -1,19 +1,15 @@
 -- What a record of a file of batches says.
 use Rattle.std.specs.Prelude.{◌==◌, ℕ, List, length, codes, Option, Result, Ok, Err, if◌then◌else◌}
 use Rattle.csv.specs.Records.{field_at}
-use Rattle.requests.specs.Fields.{Fields, ◌>>=◌, is_text, number_at}
+use Rattle.records.specs.Fields.{Fields, ◌>>=◌, is_text, number_at, of_count}
 use Rattle.requests.specs.RequestRecords.{delivery_fields, has_lines, new_order_fields, order_status_fields, payment_fields, stock_level_fields}
-use Rattle.requests.specs.declared.fault.Slip.{Slip}
-use Rattle.requests.specs.declared.fault.Slip.TheVariants as slip
+use Rattle.records.specs.declared.fault.Slip.{Slip}
+use Rattle.records.specs.declared.fault.Slip.TheVariants as slip
 use Rattle.requests.specs.declared.batch_record.BatchHead.{BatchHead}
 use Rattle.requests.specs.declared.request.Request.{Request}
 use Rattle.requests.specs.declared.request.Request.TheVariants as request
 use Rattle.requests.specs.declared.request.Verdict.{Verdict}
 use Rattle.requests.specs.declared.request.Verdict.TheVariants as verdict
-
--- what a record says where it has so many fields
-abbrev pub of_count : {A : Type 0} → ℕ → Fields → Result A Slip → Result A Slip
-of_count count fields said = if length fields == count then said else Err slip.WrongCount
 
 -- what a new order's record says where it has 5 to 15 lines
 abbrev pub of_lines : {A : Type 0} → Fields → Result A Slip → Result A Slip

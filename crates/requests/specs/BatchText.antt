@@ -3,8 +3,8 @@ use Rattle.std.specs.Prelude.{◌≤◌, ◌∷◌, [], ℕ, List, All, length, 
 use Rattle.std.specs.List.{flat_map}
 use Rattle.tpcc_rows.specs.Limits.{IsBetween}
 use Rattle.tpcc_rows.specs.Texts.{IsText}
-use Rattle.requests.specs.Fields.{Fields}
-use Rattle.requests.specs.Spelling.{text_of_records}
+use Rattle.records.specs.Fields.{Fields}
+use Rattle.records.specs.Spelling.{text_of_records}
 use Rattle.requests.specs.declared.request.Batch.{Batch}
 use Rattle.requests.specs.declared.request.CustomerChoice.{CustomerChoice}
 use Rattle.requests.specs.declared.request.CustomerChoice.TheVariants as choice

@@ -1,15 +1,15 @@
 -- The batches that a text holds.
 use Rattle.std.specs.Prelude.{◌≡◌, ◌⊎◌, ◌==◌, ◌+◌, ◌∷◌, ◌++◌, [], ℕ, List, length, Result, Ok, Err, if◌then◌else◌}
 use Rattle.requests.specs.BatchRecords.{head_at, request_at}
-use Rattle.requests.specs.Fields.{Fields}
-use Rattle.requests.specs.Records.{records_in}
+use Rattle.records.specs.Fields.{Fields}
+use Rattle.records.specs.Records.{records_in}
 use Rattle.requests.specs.declared.batch_record.BatchHead.{BatchHead}
 use Rattle.requests.specs.declared.request.Batch.{Batch}
 use Rattle.requests.specs.declared.request.Request.{Request}
-use Rattle.requests.specs.declared.fault.Slip.{Slip}
-use Rattle.requests.specs.declared.fault.Slip.TheVariants as slip
-use Rattle.requests.specs.declared.fault.ReadError.{ReadError}
-use Rattle.requests.specs.declared.fault.ReadError.TheVariants as err
+use Rattle.records.specs.declared.fault.Slip.{Slip}
+use Rattle.records.specs.declared.fault.Slip.TheVariants as slip
+use Rattle.records.specs.declared.fault.ReadError.{ReadError}
+use Rattle.records.specs.declared.fault.ReadError.TheVariants as err
 
 -- how an input ends: where a batch would begin, or with a fault
 pub data End : Type 0 where

@@ -1,11 +1,5 @@
 pub mod Kinds
 pub mod Lines
-pub mod Faults
-pub mod Ends
-pub mod Fields
-pub mod Records
-pub mod Spelling
-pub mod Writer
 pub mod RequestRecords
 pub mod BatchRecords
 pub mod Batches

@@ -3,7 +3,7 @@ use Rattle.std.specs.Prelude.{◌+◌, ◌<◌, ◌^◌, ℕ, List, [], length}
 use Rattle.std.specs.Borrow.{Bor}
 use Rattle.csv.specs.declared.reader.Reader.{Reader}
 use Rattle.requests.specs.Batches.{Place, Reading, between, clean, fault, reading_from}
-use Rattle.requests.specs.Records.{IsGoing, records_left}
+use Rattle.records.specs.Records.{IsGoing, records_left}
 use Rattle.requests.specs.declared.batch_reader.Standing.{Standing}
 use Rattle.requests.specs.declared.batch_reader.Standing.TheVariants as standing
 use Rattle.requests.specs.declared.batch_reader.BatchReader.TheInside.{Inside}

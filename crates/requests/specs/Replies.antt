@@ -2,8 +2,8 @@
 use Rattle.std.specs.Prelude.{◌++◌, ◌∷◌, [], ℕ, List, Option, Some, None, codes, decimal, map}
 use Rattle.std.specs.Fmt.{signed_decimal}
 use Rattle.std.specs.List.{flat_map}
-use Rattle.requests.specs.Fields.{Fields}
-use Rattle.requests.specs.Spelling.{number_or_dash, text_of_record}
+use Rattle.records.specs.Fields.{Fields}
+use Rattle.records.specs.Spelling.{number_or_dash, text_of_record}
 use Rattle.requests.specs.declared.request.RequestKind.{RequestKind}
 use Rattle.requests.specs.declared.request.RequestKind.TheVariants as kind
 use Rattle.requests.specs.declared.reply.Brand.{Brand}

@@ -2,9 +2,9 @@
 use Rattle.std.specs.Prelude.{Bool, ◌==◌, ◌&&◌, ◌+◌, ◌-◌, ◌*◌, ◌/◌, ℕ, zero, suc, List, [], ◌∷◌, length, codes, Result, Ok, Err, if◌then◌else◌}
 use Rattle.csv.specs.Records.{field_at}
 use Rattle.tpcc_rows.specs.Limits.{is_between}
-use Rattle.requests.specs.Fields.{Fields, ◌>>=◌, is_text, number_at, text_at}
-use Rattle.requests.specs.declared.fault.Slip.{Slip}
-use Rattle.requests.specs.declared.fault.Slip.TheVariants as slip
+use Rattle.records.specs.Fields.{Fields, ◌>>=◌, is_text, number_at, text_at}
+use Rattle.records.specs.declared.fault.Slip.{Slip}
+use Rattle.records.specs.declared.fault.Slip.TheVariants as slip
 use Rattle.requests.specs.declared.request.CustomerChoice.{CustomerChoice}
 use Rattle.requests.specs.declared.request.CustomerChoice.TheVariants as choice
 use Rattle.requests.specs.declared.request.Delivery.{Delivery}

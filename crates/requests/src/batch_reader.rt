@@ -2,11 +2,11 @@
 ghost use Rattle.std.specs.Prelude.{◌≡◌, ◌+◌, ◌≤◌, ◌<◌, ◌^◌, [], length, IfOk, IfErr, IfSome, IfNone};
 ghost use Rattle.requests.specs.Batches.{StopsBy, batches, clean, fault, with_front};
 
-use crate::fault::ReadError;
 use crate::reading::read_batch;
-use crate::records::records_of;
 use crate::request::Batch;
 use csv::{ByteRecord, Reader};
+use records::fault::ReadError;
+use records::reading::records_of;
 use std::alloc::Global;
 use std::marker::Model;
 

@@ -1,13 +1,13 @@
 //! The record that begins a batch.
 ghost use Rattle.std.specs.Prelude.{◌≡◌, ◌≤◌, IfOk};
 ghost use Rattle.csv.specs.Records.{field_at, fields_of};
-ghost use Rattle.requests.specs.Fields.{number_at};
+ghost use Rattle.records.specs.Fields.{number_at};
 ghost use Rattle.requests.specs.BatchRecords.{head_at, head_fields, too_long, verdict_of};
 
-use crate::fault::Slip;
-use crate::fields::{has_text, moment, number_at};
 use crate::request::Verdict;
 use csv::ByteRecord;
+use records::fault::Slip;
+use records::fields::{has_text, moment, number_at};
 use tpcc_rows::number::Moment;
 
 /// The most requests of a batch.

@@ -2,16 +2,16 @@
 ghost use Rattle.std.specs.Prelude.{◌≡◌, ◌+◌, ◌<◌, ◌^◌, ◌++◌, ◌∷◌, [], List, length, IfOk, IfErr, IfSome, IfNone, OnSome, OnOk};
 ghost use Rattle.requests.specs.Batches.{StopsBy, between, clean, fault_of, settled, with_front, within};
 ghost use Rattle.requests.specs.Reader.{left_at};
-ghost use Rattle.requests.specs.Records.{IsGoing, records_left};
+ghost use Rattle.records.specs.Records.{IsGoing, records_left};
 ghost use Rattle.requests.specs.declared.batch_record.BatchHead.{BatchHead};
 ghost use Rattle.requests.specs.declared.request.Request.{Request};
 
 use crate::batch_record::{BatchHead, batch_head};
-use crate::fault::{ReadError, Slip};
-use crate::records::next_record;
 use crate::request::{Batch, Request, Requests};
 use crate::request_record::request;
 use csv::{ByteRecord, Reader};
+use records::fault::{ReadError, Slip};
+use records::reading::next_record;
 use std::alloc::Global;
 
 fn fault(number: u64, slip: Slip) -> ReadError

@@ -3,16 +3,16 @@ ghost use Rattle.std.specs.Prelude.{◌≡◌, ◌++◌, ◌∷◌, [], OnOk, On
 ghost use Rattle.std.specs.Fmt.{signed_decimal};
 ghost use Rattle.std.specs.List.{flat_map};
 ghost use Rattle.csv.specs.Records.{fields_of, partial_of};
-ghost use Rattle.requests.specs.Spelling.{AddsFields, number_or_dash};
+ghost use Rattle.records.specs.Spelling.{AddsFields, number_or_dash};
 ghost use Rattle.requests.specs.Replies.{brand_text, credit_fields, customer_fields, kind_text, last_order_fields, line_reply_fields, new_order_fields, order_status_fields, outcome_fields, payment_fields, refusal_code, refusal_fields, refusal_text, reply_fields, reply_text, shown_line_fields, shown_order_fields};
 
-use crate::record_text::{push, push_number, push_number_or_dash, push_signed, record_text};
 use crate::reply::{
     Brand, LineReply, NewOrderReply, OrderStatusReply, PaymentReply, Reply, RequestRefusal,
     ShownCredit, ShownLine, ShownOrder,
 };
 use crate::request::RequestKind;
 use csv::ByteRecord;
+use records::record_text::{push, push_number, push_number_or_dash, push_signed, record_text};
 use std::alloc::Global;
 use tpcc_rows::id::{OrderId, RequestNumber};
 use tpcc_rows::memory::Memory;

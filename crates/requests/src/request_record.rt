@@ -5,17 +5,15 @@ ghost use Rattle.tpcc_rows.specs.Limits.{IsBetween};
 ghost use Rattle.requests.specs.BatchRecords.{request_at};
 ghost use Rattle.requests.specs.RequestRecords.{choice_at, delivery_fields, has_lines, line_count, new_order_fields, order_status_fields, ordered_line_at, ordered_lines_at, payment_fields, stock_level_fields};
 
-use crate::fault::Slip;
-use crate::fields::{
-    carrier, customer, district, has_text, ordered_quantity, payment_amount, requested_item, text,
-    threshold, warehouse,
-};
 use crate::request::{
     CustomerChoice, Delivery, NewOrder, OrderStatus, OrderedLine, OrderedLines, Payment, Request,
     StockLevel,
 };
+use crate::request_fields::{ordered_quantity, payment_amount, requested_item, threshold};
 use arrayvec::ArrayVec;
 use csv::ByteRecord;
+use records::fault::Slip;
+use records::fields::{carrier, customer, district, has_text, text, warehouse};
 
 /// How many lines a new order's record has: three fields each, after the first four.
 fn line_count(fields: &ByteRecord) -> usize

@@ -1,8 +1,8 @@
 -- Fields that are added one after the other.
 use Rattle.std.proofs.Common.{◌∙◌, ◌++◌, OnOk, Result, Ok, Err, ap, append_assoc}
 use Rattle.csv.specs.Records.{Row, fields_of}
-use Rattle.requests.specs.Fields.{Fields}
-use Rattle.requests.specs.Spelling.{AddsFields}
+use Rattle.records.specs.Fields.{Fields}
+use Rattle.records.specs.Spelling.{AddsFields}
 
 pub adds_both : (a b c : Row) (xs ys : Fields) → AddsFields a b xs → AddsFields b c ys → AddsFields a c (xs ++ ys)
 adds_both a b c xs ys first second = (second.0 ∙ ap (λ (f : Fields). f ++ ys) first.0 ∙ append_assoc (fields_of a) xs ys, second.1)

@@ -9,15 +9,15 @@ use Rattle.executor.specs.Lines.{Line, committed, extended}
 use Rattle.executor.specs.declared.refusal.Refusal.TheVariants as refusal
 use Rattle.requests.specs.BatchRecords.{head_at, request_at}
 use Rattle.requests.specs.Batches.{End, Place, Reading, StopsBy, batches, begun, between, clean, continued, fault, fault_of, reading_from, settled, with_front, within}
-use Rattle.requests.specs.Fields.{Fields}
-use Rattle.requests.specs.Records.{records_in}
-use Rattle.requests.specs.declared.fault.ReadError.{ReadError}
-use Rattle.requests.specs.declared.fault.Slip.{Slip}
-use Rattle.requests.specs.declared.fault.Slip.TheVariants as slip
+use Rattle.records.specs.Fields.{Fields}
+use Rattle.records.specs.Records.{records_in}
+use Rattle.records.specs.declared.fault.ReadError.{ReadError}
+use Rattle.records.specs.declared.fault.Slip.{Slip}
+use Rattle.records.specs.declared.fault.Slip.TheVariants as slip
 use Rattle.requests.specs.declared.request.Request.{Request}
-use Rattle.requests.specs.Ends.{AppendsFront}
+use Rattle.records.specs.Io.{AppendsFront}
 use Rattle.requests.specs.declared.request.Batch.{Batch}
-use Rattle.requests.proofs.EndsLemmas.{appends_twice}
+use Rattle.records.proofs.IoLemmas.{appends_twice}
 use Rattle.runner.specs.Runs.{AreCompleted, Began, Completes, IsOfRecords, LeavesBatch, Left, Taken, TookFront}
 use Rattle.runner.specs.Text.{batch_text, text}
 use Rattle.runner.specs.declared.fault.RunFault.{RunFault}

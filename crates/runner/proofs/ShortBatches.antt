@@ -6,10 +6,10 @@ use Rattle.std.specs.Str.Parse.{digits_value}
 use Rattle.csv.specs.Records.{field_at}
 use Rattle.requests.specs.BatchRecords.{head_at, head_fields, request_at, too_long, verdict_of}
 use Rattle.requests.specs.Batches.{Place, Reading, batches, begun, between, continued, reading_from, settled, within}
-use Rattle.requests.specs.Fields.{Fields, ◌>>=◌, in_range, is_numeral, is_text, number_at, number_in, said_by}
-use Rattle.requests.specs.Records.{records_in}
-use Rattle.requests.specs.declared.fault.Slip.{Slip}
-use Rattle.requests.specs.declared.fault.Slip.TheVariants as slip
+use Rattle.records.specs.Fields.{Fields, ◌>>=◌, in_range, is_numeral, is_text, number_at, number_in, said_by}
+use Rattle.records.specs.Records.{records_in}
+use Rattle.records.specs.declared.fault.Slip.{Slip}
+use Rattle.records.specs.declared.fault.Slip.TheVariants as slip
 use Rattle.requests.specs.declared.request.Batch.{Batch}
 use Rattle.requests.specs.declared.request.Request.{Request}
 

@@ -2,7 +2,7 @@
 use Rattle.std.proofs.Common.{◌≡◌, ℕ, List, [], sym, append-nil, Option, Some, None, Result, Ok, Err, IfOk, IfErr, IfSome}
 use Rattle.std.specs.Io.KnownBytes.{Appends, Keeps}
 use Rattle.loader.specs.Image.{image}
-use Rattle.requests.specs.Ends.{AppendsFront}
+use Rattle.records.specs.Io.{AppendsFront}
 use Rattle.runner.proofs.RunLemmas.{then_kept}
 use Rattle.runner.specs.CheckTexts.{ChecksImage, LeavesCheck, opening_text}
 use Rattle.runner.specs.Runs.{Taken}

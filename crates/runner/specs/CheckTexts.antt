@@ -8,7 +8,7 @@ use Rattle.catalog.specs.declared.card.CardKey.{CardKey}
 use Rattle.catalog.specs.declared.card.CardKey.TheVariants as card_key
 use Rattle.executor.specs.declared.refusal.Refusal.TheVariants as refusal
 use Rattle.loader.specs.Image.{image}
-use Rattle.requests.specs.Ends.{AppendsFront}
+use Rattle.records.specs.Io.{AppendsFront}
 use Rattle.runner.specs.Runs.{Taken}
 use Rattle.runner.specs.Text.{token_digits}
 use Rattle.runner.specs.WholeRuns.{IsImageFault}

@@ -3,7 +3,7 @@ use Rattle.std.specs.Prelude.{ℕ, List, [], ◌∷◌, ◌++◌, codes, decimal
 use Rattle.executor.specs.Refusals.{refusal_code, refusal_name}
 use Rattle.loader.specs.Faults as image
 use Rattle.loader.specs.declared.fault.LoadError.TheVariants as load_error
-use Rattle.requests.specs.Faults as batches
+use Rattle.records.specs.Faults as batches
 use Rattle.runner.specs.declared.fault.RunFault.{RunFault}
 use Rattle.runner.specs.declared.fault.RunFault.TheVariants as run_fault
 

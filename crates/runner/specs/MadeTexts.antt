@@ -1,7 +1,7 @@
 -- What is left behind where the image of a made database isn't written whole.
 use Rattle.std.specs.Prelude.{ℕ, List}
 use Rattle.std.specs.Io.KnownBytes.{Keeps}
-use Rattle.requests.specs.Ends.{AppendsFront}
+use Rattle.records.specs.Io.{AppendsFront}
 use Rattle.runner.specs.Runs.{Taken}
 use Rattle.runner.specs.declared.fault.RunFault.{RunFault}
 use Rattle.runner.specs.declared.fault.RunFault.TheVariants as run_fault

@@ -5,9 +5,9 @@ use Rattle.catalog.specs.CardMap.{Cards}
 use Rattle.executor.specs.States.{IsSoundState}
 use Rattle.executor.specs.declared.refusal.Refusal.TheVariants as refusal
 use Rattle.requests.specs.Batches.{Reading, clean, fault}
-use Rattle.requests.specs.Ends.{AppendsFront}
-use Rattle.requests.specs.declared.fault.ReadError.{ReadError}
-use Rattle.requests.specs.declared.fault.ReadError.TheVariants as read_error
+use Rattle.records.specs.Io.{AppendsFront}
+use Rattle.records.specs.declared.fault.ReadError.{ReadError}
+use Rattle.records.specs.declared.fault.ReadError.TheVariants as read_error
 use Rattle.requests.specs.declared.request.Batch.{Batch}
 use Rattle.runner.specs.Text.{batch_text, text}
 use Rattle.runner.specs.declared.fault.RunFault.{RunFault}

@@ -5,9 +5,9 @@ use Rattle.catalog.specs.CardMap.{Cards}
 use Rattle.executor.specs.Paths.{path_of}
 use Rattle.executor.specs.declared.path.Path.{Path}
 use Rattle.executor.specs.declared.path.Path.TheVariants as path
-use Rattle.requests.specs.Fields.{Fields}
+use Rattle.records.specs.Fields.{Fields}
 use Rattle.requests.specs.Replies.{reply_text}
-use Rattle.requests.specs.Spelling.{text_of_record}
+use Rattle.records.specs.Spelling.{text_of_record}
 use Rattle.requests.specs.declared.reply.Reply.{Reply}
 use Rattle.requests.specs.declared.request.Batch.{Batch}
 use Rattle.tpcc_model.specs.Serial.{State, after_batch, batch_replies}

@@ -5,8 +5,8 @@ use Rattle.loader.specs.Image.{image}
 use Rattle.loader.specs.declared.fault.LoadError.{LoadError}
 use Rattle.loader.specs.declared.fault.LoadError.TheVariants as load_error
 use Rattle.requests.specs.Batches.{batches}
-use Rattle.requests.specs.declared.fault.ReadError.{ReadError}
-use Rattle.requests.specs.declared.fault.ReadError.TheVariants as read_error
+use Rattle.records.specs.declared.fault.ReadError.{ReadError}
+use Rattle.records.specs.declared.fault.ReadError.TheVariants as read_error
 use Rattle.runner.specs.Runs.{Left, Ran, Taken}
 use Rattle.runner.specs.declared.fault.RunFault.{RunFault}
 use Rattle.runner.specs.declared.fault.RunFault.TheVariants as run_fault

@@ -5,7 +5,7 @@ ghost use Rattle.runner.specs.FaultText.{code_of, condition_of, fault_text, name
 use executor::Refusal;
 use itoa::Buffer;
 use loader::LoadError;
-use requests::fault::ReadError;
+use records::fault::ReadError;
 use std::alloc::Global;
 use thiserror::Error;
 use tpcc_rows::memory::Memory;

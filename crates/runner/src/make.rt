@@ -9,8 +9,8 @@ ghost use Rattle.tpcc_rows.specs.Limits.{IsBetween};
 
 use crate::fault::RunFault;
 use loader::{make, store_image};
-use requests::ends::Sink;
-use requests::whole::push_all;
+use records::io::Sink;
+use records::slurp::push_all;
 use std::alloc::Global;
 use tpcc_rows::memory::Memory;
 

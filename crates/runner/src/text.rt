@@ -1,13 +1,13 @@
 //! The text of a batch: the records of its replies, and its own.
 ghost use Rattle.std.specs.Prelude.{◌≡◌, ◌++◌, ◌+◌, ◌≤◌, ◌∷◌, [], length, IfOk, OnOk};
 ghost use Rattle.csv.specs.Records.{partial_of};
-ghost use Rattle.requests.specs.Spelling.{AddsFields};
+ghost use Rattle.records.specs.Spelling.{AddsFields};
 ghost use Rattle.runner.specs.Text.{batch_record_fields, batch_record_text, path_word, replies_text, token_digits};
 
 use csv::ByteRecord;
 use executor::Record;
 use executor::path::Path;
-use requests::record_text::{push, push_number, record_text};
+use records::record_text::{push, push_number, record_text};
 use requests::reply::Reply;
 use requests::reply_text::write_reply;
 use std::alloc::Global;

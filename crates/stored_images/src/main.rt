@@ -5,9 +5,9 @@
 ghost use Rattle.tpcc_rows.specs.Limits.{IsBetween};
 
 use loader::{load, make, store_image};
-use requests::BytesSource;
-use requests::ends::Counting;
-use requests::whole::slurp;
+use records::BytesSource;
+use records::io::Counting;
+use records::slurp::slurp;
 use std::alloc::Global;
 use std::fs;
 use std::process::ExitCode;

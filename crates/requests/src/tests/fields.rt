@@ -1,8 +1,9 @@
 //! The values of fields: each is read where it is written right, and its fault is told where it isn't.
-use crate::record_text::{push, push_number_or_dash, push_signed, record_text};
-use crate::records::{next_record, records_of};
-use crate::{Slip, fields};
+use crate::{Slip, request_fields};
 use csv::ByteRecord;
+use records::fields;
+use records::reading::{next_record, records_of};
+use records::record_text::{push, push_number_or_dash, push_signed, record_text};
 use std::alloc::Global;
 use std::test::Fail;
 use tpcc_rows::memory::Memory;
@@ -50,8 +51,8 @@ fn values(rt: HostRuntime) -> Result<(), Fail> {
     assert!(rt; fields::request_number(&one, 0).is_ok());
     assert!(rt; fields::rate(&one, 0).is_ok());
     assert!(rt; fields::item(&one, 0).is_ok());
-    assert!(rt; fields::requested_item(&one, 0).is_ok());
-    assert!(rt; fields::ordered_quantity(&one, 0).is_ok());
+    assert!(rt; request_fields::requested_item(&one, 0).is_ok());
+    assert!(rt; request_fields::ordered_quantity(&one, 0).is_ok());
     assert!(rt; fields::order(&one, 0).is_ok());
     assert!(rt; fields::next_order(&one, 0).is_ok());
     assert!(rt; fields::line_number(&one, 0).is_ok());
@@ -59,7 +60,7 @@ fn values(rt: HostRuntime) -> Result<(), Fail> {
     assert!(rt; fields::amount(&one, 0).is_ok());
     assert!(rt; fields::price(&one, 0).is_ok());
     assert!(rt; fields::line_quantity(&one, 0).is_ok());
-    assert!(rt; fields::threshold(&of(rt.alloc(), "10")?, 0).is_ok());
+    assert!(rt; request_fields::threshold(&of(rt.alloc(), "10")?, 0).is_ok());
     assert!(rt; fields::stock_quantity(&of(rt.alloc(), "-9999")?, 0).is_ok());
     Ok(())
 }

@@ -1,5 +1,5 @@
 use Rattle.std.proofs.Common.{◌≡◌, ◌+◌, ◌<◌, ◌≤◌, ◌^◌, length}
-use Rattle.requests.specs.Records.{IsGoing, records_left}
+use Rattle.records.specs.Records.{IsGoing, records_left}
 use Rattle.loader.specs.Image.{read_from}
 use Rattle.loader.specs.Tables.{database_of}
 use Rattle.loader.proofs.reading.read_rest.Given as goal

@@ -1,5 +1,5 @@
 use Rattle.std.proofs.Common.{length, sym, ap, ◌∙◌, arith}
-use Rattle.requests.proofs.RecordLemmas.{length-records_in}
+use Rattle.records.proofs.RecordLemmas.{length-records_in}
 use Rattle.loader.proofs.reading.read_tables.Goals as goal
 
 pub read_rest-requires-clause-room : goal.read_rest-requires-clause-room

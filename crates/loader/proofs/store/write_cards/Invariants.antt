@@ -1,7 +1,7 @@
 use Rattle.std.proofs.Common.{◌≡◌, ◌+◌, ◌<◌, ◌^◌, ◌++◌, length, map}
 use Rattle.std.specs.FinMap as finmap
-use Rattle.requests.specs.Spelling.{text_of_records}
-use Rattle.requests.specs.Writer.{IsWriting, written}
+use Rattle.records.specs.Spelling.{text_of_records}
+use Rattle.records.specs.Writer.{IsWriting, written}
 use Rattle.loader.specs.StoredImage.{part_said}
 use Rattle.loader.specs.StoredRecords.{written_record}
 use Rattle.loader.proofs.store.write_cards.Given as goal

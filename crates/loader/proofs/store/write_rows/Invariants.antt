@@ -1,6 +1,6 @@
 use Rattle.std.proofs.Common.{◌≡◌, ◌+◌, ◌<◌, ◌^◌, ◌++◌, filter_map, length, map}
-use Rattle.requests.specs.Spelling.{text_of_records}
-use Rattle.requests.specs.Writer.{IsWriting, written}
+use Rattle.records.specs.Spelling.{text_of_records}
+use Rattle.records.specs.Writer.{IsWriting, written}
 use Rattle.loader.specs.StoredImage.{said_at}
 use Rattle.loader.specs.StoredRecords.{written_record}
 use Rattle.loader.proofs.store.write_rows.Given as goal

@@ -1,6 +1,6 @@
 use Rattle.std.proofs.Common.{◌≡◌, map, take}
 use Rattle.catalog.specs.StockCards.{district_info}
-use Rattle.requests.specs.Spelling.{AddsFields}
+use Rattle.records.specs.Spelling.{AddsFields}
 use Rattle.tpcc_rows.specs.Limits.{ten}
 use Rattle.loader.proofs.stored_record.push_district_infos.Given as goal
 

@@ -1,7 +1,7 @@
 use Rattle.std.proofs.Common.{◌≡◌, ◌+◌, ◌<◌, ◌^◌, length}
 use Rattle.requests.specs.Batches.{between, settled}
 use Rattle.requests.specs.Reader.{left_at}
-use Rattle.requests.specs.Records.{IsGoing, records_left}
+use Rattle.records.specs.Records.{IsGoing, records_left}
 use Rattle.requests.proofs.reading.read_batch.Given as goal
 
 abbrev pub invariant-loop : goal.invariant-loop

@@ -1,7 +1,7 @@
 use Rattle.std.proofs.Common.{take}
 use Rattle.std.specs.List.{flat_map}
 use Rattle.requests.specs.Replies.{line_reply_fields}
-use Rattle.requests.specs.Spelling.{AddsFields}
+use Rattle.records.specs.Spelling.{AddsFields}
 use Rattle.requests.proofs.reply_text.push_line_replies.Given as goal
 
 abbrev pub invariant-loop-line : goal.invariant-loop-line

@@ -1,5 +1,5 @@
 use Rattle.std.proofs.Common.{map, take}
-use Rattle.requests.specs.Spelling.{AddsFields, number_or_dash}
+use Rattle.records.specs.Spelling.{AddsFields, number_or_dash}
 use Rattle.requests.proofs.reply_text.push_orders.Given as goal
 
 abbrev pub invariant-loop-order : goal.invariant-loop-order

@@ -1,7 +1,7 @@
 use Rattle.std.proofs.Common.{rules, ◌≡◌, ◌∙◌, ap, subst}
 use Rattle.std.specs.Io.KnownBytes.{Appends}
 use Rattle.executor.specs.Lines.{Line}
-use Rattle.requests.specs.Ends.{AppendsFront}
+use Rattle.records.specs.Io.{AppendsFront}
 use Rattle.runner.specs.CheckTexts.{check_text, opening_text}
 use Rattle.loader.specs.Tables.{loaded}
 use Rattle.runner.proofs.WholeLemmas.{appends_front, checks_image, leaves_check}

@@ -1,6 +1,6 @@
 use Rattle.std.proofs.Common.{rules, ◌≡◌, ◌∙◌, arith, subst}
 use Rattle.std.specs.Io.KnownBytes.{Appends}
-use Rattle.requests.specs.Ends.{AppendsFront}
+use Rattle.records.specs.Io.{AppendsFront}
 use Rattle.runner.specs.Runs.{NumbersFit}
 use Rattle.runner.specs.Text.{batch_text}
 use Rattle.runner.proofs.ExecutedBatches.{admitted_fits, count_of_replies, recorded_text}

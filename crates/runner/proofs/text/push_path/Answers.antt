@@ -1,5 +1,5 @@
 use Rattle.std.proofs.Common.{rules, ℕ, List, [], ◌∷◌, ◌≡◌, OnOk, subst}
-use Rattle.requests.specs.Spelling.{AddsFields}
+use Rattle.records.specs.Spelling.{AddsFields}
 use Rattle.runner.specs.Text.{path_word}
 use Rattle.runner.proofs.text.push_path.Goals as goal
 

@@ -1,5 +1,5 @@
 use Rattle.std.proofs.Common.{ℕ, List, [], ◌∷◌, ◌∙◌, OnOk, subst}
-use Rattle.requests.specs.Spelling.{AddsFields}
+use Rattle.records.specs.Spelling.{AddsFields}
 use Rattle.runner.proofs.text.push_token.Goals as goal
 
 pub returns : goal.returns

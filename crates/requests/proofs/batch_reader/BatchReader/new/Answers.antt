@@ -1,6 +1,6 @@
 use Rattle.std.proofs.Common.{arith}
 use Rattle.requests.proofs.BatchLemmas.{length-batches}
-use Rattle.requests.proofs.RecordLemmas.{length-records_in}
+use Rattle.records.proofs.RecordLemmas.{length-records_in}
 use Rattle.requests.proofs.batch_reader.BatchReader.new.Goals as goal
 
 pub invariant_of-result : goal.invariant_of-result

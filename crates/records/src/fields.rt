@@ -1,0 +1,281 @@
+//! What the fields of a record say: numbers, money, texts, each within its limits.
+ghost use Rattle.std.specs.Prelude.{◌≡◌, ◌<◌, ◌≤◌, ◌^◌, IfOk};
+ghost use Rattle.std.specs.Char.{is_ascii_digit};
+ghost use Rattle.std.specs.List.{list_all};
+ghost use Rattle.csv.specs.Records.{field_at, fields_of};
+ghost use Rattle.records.specs.Fields.{IsWithin, below_zero, is_numeral, is_text, number_at, number_in, number_or_null_at, signed_at, signed_in, text_at};
+
+use crate::fault::Slip;
+use csv::ByteRecord;
+use tpcc_rows::id::{
+    CustomerId, DistrictId, ItemId, LineNumber, OrderId, RequestNumber, WarehouseId,
+};
+use tpcc_rows::number::{
+    Amount, Carrier, Cents, Count, LineQuantity, Moment, Price, Rate, StockQuantity,
+};
+use tpcc_rows::text::Text;
+
+fn all_digits(field: &[u8]) -> bool
+    ensures { result ≡ list_all is_ascii_digit field.now }
+{
+    field.iter().all(|byte| byte.is_ascii_digit())
+}
+
+/// Whether these bytes are a number: `0`, or digits of which the first isn't `0`.
+fn is_numeral(field: &[u8]) -> bool
+    ensures { result ≡ is_numeral field.now }
+{
+    match field {
+        [] => false,
+        [b'0', rest @ ..] => rest.is_empty(),
+        _ => all_digits(field),
+    }
+}
+
+/// The number that a field says, from `low` to `high`.
+pub fn number(field: &[u8], low: u64, high: u64) -> Result<u64, Slip>
+    requires { high < 2 ^ 60 }
+    ensures value { result ≡ number_in low high field.now }
+    ensures range { IfOk result (λ n. (low ≤ n) × (n ≤ high)) }
+{
+    if !is_numeral(field) {
+        return Err(Slip::BadField);
+    }
+    let mut number: u64 = 0;
+    for byte in field {
+        number = 10 * number + u64::from(*byte - b'0');
+        if number > high {
+            return Err(Slip::OutOfRange);
+        }
+    }
+    if number < low {
+        return Err(Slip::OutOfRange);
+    }
+    Ok(number)
+}
+
+/// The number at this place of a record, from `low` to `high`.
+pub fn number_at(fields: &ByteRecord, i: usize, low: u64, high: u64) -> Result<u64, Slip>
+    requires { high < 2 ^ 60 }
+    ensures value { result ≡ number_at (fields_of fields.now) i low high }
+    ensures range { IfOk result (λ n. (low ≤ n) × (n ≤ high)) }
+{
+    match fields.get(i) {
+        Some(field) => number(field, low, high),
+        None => Err(Slip::WrongCount),
+    }
+}
+
+/// A number below zero, from what comes after its sign.
+fn number_below_zero(digits: &[u8], most: u64) -> Result<i64, Slip>
+    requires { most < 2 ^ 60 }
+    ensures value { result ≡ below_zero most digits.now }
+    ensures range { IfOk result (IsWithin most) }
+{
+    if digits == b"0".as_slice() {
+        return Err(Slip::BadField);
+    }
+    let number = number(digits, 0, most)?;
+    Ok(0 - number as i64)
+}
+
+/// The number that a field says, from `-most` to `most`.
+pub fn signed(field: &[u8], most: u64) -> Result<i64, Slip>
+    requires { most < 2 ^ 60 }
+    ensures value { result ≡ signed_in most field.now }
+    ensures range { IfOk result (IsWithin most) }
+{
+    match field {
+        [] => Err(Slip::BadField),
+        [b'-', digits @ ..] => number_below_zero(digits, most),
+        _ => Ok(number(field, 0, most)? as i64),
+    }
+}
+
+/// The number at this place of a record, from `-most` to `most`.
+pub fn signed_at(fields: &ByteRecord, i: usize, most: u64) -> Result<i64, Slip>
+    requires { most < 2 ^ 60 }
+    ensures value { result ≡ signed_at (fields_of fields.now) i most }
+    ensures range { IfOk result (IsWithin most) }
+{
+    match fields.get(i) {
+        Some(field) => signed(field, most),
+        None => Err(Slip::WrongCount),
+    }
+}
+
+/// Whether a record has this text at this place.
+pub fn has_text(fields: &ByteRecord, i: usize, text: &[u8]) -> bool
+    ensures { result ≡ is_text text.now (field_at (fields_of fields.now) i) }
+{
+    match fields.get(i) {
+        Some(field) => field == text,
+        None => false,
+    }
+}
+
+/// The text at this place of a record.
+pub fn text<const N: usize>(fields: &ByteRecord, i: usize) -> Result<Text<N>, Slip>
+    ensures { result ≡ text_at (fields_of fields.now) i N }
+{
+    match fields.get(i) {
+        Some(field) => Text::parse(field).ok_or(Slip::BadField),
+        None => Err(Slip::WrongCount),
+    }
+}
+
+/// W_ID.
+pub fn warehouse(fields: &ByteRecord, i: usize) -> Result<WarehouseId, Slip>
+    ensures { result ≡ number_at (fields_of fields.now) i 1 100 }
+{
+    let number = number_at(fields, i, 1, 100)? as u8;
+    WarehouseId::new(number).ok_or(Slip::OutOfRange)
+}
+
+/// D_ID.
+pub fn district(fields: &ByteRecord, i: usize) -> Result<DistrictId, Slip>
+    ensures { result ≡ number_at (fields_of fields.now) i 1 10 }
+{
+    let number = number_at(fields, i, 1, 10)? as u8;
+    DistrictId::new(number).ok_or(Slip::OutOfRange)
+}
+
+/// C_ID.
+pub fn customer(fields: &ByteRecord, i: usize) -> Result<CustomerId, Slip>
+    ensures { result ≡ number_at (fields_of fields.now) i 1 3000 }
+{
+    let number = number_at(fields, i, 1, 3_000)? as u16;
+    CustomerId::new(number).ok_or(Slip::OutOfRange)
+}
+
+/// A request's number.
+pub fn request_number(fields: &ByteRecord, i: usize) -> Result<RequestNumber, Slip>
+    ensures { result ≡ number_at (fields_of fields.now) i 1 999999999999999 }
+{
+    let number = number_at(fields, i, 1, 999_999_999_999_999)?;
+    RequestNumber::new(number).ok_or(Slip::OutOfRange)
+}
+
+/// A moment, in seconds.
+pub fn moment(fields: &ByteRecord, i: usize) -> Result<Moment, Slip>
+    ensures { result ≡ number_at (fields_of fields.now) i 0 999999999999 }
+{
+    let seconds = number_at(fields, i, 0, 999_999_999_999)?;
+    Moment::new(seconds).ok_or(Slip::OutOfRange)
+}
+
+/// W_TAX, D_TAX or C_DISCOUNT.
+pub fn rate(fields: &ByteRecord, i: usize) -> Result<Rate, Slip>
+    ensures { result ≡ number_at (fields_of fields.now) i 0 9999 }
+{
+    let value = number_at(fields, i, 0, 9_999)? as u16;
+    Rate::new(value).ok_or(Slip::OutOfRange)
+}
+
+/// W_YTD, D_YTD, C_BALANCE or C_YTD_PAYMENT.
+pub fn cents(fields: &ByteRecord, i: usize) -> Result<Cents, Slip>
+    ensures { result ≡ signed_at (fields_of fields.now) i 1000000000000000 }
+{
+    let amount = signed_at(fields, i, 1_000_000_000_000_000)?;
+    Cents::new(amount).ok_or(Slip::OutOfRange)
+}
+
+/// S_QUANTITY.
+pub fn stock_quantity(fields: &ByteRecord, i: usize) -> Result<StockQuantity, Slip>
+    ensures { result ≡ signed_at (fields_of fields.now) i 9999 }
+{
+    let value = signed_at(fields, i, 9_999)? as i16;
+    StockQuantity::new(value).ok_or(Slip::OutOfRange)
+}
+
+/// I_ID, of an item of a database.
+pub fn item(fields: &ByteRecord, i: usize) -> Result<ItemId, Slip>
+    ensures { result ≡ number_at (fields_of fields.now) i 1 100000 }
+{
+    let number = number_at(fields, i, 1, 100_000)? as u32;
+    ItemId::new(number).ok_or(Slip::OutOfRange)
+}
+
+/// O_ID.
+pub fn order(fields: &ByteRecord, i: usize) -> Result<OrderId, Slip>
+    ensures { result ≡ number_at (fields_of fields.now) i 1 9999998 }
+{
+    let number = number_at(fields, i, 1, 9_999_998)? as u32;
+    OrderId::new(number).ok_or(Slip::OutOfRange)
+}
+
+/// D_NEXT_O_ID.
+pub fn next_order(fields: &ByteRecord, i: usize) -> Result<OrderId, Slip>
+    ensures { result ≡ number_at (fields_of fields.now) i 1 9999999 }
+{
+    let number = number_at(fields, i, 1, 9_999_999)? as u32;
+    OrderId::new(number).ok_or(Slip::OutOfRange)
+}
+
+/// OL_NUMBER or O_OL_CNT.
+pub fn line_number(fields: &ByteRecord, i: usize) -> Result<LineNumber, Slip>
+    ensures { result ≡ number_at (fields_of fields.now) i 1 15 }
+{
+    let number = number_at(fields, i, 1, 15)? as u8;
+    LineNumber::new(number).ok_or(Slip::OutOfRange)
+}
+
+/// C_PAYMENT_CNT, C_DELIVERY_CNT, S_YTD, S_ORDER_CNT or S_REMOTE_CNT.
+pub fn count(fields: &ByteRecord, i: usize) -> Result<Count, Slip>
+    ensures { result ≡ number_at (fields_of fields.now) i 0 1000000000 }
+{
+    let value = number_at(fields, i, 0, 1_000_000_000)? as u32;
+    Count::new(value).ok_or(Slip::OutOfRange)
+}
+
+/// OL_AMOUNT or H_AMOUNT.
+pub fn amount(fields: &ByteRecord, i: usize) -> Result<Amount, Slip>
+    ensures { result ≡ number_at (fields_of fields.now) i 0 999999 }
+{
+    let cents = number_at(fields, i, 0, 999_999)? as u32;
+    Amount::new(cents).ok_or(Slip::OutOfRange)
+}
+
+/// I_PRICE.
+pub fn price(fields: &ByteRecord, i: usize) -> Result<Price, Slip>
+    ensures { result ≡ number_at (fields_of fields.now) i 0 99999 }
+{
+    let cents = number_at(fields, i, 0, 99_999)? as u32;
+    Price::new(cents).ok_or(Slip::OutOfRange)
+}
+
+/// OL_QUANTITY.
+pub fn line_quantity(fields: &ByteRecord, i: usize) -> Result<LineQuantity, Slip>
+    ensures { result ≡ number_at (fields_of fields.now) i 0 99 }
+{
+    let value = number_at(fields, i, 0, 99)? as u8;
+    LineQuantity::new(value).ok_or(Slip::OutOfRange)
+}
+
+/// O_CARRIER_ID where it isn't null.
+pub fn carrier(fields: &ByteRecord, i: usize) -> Result<Carrier, Slip>
+    ensures { result ≡ number_at (fields_of fields.now) i 1 10 }
+{
+    let number = number_at(fields, i, 1, 10)? as u8;
+    Carrier::new(number).ok_or(Slip::OutOfRange)
+}
+
+/// O_CARRIER_ID; a dash is null.
+pub fn carrier_or_null(fields: &ByteRecord, i: usize) -> Result<Option<Carrier>, Slip>
+    ensures { result ≡ number_or_null_at (fields_of fields.now) i 1 10 }
+{
+    if has_text(fields, i, b"-") {
+        return Ok(None);
+    }
+    Ok(Some(carrier(fields, i)?))
+}
+
+/// OL_DELIVERY_D; a dash is null.
+pub fn moment_or_null(fields: &ByteRecord, i: usize) -> Result<Option<Moment>, Slip>
+    ensures { result ≡ number_or_null_at (fields_of fields.now) i 0 999999999999 }
+{
+    if has_text(fields, i, b"-") {
+        return Ok(None);
+    }
+    Ok(Some(moment(fields, i)?))
+}

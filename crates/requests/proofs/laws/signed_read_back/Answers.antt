@@ -1,5 +1,0 @@
-use Rattle.requests.proofs.SpellingLemmas.{signed_in-decimal}
-use Rattle.requests.proofs.laws.signed_read_back.Goals as goal
-
-pub returns : goal.returns
-returns c = signed_in-decimal

@@ -1,0 +1,42 @@
+//! What the fields say that only a request has.
+ghost use Rattle.std.specs.Prelude.{◌≡◌};
+ghost use Rattle.csv.specs.Records.{fields_of};
+ghost use Rattle.records.specs.Fields.{number_at};
+
+use crate::number::{OrderedQuantity, PaymentAmount, Threshold};
+use csv::ByteRecord;
+use records::fault::Slip;
+use records::fields::number_at;
+use tpcc_rows::id::ItemId;
+
+/// I_ID, of an item that a new order names: the database may have none of this number.
+pub fn requested_item(fields: &ByteRecord, i: usize) -> Result<ItemId, Slip>
+    ensures { result ≡ number_at (fields_of fields.now) i 1 999999 }
+{
+    let number = number_at(fields, i, 1, 999_999)? as u32;
+    ItemId::new(number).ok_or(Slip::OutOfRange)
+}
+
+/// How many of an item a new order takes.
+pub fn ordered_quantity(fields: &ByteRecord, i: usize) -> Result<OrderedQuantity, Slip>
+    ensures { result ≡ number_at (fields_of fields.now) i 1 10 }
+{
+    let value = number_at(fields, i, 1, 10)? as u8;
+    OrderedQuantity::new(value).ok_or(Slip::OutOfRange)
+}
+
+/// What a payment pays.
+pub fn payment_amount(fields: &ByteRecord, i: usize) -> Result<PaymentAmount, Slip>
+    ensures { result ≡ number_at (fields_of fields.now) i 100 500000 }
+{
+    let cents = number_at(fields, i, 100, 500_000)? as u32;
+    PaymentAmount::new(cents).ok_or(Slip::OutOfRange)
+}
+
+/// Below how many of an item a stock is low.
+pub fn threshold(fields: &ByteRecord, i: usize) -> Result<Threshold, Slip>
+    ensures { result ≡ number_at (fields_of fields.now) i 10 20 }
+{
+    let value = number_at(fields, i, 10, 20)? as u8;
+    Threshold::new(value).ok_or(Slip::OutOfRange)
+}
