@@ -1,5 +1,4 @@
--- Words with no fault name a subcommand of the program, with a value for each of its arguments that
--- has to be given.
+-- Words with no fault name a subcommand of the program, with a value for each of its arguments.
 use Rattle.std.proofs.Common.{[], ◌≡◌, ◌⊎◌, codes, drop, false, inl, inr, List, None, Option, option_map, refl, Some, subst, sym}
 use Rattle.std.specs.Prelude.{IfSome, is_some, IsSomeAnd}
 use Rattle.std.specs.List.{find}
@@ -40,17 +39,17 @@ built_in app = built_leaf (inherited (with_leaf_noted (marked_built program_app.
 run_met : (words : List Text) → level_fault (built_in run_app) [] nothing_held words false [] ≡ [] → IsMet run_app (rows_at (built_in run_app) words)
 run_met words none =
     let given = level-has_values (built_in run_app) words refl none in
-    (refl, (given.0, (given.1.0, (given.1.1.0, tt))))
+    (refl, (given.0 refl, (given.1.0 refl, (given.1.1.0 refl, tt))))
 
 check_met : (words : List Text) → level_fault (built_in check_app) [] nothing_held words false [] ≡ [] → IsMet check_app (rows_at (built_in check_app) words)
 check_met words none =
     let given = level-has_values (built_in check_app) words refl none in
-    (refl, (given.0, tt))
+    (refl, (given.0 refl, tt))
 
 make_met : (words : List Text) → level_fault (built_in make_app) [] nothing_held words false [] ≡ [] → IsMet make_app (rows_at (built_in make_app) words)
 make_met words none =
     let given = level-has_values (built_in make_app) words refl none in
-    (refl, (given.0, (given.1.0, (given.1.1.0, tt))))
+    (refl, (given.0 refl, (given.1.0 refl, (given.1.1.0 refl, tt))))
 
 entered-complete : (name : Text) (words : List Text) → IsOwn name → entered_fault program (Some (name, words)) ≡ [] → IsSomeAnd (entered program (Some (name, words))) IsComplete
 entered-complete name words is none =

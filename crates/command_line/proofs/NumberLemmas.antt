@@ -1,30 +1,15 @@
 -- The number that a typed getter reads of an argument whose parser takes the numbers of a range.
-use Rattle.std.proofs.Common.{◌≡◌, ◌∙◌, ◌<◌, ◌^◌, ◌∷◌, [], ℕ, ap, arith, Bool, false, find, IfSome, IsSome, List, None, Option, option_and_then, option_map, refl, Result, slice_get, Some, subst, sym, true}
+use Rattle.std.proofs.Common.{◌≡◌, ◌∙◌, ◌<◌, ◌^◌, ◌∷◌, [], ℕ, ap, arith, Bool, false, IsSome, None, Option, refl, Result, Some, subst, sym, true}
 use Rattle.std.specs.Prelude.{◌==◌, is_some, IsSomeAnd, pos, unwrap_or}
-use Rattle.std.specs.Str.{bytes_eq}
 use Rattle.std.specs.Int.{IsInRange}
 use Rattle.std.specs.Str.Parse.{ExplainsUnsignedError, HasUnsignedDigitsIfOk, ParsesUnsigned}
 use Rattle.std.specs.declared.num.ParseIntError.{ParseIntError}
 use Rattle.std.proofs.lemmas.Int.{ints}
 use Rattle.clap.specs.Matches.{ReadsOne}
-use Rattle.clap.specs.Walk.{row_text}
-use Rattle.clap.specs.Words.{first_of, IsSignedIn, one_of, one_text, read_as, Row, rows_of, Text, without_minus}
-use Rattle.clap.specs.declared.builder.value_parser.Reading.{Reading}
+use Rattle.clap.specs.Words.{first_of, IsSignedIn, one_of, one_text, rows_of, Text, without_minus}
 use Rattle.clap.specs.declared.parser.matches.Found.{Found}
 use Rattle.clap.proofs.WalkLemmas.{one_text-rows}
-use Rattle.command_line.specs.CommandLine.{HasNumber, HasOptionalNumber, HasValue, HasValueIf, number_rule, Spells}
-
--- where no text was found for an argument, the typed getter reads none
-one_of-missing : (id : Text) (rows : List Row) → first_of id rows ≡ None → one_of id rows ≡ None
-one_of-missing id rows none = go (find (λ r. bytes_eq r.id id) rows) none
-  where
-    no_text : (how : Reading) (values : List Text) → slice_get values 0 ≡ None → option_map (read_as how) (slice_get values 0) ≡ None
-    no_text how [] none = refl
-    no_text how (first ∷ more) none = cc
-
-    go : (o : Option Row) → option_and_then (λ r. slice_get r.values 0) o ≡ None → option_and_then row_text o ≡ None
-    go None none = refl
-    go (Some row) none = no_text row.reading row.values none
+use Rattle.command_line.specs.CommandLine.{HasNumber, HasValue, number_rule, Spells}
 
 module _ (bits least most : ℕ) (positive : 0 < least) (fits : most < 2 ^ bits) where
   -- what the text gives at the unsigned type of this width
@@ -76,16 +61,3 @@ module _ (bits least most : ℕ) (positive : 0 < least) (fits : most < 2 ^ bits)
     number_is n is =
         let same : read.0 ≡ n = ap (λ o. unwrap_or o 0) (sym read.1 ∙ is) in
         subst (λ m. HasNumber (rows_of found) id m × IsInRange least most m) same (read.2, read.3)
-
-  -- an argument that may be left out gives the number that it spells, within the range, or none
-  pub optional_number_is : (found : Found) (id : Text) (r : Option ℕ) → HasValueIf false (rows_of found) (number_rule id least most)
-      → (one_text found id ≡ None → r ≡ None) → ((text : Text) → one_text found id ≡ Some text → ReadsOne Gives text r)
-      → HasOptionalNumber (rows_of found) id r × IfSome r (IsInRange least most)
-  optional_number_is found id r has missing value = go (first_of id (rows_of found)) refl
-    where
-      go : (o : Option Text) → first_of id (rows_of found) ≡ o → HasOptionalNumber (rows_of found) id r × IfSome r (IsInRange least most)
-      go None is = rw (missing (one_text-rows found id ∙ one_of-missing id (rows_of found) is)) (is, tt)
-      go (Some text) is =
-          let given : HasValue (rows_of found) (number_rule id least most) = rw is (rw is at has) in
-          let of_text = read found id r given value in
-          rw of_text.1 (of_text.2, of_text.3)

@@ -23,7 +23,7 @@ use Rattle.clap.specs.declared.parser.matches.ValueSource.{ValueSource}
 use Rattle.clap.proofs.SimpleLemmas.{is_false}
 use Rattle.clap.proofs.ValueTestLemmas.{accepts-Accepts}
 use Rattle.clap.proofs.WalkLemmas.{both}
-use Rattle.command_line.specs.CommandLine.{HasValue, HasValueIf, IsValueOf}
+use Rattle.command_line.specs.CommandLine.{HasValue, IsValueOf}
 
 -- ---- one use of an argument
 
@@ -99,17 +99,6 @@ find-All test P [] all = tt
 find-All test P (x ∷ xs) all =
     let rest = find-All test P xs all.1 in
     elim (test x) as (λ here. IfSome (cond here (Some x) (find test xs)) P) [ true ↦ all.0 | false ↦ rest ]
-
-IfSome-IsSomeAnd : {X : Type 0} (o : Option X) (P : X → Type 0) → IsSomeAnd o P → IfSome o P
-IfSome-IsSomeAnd None P has = tt
-IfSome-IsSomeAnd (Some x) P has = has
-
--- an argument with no row has no value
-first_of-missing : (id : Text) (rows : List Row) → has_row id rows ≡ false → first_of id rows ≡ None
-first_of-missing id [] none = refl
-first_of-missing id (row ∷ rows) none =
-    let apart = or-false (bytes_eq row.id id) _ none in
-    rw apart.0 (first_of-missing id rows apart.1)
 
 module _ (s : Shape) (ready : AllByRecursion (IsReady s.rules) s.rules) where
   abbrev IsReadyIfSome : Option Rule → Type 0
@@ -396,13 +385,6 @@ module _ (s : Shape) (ready : AllByRecursion (IsReady s.rules) s.rules) where
         | false ↦ λ is found. rest found
       ] refl has
 
-  -- where an argument has a value, it is one that the argument accepts
-  HasValueIf-rows : (rule : Rule) (rows : List Row) → arg_by_id s.rules rule.id ≡ Some rule → EachIsFilled rows → HasValueIf false rows rule
-  HasValueIf-rows rule rows named each = elim (has_row rule.id rows) as (λ has. has_row rule.id rows ≡ has → HasValueIf false rows rule) [
-    | true ↦ λ is. IfSome-IsSomeAnd (first_of rule.id rows) _ (HasValue-has_row rule rows named each is)
-    | false ↦ λ is. rw (first_of-missing rule.id rows is) tt
-  ] refl
-
 -- ---- which arguments have a row
 
 or-true : (a b c : Bool) → (b ≡ true → c ≡ true) → (a || b) ≡ true → (a || c) ≡ true
@@ -488,10 +470,9 @@ not_required : (negates missing : Bool) → (not (negates && false) && missing) 
 not_required true missing none = none
 not_required false missing none = none
 
--- where a level has no fault, each argument that has to be given or has a default has a value, and
--- the value of any other is one that it accepts
+-- where a level has no fault, each argument that has to be given or has a default has a value
 pub level-has_values : (s : Shape) (words : List Text) → are_ready s.rules ≡ true → level_fault s [] nothing_held words false [] ≡ []
-    → AllByRecursion (λ rule. HasValueIf (is_answered rule) (rows_after s.rules [] words) rule) s.rules
+    → AllByRecursion (λ rule. is_answered rule ≡ true → HasValue (rows_after s.rules [] words) rule) s.rules
 level-has_values s words are none =
     let ready = each_ready s.rules are in
     let walked_well = or_else-first (walk_fault s [] (walk_from nothing_held) words) _ none in
@@ -512,13 +493,10 @@ level-has_values s words are none =
     has_values : (rules : List Rule) → AllByRecursion (IsReady s.rules) rules → EachIsFilled s (each_ready s.rules are) (rows_after s.rules [] words)
         → AllByRecursion (λ rule. rule.required ≡ true → has_row rule.id (rows_after s.rules [] words) ≡ true) rules
         → AllByRecursion (λ rule. is_empty rule.defaults ≡ false → has_row rule.id (rows_after s.rules [] words) ≡ true) rules
-        → AllByRecursion (λ rule. HasValueIf (is_answered rule) (rows_after s.rules [] words) rule) rules
+        → AllByRecursion (λ rule. is_answered rule ≡ true → HasValue (rows_after s.rules [] words) rule) rules
     has_values [] ready each by_words by_default = tt
     has_values (rule ∷ rules) ready each by_words by_default = (
-      elim (is_answered rule) as (λ wanted. is_answered rule ≡ wanted → HasValueIf wanted (rows_after s.rules [] words) rule) [
-        | true ↦ λ is. HasValue-has_row s (each_ready s.rules are) rule _ ready.0.1 each
-            (answered rule.required (is_empty rule.defaults) (has_row rule.id (rows_after s.rules [] words)) by_words.0 by_default.0 is)
-        | false ↦ λ is. HasValueIf-rows s (each_ready s.rules are) rule _ ready.0.1 each
-      ] refl,
+      λ is. HasValue-has_row s (each_ready s.rules are) rule _ ready.0.1 each
+          (answered rule.required (is_empty rule.defaults) (has_row rule.id (rows_after s.rules [] words)) by_words.0 by_default.0 is),
       has_values rules ready.1 each by_words.1 by_default.1,
     )

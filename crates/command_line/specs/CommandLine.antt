@@ -1,6 +1,6 @@
 -- The words that the program takes, and the line that they are.
-use Rattle.std.specs.Prelude.{◌≡◌, ◌⊎◌, ℕ, ⊤, Bool, IfSome, IsSomeAnd, List, None, Option, Some}
-use Rattle.std.specs.Prelude.{String, codes, false, pos, string_bytes, true}
+use Rattle.std.specs.Prelude.{[], ◌∷◌, ◌≡◌, ◌⊎◌, ℕ, ⊤, IsSomeAnd, List, Some, String, codes, false, pos}
+use Rattle.std.specs.Prelude.{string_bytes, true}
 use Rattle.std.specs.Int.{IsInRange}
 use Rattle.std.specs.List.{AllByRecursion}
 use Rattle.std.specs.Str.Parse.{IsNumeral, digits_value, without_leading_plus}
@@ -50,12 +50,13 @@ customers_rule = number_rule (codes "C") 1 3000
 abbrev pub items_rule : Rule
 items_rule = number_rule (codes "I") 1 100000
 
--- the option `--workers N`, which may be left out
+-- the option `--workers N`, which is 1 where it is left out
 abbrev pub workers_rule : Rule
 workers_rule = record (new_rule (codes "workers")) {
   long = Some (codes "workers");
   value_names = 1;
   parser = Some (Signed (pos 1) (pos 64));
+  defaults = codes "1" ∷ [];
 }
 
 -- run IMAGE BATCHES [--workers N]
@@ -110,11 +111,6 @@ Spells text number =
 abbrev pub HasNumber : List Row → Text → ℕ → Type 0
 HasNumber rows id number = IsSomeAnd (first_of id rows) (λ text. Spells text number)
 
--- the number that the argument with this id spells, and none where it has no value
-abbrev pub HasOptionalNumber : List Row → Text → Option ℕ → Type 0
-HasOptionalNumber rows id None = first_of id rows ≡ None
-HasOptionalNumber rows id (Some number) = HasNumber rows id number
-
 -- the text is one that the argument accepts
 abbrev pub IsValueOf : Rule → Text → Type 0
 IsValueOf rule text = Accepts rule.ignore_case (parser_of_value rule.parser) text
@@ -128,18 +124,11 @@ IsReadFrom rows rule text =
 abbrev pub HasValue : List Row → Rule → Type 0
 HasValue rows rule = IsSomeAnd (first_of rule.id rows) (IsReadFrom rows rule)
 
--- the same where the argument has to be given; else such a text or none was found
-abbrev pub HasValueIf : Bool → List Row → Rule → Type 0
-HasValueIf true rows rule = HasValue rows rule
-HasValueIf false rows rule = IfSome (first_of rule.id rows) (IsReadFrom rows rule)
-
--- this subcommand was met, with a value for each of its arguments that has to be given
+-- this subcommand was met, with a value for each of its arguments
 abbrev pub IsMet : App → Text × List Row → Type 0
-IsMet app met = (met.0 ≡ app.top.name)
-    × AllByRecursion (λ rule. HasValueIf rule.required met.1 rule) app.top.rules
+IsMet app met = (met.0 ≡ app.top.name) × AllByRecursion (HasValue met.1) app.top.rules
 
--- the subcommand that was met is one of the program's, with a value for each of its arguments that
--- has to be given
+-- the subcommand that was met is one of the program's, with a value for each of its arguments
 abbrev pub IsComplete : Text × List Row → Type 0
 IsComplete met = IsMet run_app met ⊎ IsMet check_app met ⊎ IsMet make_app met
 
@@ -148,7 +137,7 @@ abbrev pub IsLineOf : Line → Text × List Row → Type 0
 IsLineOf (Run image batches workers) met =
     (met.0 ≡ codes "run") × HasText met.1 (codes "IMAGE") image
     × HasText met.1 (codes "BATCHES") batches
-    × HasOptionalNumber met.1 (codes "workers") workers
+    × HasNumber met.1 (codes "workers") workers
 IsLineOf (Check image) met = (met.0 ≡ codes "check") × HasText met.1 (codes "IMAGE") image
 IsLineOf (Make warehouses customers items) met =
     (met.0 ≡ codes "make") × HasNumber met.1 (codes "W") warehouses
@@ -156,7 +145,7 @@ IsLineOf (Make warehouses customers items) met =
 
 -- the numbers of the line are within their bounds
 abbrev pub IsWithinBounds : Line → Type 0
-IsWithinBounds (Run image batches workers) = IfSome workers (IsInRange 1 64)
+IsWithinBounds (Run image batches workers) = IsInRange 1 64 workers
 IsWithinBounds (Check image) = ⊤
 IsWithinBounds (Make warehouses customers items) =
     IsInRange 1 100 warehouses × IsInRange 1 3000 customers × IsInRange 1 100000 items

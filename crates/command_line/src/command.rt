@@ -31,7 +31,8 @@ fn workers<'a>(alloc: Global) -> Arg<'a>
         .long("workers")
         .value_name("N")
         .value_parser(value_parser!(u8).range(1..=64))
-        .help("The number of workers, 1 to 64; without it, one request after the other")
+        .default_value("1")
+        .help("The number of workers, 1 to 64")
 }
 
 fn warehouses<'a>(alloc: Global) -> Arg<'a>

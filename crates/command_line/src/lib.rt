@@ -5,7 +5,5 @@
 mod command;
 mod line;
 mod matches;
-#[cfg(test)]
-mod tests;
 
 pub use line::{Line, LineFault, line_of, line_status};

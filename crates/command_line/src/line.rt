@@ -9,6 +9,7 @@ use crate::matches::{line_in, matches_of};
 use clap::Error;
 use clap::error::ErrorKind;
 use std::alloc::{AllocError, Global};
+use tickets::Workers;
 
 /// What the program is asked to do.
 #[derive(Debug, Drop)]
@@ -19,8 +20,8 @@ pub enum Line {
         image: String,
         /// The path of the batches.
         batches: String,
-        /// The number of workers, where it was given.
-        workers: Option<u8>,
+        /// The number of workers: 1 where it isn't given.
+        workers: Workers,
     },
     /// To check the image of a database.
     Check {

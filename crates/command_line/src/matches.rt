@@ -1,15 +1,17 @@
 //! The matches of the words, and the line that they say.
 ghost use Rattle.std.specs.Prelude.{◌≡◌, [], IfErr, IfOk, IsSome, IsSomeAnd, OnOk, codes, map};
 ghost use Rattle.std.specs.Prelude.{string_bytes};
+ghost use Rattle.std.specs.Int.{IsInRange};
 ghost use Rattle.clap.specs.Words.{fault_of, first_of, subcommand_of, subcommand_rows_of};
-ghost use Rattle.command_line.specs.CommandLine.{HasText, IsComplete, IsFaultOf, IsLineOf, IsMet};
+ghost use Rattle.command_line.specs.CommandLine.{HasNumber, HasText, HasValue, IsComplete, IsFaultOf, IsLineOf, IsMet};
 ghost use Rattle.command_line.specs.CommandLine.{IsWithinBounds, check_app, make_app, program_app};
-ghost use Rattle.command_line.specs.CommandLine.{rows_in, run_app};
+ghost use Rattle.command_line.specs.CommandLine.{rows_in, run_app, workers_rule};
 
 use crate::command::program;
 use crate::line::{Line, LineFault};
 use clap::ArgMatches;
 use std::alloc::{AllocError, Global};
+use tickets::Workers;
 
 /// What `clap` finds in the words.
 pub fn matches_of<'a>(alloc: Global, words: &'a [String]) -> Result<ArgMatches<'a>, LineFault>
@@ -31,6 +33,15 @@ fn text_of(alloc: Global, matches: &ArgMatches, id: &str) -> Result<String, Allo
     String::from_str(alloc, matches.get_str(id).unwrap())
 }
 
+fn workers_in(matches: &ArgMatches) -> Workers
+    requires { HasValue (rows_in matches.now) workers_rule }
+    ensures number { HasNumber (rows_in matches.now) (codes "workers") result }
+    ensures bounds { IsInRange 1 64 result }
+{
+    let count: u8 = matches.get_one("workers").unwrap();
+    Workers::new(usize::from(count)).unwrap()
+}
+
 fn run_in(alloc: Global, matches: &ArgMatches) -> Result<Line, AllocError>
     requires { IsMet run_app (codes "run", rows_in matches.now) }
     ensures line { IfOk result (λ line. IsLineOf line (codes "run", rows_in matches.now)) }
@@ -38,7 +49,7 @@ fn run_in(alloc: Global, matches: &ArgMatches) -> Result<Line, AllocError>
 {
     let image = text_of(alloc, matches, "IMAGE")?;
     let batches = text_of(alloc, matches, "BATCHES")?;
-    let workers = matches.get_one("workers");
+    let workers = workers_in(matches);
     Ok(Line::Run {
         image,
         batches,
