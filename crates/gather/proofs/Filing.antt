@@ -3,7 +3,7 @@ use Rattle.std.proofs.Common.{◌≡◌, ℕ, zero, suc, ◌+◌, ◌-◌, ◌<�
 use Rattle.std.specs.List.{slice_get}
 use Rattle.std.proofs.lemmas.Option.{slice_get_read}
 use Rattle.requests.specs.declared.reply.Reply.{Reply}
-use Rattle.gather.specs.Books.{Book, Expects, HasFiled}
+use Rattle.gather.specs.Books.{Awaits, Book, Expects, HasFiled}
 
 found : (book : Book) (number place : ℕ) (entry : Option Reply) → place < length book.replies → number ≡ book.first + place → entry ≡ get_or book.replies place entry → slice_get book.replies (number - book.first) ≡ Some entry
 found book number place entry below is there =
@@ -20,6 +20,13 @@ has_filed book number place (Some reply) below is there filled = (expects book n
 pub not_filed : (book : Book) (number place : ℕ) (entry : Option Reply) → place < length book.replies → number ≡ book.first + place → entry ≡ get_or book.replies place entry → is_some entry ≡ false → HasFiled book number → ⊥
 not_filed book number place None below is there empty (expected, reply, filed) = let no : Some None ≡ Some (Some reply) = sym (found book number place None below is there) ∙ filed in cc
 not_filed book number place (Some reply) below is there empty filed = cc
+
+pub awaits : (book : Book) (number place : ℕ) (entry : Option Reply) → place < length book.replies → number ≡ book.first + place → entry ≡ get_or book.replies place entry → is_some entry ≡ false → Awaits book number
+awaits book number place None below is there empty = (expects book number place below is, found book number place None below is there)
+awaits book number place (Some reply) below is there empty = cc
+
+pub not_awaited : (book : Book) (number : ℕ) → HasFiled book number → Awaits book number → ⊥
+not_awaited book number (expected, reply, filed) (here, empty) = let no : Some (Some reply) ≡ Some None = sym filed ∙ empty in cc
 
 some_of : (replies : List Reply) (k : ℕ) → k < length (map Some replies) → get_or (map Some replies) k None ≡ None → ⊥
 some_of [] k low none = omega (arith, low)

@@ -24,6 +24,10 @@ Expects book number = (book.first ≤ number) × (number < book.first + length b
 abbrev pub HasFiled : Book → ℕ → Type 0
 HasFiled book number = Expects book number × (reply : Reply) × (slice_get book.replies (number - book.first) ≡ Some (Some reply))
 
+-- the number is expected, and no reply is filed under it
+abbrev pub Awaits : Book → ℕ → Type 0
+Awaits book number = Expects book number × (slice_get book.replies (number - book.first) ≡ Some None)
+
 -- the book with the reply under the number
 abbrev pub with_reply : Book → ℕ → Reply → Book
 with_reply book number reply = record { first = book.first; replies = slice_set book.replies (number - book.first) (Some reply) }

@@ -1,6 +1,6 @@
 //! Replies that come in any order, brought into the order of their requests.
-ghost use Rattle.std.specs.Prelude.{◌≡◌, ◌+◌, ◌<◌, ◌↔◌, map, length, Contains, Err, None, Some, IsErr, IfNone, IfOk, IfSome, OnErr, OnOk};
-ghost use Rattle.gather.specs.Books.{Expects, HasFiled, blank, with_reply};
+ghost use Rattle.std.specs.Prelude.{◌≡◌, ◌+◌, ◌<◌, ◌↔◌, map, length, Contains, Err, None, Some, IsErr, IsOk, IfNone, IfOk, IfSome, OnErr, OnOk};
+ghost use Rattle.gather.specs.Books.{Awaits, Expects, HasFiled, blank, with_reply};
 ghost use Rattle.gather.specs.declared.reply_book.FileError.TheVariants as file_error;
 
 use requests::Reply;
@@ -78,6 +78,7 @@ impl ReplyBook {
 
     /// Files the reply to the request with this number.
     pub fn file(&mut self, number: RequestNumber, reply: Reply) -> Result<(), FileError>
+        ensures ok { IsOk result ↔ Awaits self.old number }
         ensures filed { OnOk result (self.new ≡ with_reply self.old number reply) }
         ensures stranger { (result ≡ Err file_error.Stranger) ↔ (Expects self.old number → ⊥) }
         ensures twice { (result ≡ Err file_error.Twice) ↔ HasFiled self.old number }

@@ -9,11 +9,12 @@ use mathlib.Core.List.{reverse-cons}
 use lib.ListN.{get_elem?}
 use Rattle.atomic_table.specs.Table.{State, Final, Seen}
 use Rattle.tickets.specs.declared.entry.Entry.{Entry}
+use Rattle.tickets.specs.declared.event.Event.{Event}
 use Rattle.tickets.specs.declared.size.Size.{Size}
 use Rattle.tickets.specs.World.{Worker, World, opening, after}
 use Rattle.tickets.specs.Once.{times, once_below}
 use Rattle.tickets.specs.Entries.{has_stopped}
-use Rattle.tickets.specs.Rule.{flag, IsEntryOf, FollowsRule, Shows}
+use Rattle.tickets.specs.Rule.{ActedIn, Begins, flag, IsEntryOf, FollowsRule, Shows}
 use Rattle.tickets.proofs.Lists.{Some-injective, get-below, get_there, get_read, get_from_All, All-from_get, sum-set, sum-at, get_back}
 use Rattle.tickets.proofs.Sound.{IsSound, events_sound, after_alike, workers_after}
 use Rattle.tickets.proofs.Steps.{known_at, past_of, saw_of, Rule}
@@ -88,6 +89,7 @@ kept_by_one size id v ws xs final len =
           (reseated (after (opening size.places size.workers) kept.events) kept.entries s.words s.views (v ∷ []) kept.shows
           (λ h. let c = sum_by-cons (λ (u : List Entry). sum_by h u) v [] in let r = sum-reverse h v in let t = only s.views id (reverse v) at whole h in omega arith)
           (known_in s kept at));
+      moments = kept.moments;
     }
   where
     known_in : (s : State ℕ (List Entry)) (kept : Rule size s) → get_elem? s.views id ≡ some (reverse v) → (j : ℕ) (u : List Entry) (i : ℕ) (e : Entry) → get_elem? (v ∷ []) j ≡ some u → slice_get u i ≡ Some e
@@ -266,3 +268,10 @@ module _ {A : Type 0} (f : A → Entry) (size : Size) (a b : ℕ) (seats : List 
       let same : t ≡ s = sym (get_read seats k t s at) ∙ is in
       Any-from_list_any (λ (x : A). is_some (f x).raised) seats
       (any-seats (λ e. is_some e.raised) seats ∙ saw_raised size (a ∷ b ∷ []) (map f seats) kept k (f t) (at_seat seats k t at) (ap (λ x. (f x).saw) same ∙ saw))
+
+  pub line_by_seats : (events : List Event) × All (λ s. Begins (f s).history events) seats
+  line_by_seats = (
+    kept.events,
+    All-from_get (λ s. Begins (f s).history kept.events) seats (λ i s at.
+        (get_from_All (ActedIn size kept.events) kept.entries kept.moments (f s).worker (f s) (known size (a ∷ b ∷ []) (map f seats) kept i (f s) (at_seat seats i s at))).begins),
+  )

@@ -313,7 +313,7 @@ same_sum p [] h = refl
 same_sum p (x ∷ xs) h = let e = ap (times p) (h 0 x refl) in
     omega (arith, sum_by-cons (λ (a : Worker). times p a.finished) x xs, sum_by-cons (λ (a : Worker). times p a.drawn) x xs, same_sum p xs (λ k a e. h (suc k) a e))
 
-some_raised : (w : World) → IsRaised w.workers → SomeRaised w
+pub some_raised : (w : World) → IsRaised w.workers → SomeRaised w
 some_raised w (k, a, p, at, is) = Any-from_get (λ (x : Worker). IsSome x.raised) w.workers k a at (ap is_some is)
 
 all_through : (w : World) → IsSound w → (a : Worker) → slice_get w.workers 0 ≡ Some a → ((k : ℕ) (x : Worker) → slice_get w.workers k ≡ Some x → IsThrough x) → AllFinished w ⊎ SomeRaised w

@@ -1,7 +1,8 @@
 -- Each step of a seat keeps the rule.
-use Rattle.std.proofs.Common.{◌≡◌, ◌≢◌, ⊎_elim, ℕ, zero, suc, ◌+◌, ◌%◌, ◌^◌, ◌<◌, ◌≤◌, Bool, true, false, cond, ltb, ◌==◌, ◌||◌, if◌then◌else◌, List, [], ◌∷◌, ◌++◌, length, set, get_or, Option, Some, None, is_some, slice_get, sum_by, count_by, bit_or, All, refl, sym, ap, ◌∙◌, subst, arith, ltb-true, ltb-false, lt-ltb, le-ltb, true≢false, mod-eq_of_lt, eq-eqb, length-set}
+use Rattle.std.proofs.Common.{◌≡◌, ◌≢◌, ⊎_elim, ℕ, zero, suc, ◌+◌, ◌%◌, ◌^◌, ◌<◌, ◌≤◌, Bool, true, false, cond, ltb, ◌==◌, ◌||◌, if◌then◌else◌, List, [], ◌∷◌, ◌++◌, length, set, get_or, Option, Some, None, is_some, slice_get, sum_by, count_by, bit_or, All, refl, sym, ap, ◌∙◌, subst, arith, ltb-true, ltb-false, lt-ltb, le-ltb, true≢false, mod-eq_of_lt, eq-eqb, length-set, append_assoc, append-nil}
 use Rattle.std.specs.List.{last_or}
 use Rattle.std.specs.Option.{option_map_or}
+use Rattle.std.proofs.lemmas.Bool.Decides.{nat_tests}
 use Rattle.std.proofs.lemmas.List.Elements.{All-cons, All-nil}
 use Rattle.std.proofs.lemmas.List.Sums.{sum_by-cons, count_by-le-length}
 use mathlib.Core.Option.{some}
@@ -9,15 +10,17 @@ use lib.ListN.{get_elem?}
 use lib.Seq.{set-set}
 use Rattle.atomic_table.specs.Table.{State, Step, keeps, Allows}
 use Rattle.atomic_table.proofs.Lists.{at_set, set_again}
+use Rattle.tickets.specs.declared.event.Event.{Event}
 use Rattle.tickets.specs.declared.event.Event.TheVariants.{Draw, Finish, Raise, Look}
 use Rattle.tickets.specs.declared.entry.Entry.{Entry}
 use Rattle.tickets.specs.declared.size.Size.{Size}
 use Rattle.tickets.specs.World.{Worker, World, opening, after, step, taking, finishing, raising, stopping, with_worker, past_next, halted, draw_by, finish_by, raise_by, look_by, act_by}
-use Rattle.tickets.specs.Entries.{last_drawn, has_stopped, with_place, with_end, with_draw, with_raise, with_look}
-use Rattle.tickets.specs.Rule.{flag, IsEntryOf, IsEntryIn, Shows, FollowsRule, Drew, Raised, Looked}
-use Rattle.tickets.proofs.Lists.{Some-injective, get_to, get_back, get-set, get-set_same, get-set_other, sum-set, All-from_get, get_from_All}
+use Rattle.tickets.specs.Once.{times, once_below, SomeRaised}
+use Rattle.tickets.specs.Entries.{acted, last_drawn, has_stopped, with_place, with_end, with_draw, with_raise, with_look}
+use Rattle.tickets.specs.Rule.{flag, ActedIn, Begins, IsAlone, IsEntryOf, IsEntryIn, IsShown, Shows, FollowsRule, Drew, DrawTells, Raised, RaiseTells, Looked, LookTells, last_world}
+use Rattle.tickets.proofs.Lists.{Some-injective, get_to, get_back, get-set, get-set_same, get-set_other, sum-set, sum-two, times-push, All-from_get, get_from_All}
 use Rattle.tickets.proofs.Numbered.{IsNumbered, apart}
-use Rattle.tickets.proofs.Sound.{IsSound, becoming, events_sound, after-append, after_alike, workers_after, drawn_most}
+use Rattle.tickets.proofs.Sound.{IsSound, becoming, events_sound, after-append, after_alike, workers_after, drawn_most, some_raised}
 
 abbrev pub Rule : Size → State ℕ (List Entry) → Type 0
 Rule size s = FollowsRule size s.words s.views
@@ -35,6 +38,54 @@ module _ {w : World} {es : List Entry} {words : List ℕ} {views : List (List En
 
   pub saw_of : (k : ℕ) (e : Entry) → slice_get es k ≡ Some e → e.saw ≡ true → w.halt ≡ true
   saw_of k e at = get_from_All (λ (x : Entry). x.saw ≡ true → w.halt ≡ true) es s.saw_halt k e at
+
+-- ---- the moment of each worker's last event
+begins_on : (first events more : List Event) → Begins first events → Begins first (events ++ more)
+begins_on first events more (later, is) = (later ++ more, sym (append_assoc first later more) ∙ ap (λ (l : List Event). l ++ more) is)
+
+-- where events follow, of which the last is that of one worker
+moves_on : (size : Size) (events more : List Event) (es : List Entry) (k : ℕ) (f : Entry) → All (ActedIn size events) es → f.workers ≡ size.workers → f.history ≡ events ++ more → All (ActedIn size (events ++ more)) (set es k f)
+moves_on size events more es k f old level last = All-from_get (ActedIn size (events ++ more)) (set es k f) (λ j x at. ⊎_elim
+    (λ (t : (j ≡ k) × (f ≡ x)). subst (ActedIn size (events ++ more)) t.1 record { workers = level; begins = ([], append-nil f.history ∙ last) })
+    (λ (t : (j ≢ k) × (slice_get es j ≡ Some x)).
+    let was = get_from_All (ActedIn size events) es old j x t.1 in
+    record { workers = was.workers; begins = begins_on x.history events more was.begins })
+    (get-set es k j f x at))
+
+once_most : (n p : ℕ) → once_below n p ≤ 1
+once_most n p = grind (arith, nat_tests)
+
+-- the entry of a seat that acted last of all
+module _ (size : Size) (words : List ℕ) (views : List (List Entry)) (seat : ℕ) (f : Entry) (kept : FollowsRule size words views) (seated : get_elem? views seat ≡ some (f ∷ [])) (last : f.history ≡ kept.events) where
+  abbrev now : World
+  now = after (opening size.places size.workers) kept.events
+
+  at_f : slice_get kept.entries f.worker ≡ Some f
+  at_f = known_at kept.shows seat (f ∷ []) 0 f seated refl
+
+  abbrev mine : (a : Worker) × (slice_get now.workers f.worker ≡ Some a) × IsEntryOf now.places f.worker a f
+  mine = kept.shows.each f.worker f at_f
+
+  is_now : last_world f ≡ now
+  is_now =
+      let places : f.places ≡ size.places = mine.2.level ∙ (after_alike (opening size.places size.workers) kept.events).0 in
+      let workers : f.workers ≡ size.workers = (get_from_All (ActedIn size kept.events) kept.entries kept.moments f.worker f at_f).workers in
+      λ i. after (opening (places i) (workers i)) (last i)
+
+  shown_now : IsShown f
+  shown_now = record { worker = mine.0; there = ap (λ (w : World). slice_get w.workers f.worker) is_now ∙ mine.1; entry = subst (λ (p : ℕ). IsEntryOf p f.worker mine.0 f) (sym mine.2.level) mine.2 }
+
+  alone_now : (p : ℕ) → 0 < times p f.drawn → IsAlone p f
+  alone_now p has_drawn k other at ne =
+      let there : slice_get now.workers k ≡ Some other = ap (λ (w : World). slice_get w.workers k) (sym is_now) ∙ at in
+      let two = sum-two (λ (a : Worker). times p a.drawn) now.workers k f.worker other mine.0 ne there mine.1 in
+      let here = ap (times p) mine.2.drawn in
+      let once = (events_sound size.places size.workers kept.events).once p in
+      let most = once_most now.next p in
+      omega arith
+
+  raised_now : now.halt ≡ true → SomeRaised (last_world f)
+  raised_now halt = subst SomeRaised (sym is_now) (some_raised now ((events_sound size.places size.workers kept.events).halted halt))
 
 -- ---- one worker changes, and the seat that has its entry
 numbered : (w : World) (es : List Entry) (words : List ℕ) (views : List (List Entry)) → Shows w es words views → IsNumbered 0 es
@@ -145,6 +196,10 @@ or_id : (a : Bool) → (a || false) ≡ a
 or_id true = refl
 or_id false = refl
 
+-- an entry is its worker's whatever its history is
+aged : (history : List Event) {places k : ℕ} {a : Worker} {e : Entry} → IsEntryOf places k a e → IsEntryOf places k a (acted history e)
+aged history s = record { number = s.number; level = s.level; drawn = s.drawn; raised = s.raised; stopped = s.stopped; hand = s.hand }
+
 -- the entry after a draw is that of its worker
 drawn_entry : (t : Bool) (places k next n : ℕ) (a : Worker) (e : Entry) → IsEntryOf places k a e → has_stopped e ≡ false → (t ≡ true → n ≡ next) → IsEntryOf places k (worker_if t next (let_go a)) (entry_if t n e)
 drawn_entry true places k next n a e s going here =
@@ -202,6 +257,10 @@ module _ (size : Size) (small : size.places + size.workers + 1 < 2 ^ 64) (s : St
   halt_is : halt_word ≡ flag world.halt
   halt_is = ap (λ (l : List ℕ). get_or l 1 0) kept.shows.words_are
 
+  -- the view of the seat as it is written
+  rests : (f : Entry) → get_elem? (set s.views id (f ∷ [])) id ≡ some (f ∷ [])
+  rests f = get_to (set s.views id (f ∷ [])) id (f ∷ []) (get-set_same s.views id (e ∷ []) (f ∷ []) (get_back s.views id (e ∷ []) seated))
+
   ticket_small : ticket + 1 < 2 ^ 64
   ticket_small =
       let b = sound.bound in
@@ -217,6 +276,9 @@ module _ (size : Size) (small : size.places + size.workers + 1 < 2 ^ 64) (s : St
 
   found : (a : Worker) × (slice_get world.workers e.worker ≡ Some a) × IsEntryOf world.places e.worker a e
   found = kept.shows.each e.worker e at_e
+
+  moment : ActedIn size kept.events e
+  moment = get_from_All (ActedIn size kept.events) kept.entries kept.moments e.worker e at_e
 
   here : world.next < world.places → ticket ≡ world.next
   here more =
@@ -240,18 +302,24 @@ module _ (size : Size) (small : size.places + size.workers + 1 < 2 ^ 64) (s : St
   mine_past : has_stopped e ≡ false → ◌≡◌ {A = ℕ} (cond e.past 1 0) 0
   mine_past going = ap (λ (b : Bool). cond b 1 0) (or_false e.past (is_some e.raised || e.saw) going).0
 
+  abbrev drawing : List Event
+  drawing = Finish e.worker ∷ Draw e.worker ∷ []
+
+  abbrev drawn_if : Bool → Entry
+  drawn_if t = acted (kept.events ++ drawing) (entry_if t ticket e)
+
   words_drawn : (t : Bool) → left world ≡ t → has_stopped e ≡ false
-      → set s.words 0 ((ticket + 1) % 2 ^ 64) ≡ (next_if t world.next + count_by (λ (x : Entry). x.past) (set kept.entries e.worker (entry_if t ticket e))) ∷ flag world.halt ∷ []
+      → set s.words 0 ((ticket + 1) % 2 ^ 64) ≡ (next_if t world.next + count_by (λ (x : Entry). x.past) (set kept.entries e.worker (drawn_if t))) ∷ flag world.halt ∷ []
   words_drawn t q going =
       let g = mod-eq_of_lt ticket_small in
       let w = ticket_is in
       let c = grows t in
-      let more : ticket + 1 ≡ next_if t world.next + count_by (λ (x : Entry). x.past) (set kept.entries e.worker (entry_if t ticket e)) = omega arith in
+      let more : ticket + 1 ≡ next_if t world.next + count_by (λ (x : Entry). x.past) (set kept.entries e.worker (drawn_if t)) = omega arith in
       ap (λ (l : List ℕ). set l 0 ((ticket + 1) % 2 ^ 64)) kept.shows.words_are ∙ ap (λ (x : ℕ). x ∷ flag world.halt ∷ []) (g ∙ more)
     where
-      grows : (t : Bool) → next_if t world.next + count_by (λ (x : Entry). x.past) (set kept.entries e.worker (entry_if t ticket e)) ≡ (world.next + count_by (λ (x : Entry). x.past) kept.entries) + 1
-      grows true = let z = mine_past going in omega (arith, sum-set (λ (x : Entry). cond x.past 1 0) kept.entries e.worker e (with_place ticket e) at_e)
-      grows false = let z = mine_past going in omega (arith, sum-set (λ (x : Entry). cond x.past 1 0) kept.entries e.worker e (with_end e) at_e)
+      grows : (t : Bool) → next_if t world.next + count_by (λ (x : Entry). x.past) (set kept.entries e.worker (drawn_if t)) ≡ (world.next + count_by (λ (x : Entry). x.past) kept.entries) + 1
+      grows true = let z = mine_past going in omega (arith, sum-set (λ (x : Entry). cond x.past 1 0) kept.entries e.worker e (drawn_if true) at_e)
+      grows false = let z = mine_past going in omega (arith, sum-set (λ (x : Entry). cond x.past 1 0) kept.entries e.worker e (drawn_if false) at_e)
 
   past_at : (t : Bool) → left world ≡ t → has_stopped e ≡ false → (entry_if t ticket e).past ≡ true → next_if t world.next ≡ world.places
   past_at true q going h = absurd (true≢false (sym h ∙ (or_false e.past (is_some e.raised || e.saw) going).0))
@@ -265,22 +333,30 @@ module _ (size : Size) (small : size.places + size.workers + 1 < 2 ^ 64) (s : St
   saw_at true h = saw_of kept.shows e.worker e at_e h
   saw_at false h = saw_of kept.shows e.worker e at_e h
 
-  draw_kept : has_stopped e ≡ false → FollowsRule size (set s.words 0 ((ticket + 1) % 2 ^ 64)) (set s.views id (with_draw ticket e ∷ []))
+  level_if : (t : Bool) → (entry_if t ticket e).workers ≡ size.workers
+  level_if true = moment.workers
+  level_if false = moment.workers
+
+  draw_kept : has_stopped e ≡ false → (later : FollowsRule size (set s.words 0 ((ticket + 1) % 2 ^ 64)) (set s.views id (acted (kept.events ++ drawing) (with_draw ticket e) ∷ []))) × (later.events ≡ kept.events ++ drawing)
   unfolding after
   draw_kept going = go (left world) refl
     where
-      leads : after (opening size.places size.workers) (kept.events ++ Finish e.worker ∷ Draw e.worker ∷ []) ≡ becoming world (next_if (left world) world.next) world.halt e.worker (worker_if (left world) world.next (let_go found.0))
-      leads = after-append (opening size.places size.workers) kept.events (Finish e.worker ∷ Draw e.worker ∷ []) ∙ turn world e.worker found.0 found.1 (sym found.2.stopped ∙ going)
+      leads : after (opening size.places size.workers) (kept.events ++ drawing) ≡ becoming world (next_if (left world) world.next) world.halt e.worker (worker_if (left world) world.next (let_go found.0))
+      leads = after-append (opening size.places size.workers) kept.events drawing ∙ turn world e.worker found.0 found.1 (sym found.2.stopped ∙ going)
 
-      go : (t : Bool) → left world ≡ t → FollowsRule size (set s.words 0 ((ticket + 1) % 2 ^ 64)) (set s.views id (with_draw ticket e ∷ []))
-      go t q = record {
-        events = kept.events ++ Finish e.worker ∷ Draw e.worker ∷ [];
-        entries = set kept.entries e.worker (entry_if t ticket e);
-        shows = subst (λ (p : World × Entry). Shows p.0 (set kept.entries e.worker (entry_if t ticket e)) (set s.words 0 ((ticket + 1) % 2 ^ 64)) (set s.views id (p.1 ∷ [])))
-            (λ i. (sym (leads ∙ ap (λ (b : Bool). becoming world (next_if b world.next) world.halt e.worker (worker_if b world.next (let_go found.0))) q) i, sym (draws_as t (same_test t q)) i))
-            (changes world kept.entries (next_if t world.next) world.halt e.worker found.0 (worker_if t world.next (let_go found.0)) e (entry_if t ticket e) s.words (set s.words 0 ((ticket + 1) % 2 ^ 64)) s.views id kept.shows found.1 at_e seated refl
-            (drawn_entry t world.places e.worker world.next ticket found.0 e found.2 going (λ is. here (ltb-true world.next world.places (q ∙ is)))) (past_at t q going) (last_at t q) (saw_at t) (λ h. h) (words_drawn t q going));
-      }
+      go : (t : Bool) → left world ≡ t → (later : FollowsRule size (set s.words 0 ((ticket + 1) % 2 ^ 64)) (set s.views id (acted (kept.events ++ drawing) (with_draw ticket e) ∷ []))) × (later.events ≡ kept.events ++ drawing)
+      go t q = (
+        record {
+          events = kept.events ++ drawing;
+          entries = set kept.entries e.worker (drawn_if t);
+          shows = subst (λ (p : World × Entry). Shows p.0 (set kept.entries e.worker (drawn_if t)) (set s.words 0 ((ticket + 1) % 2 ^ 64)) (set s.views id (acted (kept.events ++ drawing) p.1 ∷ [])))
+              (λ i. (sym (leads ∙ ap (λ (b : Bool). becoming world (next_if b world.next) world.halt e.worker (worker_if b world.next (let_go found.0))) q) i, sym (draws_as t (same_test t q)) i))
+              (changes world kept.entries (next_if t world.next) world.halt e.worker found.0 (worker_if t world.next (let_go found.0)) e (drawn_if t) s.words (set s.words 0 ((ticket + 1) % 2 ^ 64)) s.views id kept.shows found.1 at_e seated refl
+              (aged (kept.events ++ drawing) (drawn_entry t world.places e.worker world.next ticket found.0 e found.2 going (λ is. here (ltb-true world.next world.places (q ∙ is))))) (past_at t q going) (last_at t q) (saw_at t) (λ h. h) (words_drawn t q going));
+          moments = moves_on size kept.events drawing kept.entries e.worker (drawn_if t) kept.moments (level_if t) refl;
+        },
+        refl,
+      )
         where
           draws_as : (t : Bool) → ltb ticket e.places ≡ t → with_draw ticket e ≡ entry_if t ticket e
           draws_as true is = ap (λ (b : Bool). if b then with_place ticket e else with_end e) is
@@ -292,19 +368,48 @@ module _ (size : Size) (small : size.places + size.workers + 1 < 2 ^ 64) (s : St
   many : length e.drawn ≤ ticket
   many = let m = drawn_most _ _ _ found.0 (sound.each e.worker found.0 found.1) in let d = ap length found.2.drawn in let w = ticket_is in omega arith
 
-  draw_tells : All (λ p. p < ticket) e.drawn × (length e.drawn ≤ ticket)
-  draw_tells = (All-from_get (λ p. p < ticket) e.drawn above, many)
+  draw_tells : has_stopped e ≡ false → DrawTells (kept.events ++ drawing) ticket e
+  draw_tells going =
+      let f = acted (kept.events ++ drawing) (with_draw ticket e) in
+      let later = draw_kept going in
+      let words = set s.words 0 ((ticket + 1) % 2 ^ 64) in
+      let views = set s.views id (f ∷ []) in
+      record {
+        line = begins_on e.history kept.events drawing moment.begins;
+        shown = shown_now size words views id f later.0 (rests f) (sym later.1);
+        above = All-from_get (λ p. p < ticket) e.drawn above;
+        count = many;
+        alone = λ lt. alone_now size words views id f later.0 (rests f) (sym later.1) ticket (mine_too lt);
+      }
+    where
+      mine_too : ticket < e.places → 0 < times ticket (with_draw ticket e).drawn
+      mine_too lt =
+          let took : (with_draw ticket e).drawn ≡ e.drawn ++ ticket ∷ [] = ap (λ (b : Bool). (if b then with_place ticket e else with_end e).drawn) (lt-ltb ticket e.places lt) in
+          let t = ap (times ticket) took in
+          let p = times-push ticket e.drawn ticket in
+          let one : ◌≡◌ {A = ℕ} (cond (ticket == ticket) 1 0) 1 = ap (λ (b : Bool). cond b 1 0) (eq-eqb ticket ticket refl) in
+          omega arith
 
   -- a raise of the place drawn last
-  raise_kept : has_stopped e ≡ false → (p : ℕ) → last_drawn e ≡ Some p → FollowsRule size (set s.words 1 (bit_or halt_word 1)) (set s.views id (with_raise e ∷ []))
+  abbrev raises_it : List Event
+  raises_it = Raise e.worker ∷ []
+
+  abbrev with_raised : Entry
+  with_raised = acted (kept.events ++ raises_it) (with_raise e)
+
+  raise_kept : has_stopped e ≡ false → (p : ℕ) → last_drawn e ≡ Some p → (later : FollowsRule size (set s.words 1 (bit_or halt_word 1)) (set s.views id (with_raised ∷ []))) × (later.events ≡ kept.events ++ raises_it)
   unfolding after
-  raise_kept going p last = record {
-    events = kept.events ++ Raise e.worker ∷ [];
-    entries = set kept.entries e.worker (with_raise e);
-    shows = subst (λ (v : World). Shows v (set kept.entries e.worker (with_raise e)) (set s.words 1 (bit_or halt_word 1)) (set s.views id (with_raise e ∷ []))) (sym leads)
-        (changes world kept.entries world.next true e.worker found.0 (raising p found.0) e (with_raise e) s.words (set s.words 1 (bit_or halt_word 1)) s.views id kept.shows found.1 at_e seated refl
-        raised_entry (λ h. absurd (true≢false (sym h ∙ g.0))) (λ h. h) (λ _. refl) (λ _. refl) words);
-  }
+  raise_kept going p last = (
+    record {
+      events = kept.events ++ raises_it;
+      entries = set kept.entries e.worker with_raised;
+      shows = subst (λ (v : World). Shows v (set kept.entries e.worker with_raised) (set s.words 1 (bit_or halt_word 1)) (set s.views id (with_raised ∷ []))) (sym leads)
+          (changes world kept.entries world.next true e.worker found.0 (raising p found.0) e with_raised s.words (set s.words 1 (bit_or halt_word 1)) s.views id kept.shows found.1 at_e seated refl
+          raised_entry (λ h. absurd (true≢false (sym h ∙ g.0))) (λ h. h) (λ _. refl) (λ _. refl) words);
+      moments = moves_on size kept.events raises_it kept.entries e.worker with_raised kept.moments moment.workers refl;
+    },
+    refl,
+  )
     where
       g : (e.past ≡ false) × ((is_some e.raised || e.saw) ≡ false)
       g = or_false e.past (is_some e.raised || e.saw) going
@@ -315,10 +420,10 @@ module _ (size : Size) (small : size.places + size.workers + 1 < 2 ^ 64) (s : St
       hand : found.0.hand ≡ Some p
       hand = sym found.2.hand ∙ ((λ i. if g.0 i || quiet i then None else last_drawn e) ∙ last)
 
-      leads : after (opening size.places size.workers) (kept.events ++ Raise e.worker ∷ []) ≡ becoming world world.next true e.worker (raising p found.0)
-      leads = after-append (opening size.places size.workers) kept.events (Raise e.worker ∷ []) ∙ (acts_at raise_by world e.worker found.0 found.1 ∙ ap (λ o. option_map_or (λ place. with_worker (halted world) e.worker (raising place found.0)) o world) hand)
+      leads : after (opening size.places size.workers) (kept.events ++ raises_it) ≡ becoming world world.next true e.worker (raising p found.0)
+      leads = after-append (opening size.places size.workers) kept.events raises_it ∙ (acts_at raise_by world e.worker found.0 found.1 ∙ ap (λ o. option_map_or (λ place. with_worker (halted world) e.worker (raising place found.0)) o world) hand)
 
-      raised_entry : IsEntryOf world.places e.worker (raising p found.0) (with_raise e)
+      raised_entry : IsEntryOf world.places e.worker (raising p found.0) with_raised
       raised_entry = record {
         number = refl;
         level = found.2.level;
@@ -328,87 +433,160 @@ module _ (size : Size) (small : size.places + size.workers + 1 < 2 ^ 64) (s : St
         hand = (λ i. if g.0 i || is_some (last i) then None else last_drawn e);
       }
 
-      words : set s.words 1 (bit_or halt_word 1) ≡ (world.next + count_by (λ (x : Entry). x.past) (set kept.entries e.worker (with_raise e))) ∷ flag true ∷ []
+      words : set s.words 1 (bit_or halt_word 1) ≡ (world.next + count_by (λ (x : Entry). x.past) (set kept.entries e.worker with_raised)) ∷ flag true ∷ []
       words =
           let o : bit_or halt_word 1 ≡ 1 = ap (λ (x : ℕ). bit_or x 1) halt_is ∙ or_flag world.halt in
-          let c = sum-set (λ (x : Entry). cond x.past 1 0) kept.entries e.worker e (with_raise e) at_e in
-          let same : world.next + count_by (λ (x : Entry). x.past) kept.entries ≡ world.next + count_by (λ (x : Entry). x.past) (set kept.entries e.worker (with_raise e)) = omega arith in
+          let c = sum-set (λ (x : Entry). cond x.past 1 0) kept.entries e.worker e with_raised at_e in
+          let same : world.next + count_by (λ (x : Entry). x.past) kept.entries ≡ world.next + count_by (λ (x : Entry). x.past) (set kept.entries e.worker with_raised) = omega arith in
           ap (λ (l : List ℕ). set l 1 (bit_or halt_word 1)) kept.shows.words_are ∙ (λ i. same i ∷ o i ∷ [])
 
+  raise_tells : has_stopped e ≡ false → (p : ℕ) → last_drawn e ≡ Some p → RaiseTells (kept.events ++ raises_it) e
+  raise_tells going p last =
+      let later = raise_kept going p last in
+      record {
+        line = begins_on e.history kept.events raises_it moment.begins;
+        shown = shown_now size (set s.words 1 (bit_or halt_word 1)) (set s.views id (with_raised ∷ [])) id with_raised later.0 (rests with_raised) (sym later.1);
+      }
+
   -- a look
-  look_kept : FollowsRule size (set s.words 1 halt_word) (set s.views id (with_look (halt_word == 1) e ∷ []))
-  unfolding after
-  look_kept = go world.halt refl
+  abbrev looking : List Event
+  looking = Look e.worker ∷ []
+
+  -- what the worker knows of events: all where it has seen that all are to stop
+  abbrev told : Bool → List Event
+  told b = if b then kept.events ++ looking else e.history
+
+  abbrev looked : Bool → Entry
+  looked b = acted (told b) (with_look b e)
+
+  abbrev after_look : Bool → Type 0
+  after_look b = (later : FollowsRule size (set s.words 1 halt_word) (set s.views id (looked b ∷ []))) × (b ≡ true → (later.events ≡ kept.events ++ looking) × ((after (opening size.places size.workers) later.events).halt ≡ true))
+
+  sees : halt_word == 1 ≡ world.halt
+  sees = go world.halt refl
     where
-      words_same : set s.words 1 halt_word ≡ s.words
-      words_same = ap (λ (l : List ℕ). set l 1 (get_or l 1 0)) kept.shows.words_are ∙ sym kept.shows.words_are
+      go : (b : Bool) → world.halt ≡ b → halt_word == 1 ≡ world.halt
+      go true q = eq-eqb halt_word 1 (halt_is ∙ ap flag q) ∙ sym q
+      go false q = ap (λ (x : ℕ). x == 1) (halt_is ∙ ap flag q) ∙ sym q
 
-      leads : world.halt ≡ true → after (opening size.places size.workers) (kept.events ++ Look e.worker ∷ []) ≡ becoming world world.next world.halt e.worker (stopping found.0)
-      leads q = after-append (opening size.places size.workers) kept.events (Look e.worker ∷ []) ∙ (acts_at look_by world e.worker found.0 found.1 ∙ ap (λ (b : Bool). if b then with_worker world e.worker (stopping found.0) else world) q)
+  words_same : set s.words 1 halt_word ≡ s.words
+  words_same = ap (λ (l : List ℕ). set l 1 (get_or l 1 0)) kept.shows.words_are ∙ sym kept.shows.words_are
 
-      seen : world.halt ≡ true → (e.saw || halt_word == 1) ≡ true
-      seen q = ap (λ (b : Bool). e.saw || b) (eq-eqb halt_word 1 (halt_is ∙ ap flag q)) ∙ or_true e.saw
+  look_kept : (b : Bool) → world.halt ≡ b → after_look b
+  unfolding after
+  look_kept true q = (
+    record {
+      events = kept.events ++ looking;
+      entries = set kept.entries e.worker (looked true);
+      shows = subst (λ (v : World). Shows v (set kept.entries e.worker (looked true)) (set s.words 1 halt_word) (set s.views id (looked true ∷ []))) (sym leads)
+          (changes world kept.entries world.next world.halt e.worker found.0 (stopping found.0) e (looked true) s.words (set s.words 1 halt_word) s.views id kept.shows found.1 at_e seated refl
+          seen_entry (λ h. past_of kept.shows e.worker e at_e h) (λ h. h) (λ _. q) (λ h. h) words);
+      moments = moves_on size kept.events looking kept.entries e.worker (looked true) kept.moments moment.workers refl;
+    },
+    (λ _. (refl, ap (λ (w : World). w.halt) leads ∙ q)),
+  )
+    where
+      leads : after (opening size.places size.workers) (kept.events ++ looking) ≡ becoming world world.next world.halt e.worker (stopping found.0)
+      leads = after-append (opening size.places size.workers) kept.events looking ∙ (acts_at look_by world e.worker found.0 found.1 ∙ ap (λ (b : Bool). if b then with_worker world e.worker (stopping found.0) else world) q)
 
-      seen_entry : world.halt ≡ true → IsEntryOf world.places e.worker (stopping found.0) (with_look (halt_word == 1) e)
-      seen_entry q = record {
+      seen_entry : IsEntryOf world.places e.worker (stopping found.0) (looked true)
+      seen_entry = record {
         number = refl;
         level = found.2.level;
         drawn = found.2.drawn;
         raised = found.2.raised;
-        stopped = ap (λ (b : Bool). e.past || (is_some e.raised || b)) (seen q) ∙ (ap (λ (b : Bool). e.past || b) (or_true (is_some e.raised)) ∙ or_true e.past);
+        stopped = ap (λ (b : Bool). e.past || (is_some e.raised || b)) (or_true e.saw) ∙ (ap (λ (b : Bool). e.past || b) (or_true (is_some e.raised)) ∙ or_true e.past);
         hand = found.2.hand;
       }
 
-      words : set s.words 1 halt_word ≡ (world.next + count_by (λ (x : Entry). x.past) (set kept.entries e.worker (with_look (halt_word == 1) e))) ∷ flag world.halt ∷ []
+      words : set s.words 1 halt_word ≡ (world.next + count_by (λ (x : Entry). x.past) (set kept.entries e.worker (looked true))) ∷ flag world.halt ∷ []
       words =
-          let c = sum-set (λ (x : Entry). cond x.past 1 0) kept.entries e.worker e (with_look (halt_word == 1) e) at_e in
-          let same : world.next + count_by (λ (x : Entry). x.past) kept.entries ≡ world.next + count_by (λ (x : Entry). x.past) (set kept.entries e.worker (with_look (halt_word == 1) e)) = omega arith in
+          let c = sum-set (λ (x : Entry). cond x.past 1 0) kept.entries e.worker e (looked true) at_e in
+          let same : world.next + count_by (λ (x : Entry). x.past) kept.entries ≡ world.next + count_by (λ (x : Entry). x.past) (set kept.entries e.worker (looked true)) = omega arith in
           words_same ∙ (kept.shows.words_are ∙ ap (λ (x : ℕ). x ∷ flag world.halt ∷ []) same)
+  look_kept false q =
+      let same : looked false ≡ e = ap (λ (b : Bool). record e { saw = b }) (or_id e.saw) in (
+        subst (λ (p : List ℕ × List (List Entry)). FollowsRule size p.0 p.1) (λ i. (sym words_same i, sym (ap (λ (x : Entry). set s.views id (x ∷ [])) same ∙ set_again s.views id (e ∷ []) seated) i)) kept,
+        (λ no. cc),
+      )
 
-      go : (b : Bool) → world.halt ≡ b → FollowsRule size (set s.words 1 halt_word) (set s.views id (with_look (halt_word == 1) e ∷ []))
-      go true q = record {
-        events = kept.events ++ Look e.worker ∷ [];
-        entries = set kept.entries e.worker (with_look (halt_word == 1) e);
-        shows = subst (λ (v : World). Shows v (set kept.entries e.worker (with_look (halt_word == 1) e)) (set s.words 1 halt_word) (set s.views id (with_look (halt_word == 1) e ∷ []))) (sym (leads q))
-            (changes world kept.entries world.next world.halt e.worker found.0 (stopping found.0) e (with_look (halt_word == 1) e) s.words (set s.words 1 halt_word) s.views id kept.shows found.1 at_e seated refl
-            (seen_entry q) (λ h. past_of kept.shows e.worker e at_e h) (λ h. h) (λ _. q) (λ h. h) words);
+  look_follows : (b : Bool) → halt_word == 1 ≡ b → FollowsRule size (set s.words 1 halt_word) (set s.views id (looked b ∷ []))
+  look_follows b q = (look_kept b (sym sees ∙ q)).0
+
+  look_tells : IsShown e → (b : Bool) → halt_word == 1 ≡ b → LookTells (told b) halt_word e
+  look_tells shown b q =
+      record {
+        line = line_if b;
+        shown = subst (λ (x : Bool). IsShown (acted (told b) (with_look x e))) (sym q) (shown_if b (sym sees ∙ q));
+        after_raise = λ r. let p = at_raised found.0.raised (ap is_some (sym found.2.raised) ∙ r) in halt_is ∙ ap flag ((sound.each e.worker found.0 found.1).raised_why p.0 p.1).1;
+        after_look = λ r. halt_is ∙ ap flag (saw_of kept.shows e.worker e at_e r);
+        seen = λ is. seen_if b (sym sees ∙ q) (sym q ∙ is);
+        unseen = λ is. ap told (sym q ∙ is);
       }
-      go false q =
-          let zero_is : halt_word ≡ 0 = halt_is ∙ ap flag q in
-          let same : with_look (halt_word == 1) e ≡ e = ap (λ (x : ℕ). with_look (x == 1) e) zero_is ∙ ap (λ (b : Bool). record e { saw = b }) (or_id e.saw) in
-          subst (λ (p : List ℕ × List (List Entry)). FollowsRule size p.0 p.1) (λ i. (sym words_same i, sym (ap (λ (x : Entry). set s.views id (x ∷ [])) same ∙ set_again s.views id (e ∷ []) seated) i)) kept
+    where
+      line_if : (b : Bool) → Begins e.history (told b)
+      line_if true = begins_on e.history kept.events looking moment.begins
+      line_if false = ([], append-nil e.history)
 
-  look_tells : (is_some e.raised ≡ true → halt_word ≡ 1) × (e.saw ≡ true → halt_word ≡ 1)
-  look_tells = (
-    (λ r. let p = at_raised found.0.raised (ap is_some (sym found.2.raised) ∙ r) in halt_is ∙ ap flag ((sound.each e.worker found.0 found.1).raised_why p.0 p.1).1),
-    (λ r. halt_is ∙ ap flag (saw_of kept.shows e.worker e at_e r)),
-  )
+      shown_if : (b : Bool) → world.halt ≡ b → IsShown (looked b)
+      shown_if true q = let later = look_kept true q in shown_now size (set s.words 1 halt_word) (set s.views id (looked true ∷ [])) id (looked true) later.0 (rests (looked true)) (sym (later.1 refl).0)
+      shown_if false q = subst IsShown (sym (ap (λ (b : Bool). record e { saw = b }) (or_id e.saw))) shown
+
+      seen_if : (b : Bool) → world.halt ≡ b → b ≡ true → SomeRaised (last_world (acted (told b) e))
+      seen_if true q is = let later = look_kept true q in raised_now size (set s.words 1 halt_word) (set s.views id (looked true ∷ [])) id (looked true) later.0 (rests (looked true)) (sym (later.1 refl).0) (later.1 refl).1
+      seen_if false q is = cc
 
 -- ---- the steps, at a seat of one entry
 module _ (size : Size) (small : size.places + size.workers + 1 < 2 ^ 64) (slots id : ℕ) (e : Entry) (st : Step ℕ) where
   pub draws : has_stopped e ≡ false → Allows (Rule size) slots id (e ∷ [], []) 0 (λ n. (n + 1) % 2 ^ 64) (Drew st (e ∷ [], []))
   draws going s kept homes seated room =
-      let n = get_or s.words 0 0 in (
-        with_draw n e ∷ [],
+      let n = get_or s.words 0 0 in
+      let history = kept.events ++ Finish e.worker ∷ Draw e.worker ∷ [] in (
+        acted history (with_draw n e) ∷ [],
         keeps,
         tt,
-        draw_kept size small s kept id e seated going,
-        (refl, All-cons (λ (x : Entry). All (λ p. p < n) x.drawn × (length x.drawn ≤ n)) e [] (draw_tells size small s kept id e seated) (All-nil _)),
+        (draw_kept size small s kept id e seated going).0,
+        record { history = history; leaves = refl; tells = All-cons (DrawTells history n) e [] (draw_tells size small s kept id e seated going) (All-nil _) },
       )
 
   pub raises : has_stopped e ≡ false → (p : ℕ) → last_drawn e ≡ Some p → Allows (Rule size) slots id (e ∷ [], []) 1 (λ n. bit_or n 1) (Raised st (e ∷ [], []))
-  raises going p last s kept homes seated room = (with_raise e ∷ [], keeps, tt, raise_kept size small s kept id e seated going p last, refl)
-
-  pub looks : Allows (Rule size) slots id (e ∷ [], []) 1 (λ n. n) (Looked st (e ∷ [], []))
-  looks s kept homes seated room =
-      let n = get_or s.words 1 0 in (
-        with_look (n == 1) e ∷ [],
+  raises going p last s kept homes seated room =
+      let history = kept.events ++ Raise e.worker ∷ [] in (
+        acted history (with_raise e) ∷ [],
         keeps,
         tt,
-        look_kept size small s kept id e seated,
-        (refl, All-cons (λ (x : Entry). (is_some x.raised ≡ true → n ≡ 1) × (x.saw ≡ true → n ≡ 1)) e [] (look_tells size small s kept id e seated) (All-nil _)),
+        (raise_kept size small s kept id e seated going p last).0,
+        record { history = history; leaves = refl; tells = All-cons (RaiseTells history) e [] (raise_tells size small s kept id e seated going p last) (All-nil _) },
+      )
+
+  pub looks : IsShown e → Allows (Rule size) slots id (e ∷ [], []) 1 (λ n. n) (Looked st (e ∷ [], []))
+  looks shown s kept homes seated room =
+      let n = get_or s.words 1 0 in
+      let history = told size small s kept id e seated (n == 1) in (
+        acted history (with_look (n == 1) e) ∷ [],
+        keeps,
+        tt,
+        look_follows size small s kept id e seated (n == 1) refl,
+        record { history = history; leaves = refl; tells = All-cons (LookTells history n) e [] (look_tells size small s kept id e seated shown (n == 1) refl) (All-nil _) },
       )
 
 -- ---- what a draw leaves
 pub takes : (n : ℕ) (e : Entry) → has_stopped e ≡ false → n < e.places → (with_draw n e ≡ with_place n e) × (last_drawn (with_place n e) ≡ Some n) × (has_stopped (with_place n e) ≡ false)
 takes n e going lt = (ap (λ (b : Bool). if b then with_place n e else with_end e) (lt-ltb n e.places lt), last_or-push None e.drawn n, going)
+
+pub ends : (n : ℕ) (e : Entry) → e.places ≤ n → with_draw n e ≡ with_end e
+ends n e le = ap (λ (b : Bool). if b then with_place n e else with_end e) (le-ltb n e.places le)
+
+-- ---- what a look leaves
+pub stops : (b : Bool) (e : Entry) → b ≡ true → has_stopped (with_look b e) ≡ true
+stops b e q =
+    ap (λ (x : Bool). e.past || (is_some e.raised || (e.saw || x))) q
+    ∙ (ap (λ (x : Bool). e.past || (is_some e.raised || x)) (or_true e.saw)
+    ∙ (ap (λ (x : Bool). e.past || x) (or_true (is_some e.raised)) ∙ or_true e.past))
+
+pub stays : (b : Bool) (history : List Event) (e : Entry) → b ≡ false → history ≡ e.history → acted history (with_look b e) ≡ e
+stays b history e q same = (λ i. acted (same i) (with_look (q i) e)) ∙ ap (λ (b : Bool). record e { saw = b }) (or_id e.saw)
+
+-- ---- what a raise leaves
+pub raised_stops : (e : Entry) (p : ℕ) → last_drawn e ≡ Some p → has_stopped (with_raise e) ≡ true
+raised_stops e p last = ap (λ (o : Option ℕ). e.past || (is_some o || e.saw)) last ∙ or_true e.past

@@ -2,15 +2,16 @@
 use Rattle.std.specs.Prelude.{ℕ, zero, suc, Bool, true, false, ltb, ◌||◌, if◌then◌else◌, List, [], ◌∷◌, ◌++◌, Option, None, is_some}
 use Rattle.std.specs.List.{last_or}
 use Rattle.tickets.specs.declared.entry.Entry.{Entry}
+use Rattle.tickets.specs.declared.event.Event.{Event}
 
--- the entry of worker k before it has drawn
-abbrev pub blank : ℕ → ℕ → Entry
-blank places k = record { worker = k; places = places; drawn = []; past = false; raised = None; saw = false }
+-- the entry of worker k before it has drawn, of a level of so many places and workers
+abbrev pub blank : ℕ → ℕ → ℕ → Entry
+blank places workers k = record { worker = k; places = places; workers = workers; drawn = []; past = false; raised = None; saw = false; history = [] }
 
 -- the entries of n workers from k on
-abbrev pub blanks : ℕ → ℕ → ℕ → List Entry
-blanks places k zero = []
-blanks places k (suc n) = blank places k ∷ blanks places (suc k) n
+abbrev pub blanks : ℕ → ℕ → ℕ → ℕ → List Entry
+blanks places workers k zero = []
+blanks places workers k (suc n) = blank places workers k ∷ blanks places workers (suc k) n
 
 -- it drew past the end, raised a place, or saw that all are to stop
 abbrev pub has_stopped : Entry → Bool
@@ -22,6 +23,10 @@ last_drawn e = last_or None e.drawn
 -- the place in its hand is the one that it drew last, until it raised or drew past the end
 abbrev pub in_hand : Entry → Option ℕ
 in_hand e = if e.past || is_some e.raised then None else last_drawn e
+
+-- it has acted, as the last one of these events
+abbrev pub acted : List Event → Entry → Entry
+acted history e = record e { history = history }
 
 -- it has drawn one place more
 abbrev pub with_place : ℕ → Entry → Entry

@@ -1,11 +1,12 @@
 -- The rule over the words and the views of a desk: some events lead to a world that they show.
-use Rattle.std.specs.Prelude.{◌≡◌, ℕ, ◌+◌, ◌<◌, ◌≤◌, Bool, true, ◌==◌, if◌then◌else◌, List, [], ◌∷◌, map, length, Some, is_some, slice_get, sum_by, count_by, All}
+use Rattle.std.specs.Prelude.{◌≡◌, ◌≢◌, ℕ, ◌+◌, ◌<◌, ◌≤◌, Bool, true, false, ◌==◌, if◌then◌else◌, List, [], ◌∷◌, ◌++◌, map, length, Some, is_some, slice_get, sum_by, count_by, All}
 use Rattle.atomic_table.specs.Table.{Step, Me}
 use Rattle.tickets.specs.declared.event.Event.{Event}
 use Rattle.tickets.specs.declared.entry.Entry.{Entry}
 use Rattle.tickets.specs.declared.size.Size.{Size}
 use Rattle.tickets.specs.World.{Worker, World, opening, after}
-use Rattle.tickets.specs.Entries.{has_stopped, in_hand, with_draw, with_raise, with_look}
+use Rattle.tickets.specs.Once.{times, SomeRaised}
+use Rattle.tickets.specs.Entries.{acted, has_stopped, in_hand, with_draw, with_raise, with_look}
 
 abbrev pub flag : Bool → ℕ
 flag b = if b then 1 else 0
@@ -38,20 +39,69 @@ pub record Shows (w : World) (entries : List Entry) (words : List ℕ) (views : 
   pub past_last : All (λ e. e.past ≡ true → w.next ≡ w.places) entries
   pub saw_halt : All (λ e. e.saw ≡ true → w.halt ≡ true) entries
 
+-- the first of the events
+abbrev pub Begins : List Event → List Event → Type 0
+Begins first events = (later : List Event) × (first ++ later ≡ events)
+
+-- the worker acted last as one of these events
+pub record ActedIn (size : Size) (events : List Event) (e : Entry) : Type 0 where
+  pub workers : e.workers ≡ size.workers
+  pub begins : Begins e.history events
+
 -- some events lead from the opening world to one that words and views show
 pub record FollowsRule (size : Size) (words : List ℕ) (views : List (List Entry)) : Type 0 where
   pub events : List Event
   pub entries : List Entry
   pub shows : Shows (after (opening size.places size.workers) events) entries words views
+  pub moments : All (ActedIn size events) entries
 
--- ---- what a step leaves in the seat's view, and what it tells of the entries there
--- the ticket is greater than each place that the worker drew before, and at least as great as they are many
-abbrev pub Drew : Step ℕ → Me ℕ (List Entry) → ℕ → Me ℕ (List Entry) → Type 0
-Drew step before ticket later = (later ≡ (map (with_draw ticket) before.0, before.1)) × All (λ e. All (λ place. place < ticket) e.drawn × (length e.drawn ≤ ticket)) before.0
+-- ---- the world after a worker's last event
+abbrev pub last_world : Entry → World
+last_world e = after (opening e.places e.workers) e.history
 
-abbrev pub Raised : Step ℕ → Me ℕ (List Entry) → ℕ → Me ℕ (List Entry) → Type 0
-Raised step before found later = later ≡ (map with_raise before.0, before.1)
+-- there the worker had what the entry says
+pub record IsShown (e : Entry) : Type 0 where
+  pub worker : Worker
+  pub there : slice_get (last_world e).workers e.worker ≡ Some worker
+  pub entry : IsEntryOf e.places e.worker worker e
 
--- who raised, and who has seen so before, sees that all are to stop
-abbrev pub Looked : Step ℕ → Me ℕ (List Entry) → ℕ → Me ℕ (List Entry) → Type 0
-Looked step before found later = (later ≡ (map (with_look (found == 1)) before.0, before.1)) × All (λ e. (is_some e.raised ≡ true → found ≡ 1) × (e.saw ≡ true → found ≡ 1)) before.0
+-- there no other worker had drawn the place
+abbrev pub IsAlone : ℕ → Entry → Type 0
+IsAlone place e = (k : ℕ) (other : Worker) → slice_get (last_world e).workers k ≡ Some other → k ≢ e.worker → times place other.drawn ≡ 0
+
+-- ---- what a step leaves in the seat's view, and what it tells of each entry there
+pub record DrawTells (history : List Event) (ticket : ℕ) (e : Entry) : Type 0 where
+  pub line : Begins e.history history
+  pub shown : IsShown (acted history (with_draw ticket e))
+  -- the ticket is greater than each place that the worker drew before, and at least as great as they are many
+  pub above : All (λ place. place < ticket) e.drawn
+  pub count : length e.drawn ≤ ticket
+  pub alone : ticket < e.places → IsAlone ticket (acted history (with_draw ticket e))
+
+pub record Drew (step : Step ℕ) (before : Me ℕ (List Entry)) (ticket : ℕ) (later : Me ℕ (List Entry)) : Type 0 where
+  pub history : List Event
+  pub leaves : later ≡ (map (λ e. acted history (with_draw ticket e)) before.0, before.1)
+  pub tells : All (DrawTells history ticket) before.0
+
+pub record RaiseTells (history : List Event) (e : Entry) : Type 0 where
+  pub line : Begins e.history history
+  pub shown : IsShown (acted history (with_raise e))
+
+pub record Raised (step : Step ℕ) (before : Me ℕ (List Entry)) (found : ℕ) (later : Me ℕ (List Entry)) : Type 0 where
+  pub history : List Event
+  pub leaves : later ≡ (map (λ e. acted history (with_raise e)) before.0, before.1)
+  pub tells : All (RaiseTells history) before.0
+
+pub record LookTells (history : List Event) (found : ℕ) (e : Entry) : Type 0 where
+  pub line : Begins e.history history
+  pub shown : IsShown (acted history (with_look (found == 1) e))
+  -- who raised, and who has seen so before, sees that all are to stop
+  pub after_raise : is_some e.raised ≡ true → found ≡ 1
+  pub after_look : e.saw ≡ true → found ≡ 1
+  pub seen : found == 1 ≡ true → SomeRaised (last_world (acted history e))
+  pub unseen : found == 1 ≡ false → history ≡ e.history
+
+pub record Looked (step : Step ℕ) (before : Me ℕ (List Entry)) (found : ℕ) (later : Me ℕ (List Entry)) : Type 0 where
+  pub history : List Event
+  pub leaves : later ≡ (map (λ e. acted history (with_look (found == 1) e)) before.0, before.1)
+  pub tells : All (LookTells history found) before.0

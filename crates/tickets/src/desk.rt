@@ -30,16 +30,17 @@ pub struct Desk {
 impl Desk {
     ghost use Rattle.std.specs.Prelude.{All, IfOk, Some, is_some, false, true, length, map, min, vec_len};
     ghost use Rattle.std.specs.List.{Any, list_any};
-    ghost use Rattle.tickets.specs.Entries.{blanks, has_stopped, last_drawn, with_look, with_raise};
-    ghost use Rattle.tickets.specs.Rule.{flag};
-    ghost use Rattle.tickets.specs.Seats.{AreDrawn, Closes, HasEnded, HasRaised, HasSeen, HasTaken, HasStopped, IsNewSeatOf, IsSeatOf, entry_of, places_of, workers_of};
+    ghost use Rattle.tickets.specs.Entries.{acted, blanks, has_stopped, last_drawn, with_look, with_raise};
+    ghost use Rattle.tickets.specs.Once.{SomeRaised};
+    ghost use Rattle.tickets.specs.Rule.{Begins, IsAlone, flag, last_world};
+    ghost use Rattle.tickets.specs.Seats.{AreDrawn, AreOfOneLine, Closes, HasEnded, HasRaised, HasSeen, HasTaken, HasStopped, IsNewSeatOf, IsSeatOf, entry_of, places_of, workers_of};
 
     /// A desk, and a seat for each worker.
     pub fn new(alloc: Global, places: usize, workers: usize) -> Result<(Desk, Vec<Seat>), Memory>
         requires places { places ≤ 1024 }
         requires workers { (0 < workers) × (workers ≤ 64) }
         ensures size { IfOk result (λ r. (places_of r.0 ≡ places) × (workers_of r.0 ≡ workers) × (vec_len r.1 ≡ workers)) }
-        ensures entries { IfOk result (λ r. map entry_of r.1.items ≡ blanks places 0 workers) }
+        ensures entries { IfOk result (λ r. map entry_of r.1.items ≡ blanks places workers 0 workers) }
         ensures own { IfOk result (λ r. All (IsNewSeatOf r.0) r.1.items) }
     {
         let size = Size {
@@ -62,6 +63,8 @@ impl Desk {
         ensures own { IsSeatOf self.now seat.new }
         ensures taken { result < places_of self.now → HasTaken result (entry_of seat.old) (entry_of seat.new) }
         ensures past { places_of self.now ≤ result → HasEnded (entry_of seat.old) (entry_of seat.new) }
+        ensures alone { result < places_of self.now → IsAlone result (entry_of seat.new) }
+        ensures line { Begins (entry_of seat.old).history (entry_of seat.new).history }
         ensures rising { All (λ place. place < result) (entry_of seat.old).drawn }
         ensures count { length (entry_of seat.old).drawn ≤ result }
     {
@@ -75,7 +78,8 @@ impl Desk {
         requires going { has_stopped (entry_of seat.old) ≡ false }
         requires last { last_drawn (entry_of seat.old) ≡ Some place }
         ensures own { IsSeatOf self.now seat.new }
-        ensures entry { entry_of seat.new ≡ with_raise (entry_of seat.old) }
+        ensures entry { entry_of seat.new ≡ acted (entry_of seat.new).history (with_raise (entry_of seat.old)) }
+        ensures line { Begins (entry_of seat.old).history (entry_of seat.new).history }
         ensures raised { (entry_of seat.new).raised ≡ Some place }
         ensures stopped { has_stopped (entry_of seat.new) ≡ true }
     {
@@ -87,7 +91,9 @@ impl Desk {
     pub fn look(&self, seat: &mut Seat) -> bool
         requires own { IsSeatOf self.now seat.old }
         ensures own { IsSeatOf self.now seat.new }
-        ensures entry { entry_of seat.new ≡ with_look result (entry_of seat.old) }
+        ensures entry { entry_of seat.new ≡ acted (entry_of seat.new).history (with_look result (entry_of seat.old)) }
+        ensures line { Begins (entry_of seat.old).history (entry_of seat.new).history }
+        ensures raised { result ≡ true → SomeRaised (last_world (entry_of seat.new)) }
         ensures seen { result ≡ true → has_stopped (entry_of seat.new) ≡ true }
         ensures unseen { result ≡ false → entry_of seat.new ≡ entry_of seat.old }
         ensures after_raise { HasRaised seat.old → result ≡ true }
@@ -104,6 +110,7 @@ impl Desk {
         ensures rule { Closes self result seats.items }
         ensures drawn { AreDrawn (min result.0 (places_of self)) seats.items }
         ensures all_drawn { All HasStopped seats.items → AreDrawn (places_of self) seats.items }
+        ensures line { AreOfOneLine seats.items }
         ensures halt { result.1 ≡ flag (list_any (λ seat. is_some (entry_of seat).raised) seats.items) }
         ensures saw { Any HasSeen seats.items → Any HasRaised seats.items }
     {

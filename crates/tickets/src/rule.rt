@@ -12,7 +12,7 @@ impl TableRule<u8, View, Size> for ShowsWorld {
 
     ghost holds = { λ size s. FollowsRule size s.words s.views };
 
-    ghost first = { λ size. blanks size.places 0 size.workers };
+    ghost first = { λ size. blanks size.places size.workers 0 size.workers };
 }
 
 /// A worker draws the next place, or past the end.

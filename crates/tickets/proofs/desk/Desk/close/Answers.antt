@@ -5,7 +5,7 @@ use Rattle.tickets.specs.declared.seat.Seat.{Seat}
 use Rattle.tickets.specs.Entries.{blank}
 use Rattle.tickets.specs.Seats.{entry_of, IsSeatOf}
 use Rattle.tickets.proofs.Dealing.{single, joins, joins_more}
-use Rattle.tickets.proofs.Closing.{closes, drawn_by_seats, all_drawn_by_seats, halt_by_seats, seen_by_seats}
+use Rattle.tickets.proofs.Closing.{closes, drawn_by_seats, all_drawn_by_seats, halt_by_seats, line_by_seats, seen_by_seats}
 use Rattle.tickets.specs.Rule.{FollowsRule}
 use Rattle.std.specs.Slots.{slots_items}
 use Rattle.tickets.proofs.desk.Desk.close.Goals as goal
@@ -18,7 +18,7 @@ loop-seat-init c =
       table = own.1.table;
       bare = c.in-Some.last.bare;
       own = own.0;
-      so_far = joins_more entry_of [] c.in-Some.last.inner.me.0 c.args.seats.items c.pop.new.self.items c.in-Some.last c.in-Some.ensures.items (single c.in-Some.last.inner.me.0 c.in-Some.last.one (blank 0 0));
+      so_far = joins_more entry_of [] c.in-Some.last.inner.me.0 c.args.seats.items c.pop.new.self.items c.in-Some.last c.in-Some.ensures.items (single c.in-Some.last.inner.me.0 c.in-Some.last.one (blank 0 0 0));
     }
 
 pub join_seat-requires : goal.join_seat-requires
@@ -38,7 +38,7 @@ loop-seat-preserved c =
       bare = ap (λ m. m.1) me ∙ c.loop-seat.invariant.bare;
       own = own.0;
       so_far = ap (λ m. m.0 ++ reverse (map entry_of c.pop-in-loop-seat.new.self.items)) me
-          ∙ (joins_more entry_of c.loop-seat.joined.me.0 c.in-Some-pop.seat.inner.me.0 c.loop-seat.seats.items c.pop-in-loop-seat.new.self.items c.in-Some-pop.seat c.in-Some-pop.ensures.items (single c.in-Some-pop.seat.inner.me.0 c.in-Some-pop.seat.one (blank 0 0))
+          ∙ (joins_more entry_of c.loop-seat.joined.me.0 c.in-Some-pop.seat.inner.me.0 c.loop-seat.seats.items c.pop-in-loop-seat.new.self.items c.in-Some-pop.seat c.in-Some-pop.ensures.items (single c.in-Some-pop.seat.inner.me.0 c.in-Some-pop.seat.one (blank 0 0 0))
           ∙ c.loop-seat.invariant.so_far);
     }
 
@@ -72,3 +72,6 @@ returns-clause-halt c = halt_by_seats entry_of c.args.self.size c.word.result c.
 
 pub returns-clause-saw : goal.returns-clause-saw
 returns-clause-saw c = seen_by_seats entry_of c.args.self.size c.word.result c.word-2.result c.args.seats.items (kept c)
+
+pub returns-clause-line : goal.returns-clause-line
+returns-clause-line c = line_by_seats entry_of c.args.self.size c.word.result c.word-2.result c.args.seats.items (kept c)
