@@ -4,7 +4,7 @@ use Rattle.std.proofs.lemmas.List.{take_more, take-append-drop, map-append}
 use Rattle.std.proofs.Math.Seq.{drop-cons}
 use Rattle.requests.specs.declared.reply.RequestRefusal.{RequestRefusal}
 use Rattle.tpcc_model.specs.Staging.{◌>>=◌, for_each}
-use Rattle.transactions.proofs.Doing.{ok-by}
+use Rattle.tpcc_laws.proofs.Doing.{ok-by}
 
 module _ {A B : Type 0} (stage : A → Result B RequestRefusal) where
   -- one more
@@ -41,12 +41,3 @@ module _ {A B : Type 0} (stage : A → Result B RequestRefusal) where
 pub for_each-map : {X A B : Type 0} (stage : A → Result B RequestRefusal) (view : X → A) (xs : List X) → for_each stage (map view xs) ≡ for_each (λ x. stage (view x)) xs
 for_each-map stage view [] = refl
 for_each-map stage view (x ∷ xs) = ap (λ r. stage (view x) >>= λ y. r >>= λ ys. Ok (y ∷ ys)) (for_each-map stage view xs)
-
--- as many as the list
-pub for_each-length : {A B : Type 0} (stage : A → Result B RequestRefusal) (xs : List A) (ys : List B) → for_each stage xs ≡ Ok ys → length ys ≡ length xs
-for_each-length stage [] ys done = (let none : [] ≡ ys = cc in ap length (sym none))
-for_each-length stage (x ∷ xs) ys done =
-    ok-by (stage x) _ _ done λ a ea ha.
-    ok-by (for_each stage xs) _ _ ha λ more em hm.
-    let is : a ∷ more ≡ ys = cc in
-    ap length (sym is) ∙ ap (λ n. suc n) (for_each-length stage xs more em)

@@ -1,4 +1,3 @@
-pub mod Doing
 pub mod ForEach
 pub mod FaultFacts
 pub mod Covering
@@ -7,21 +6,5 @@ pub mod LentTouches
 pub mod FoundLines
 pub mod HeldItems
 pub mod LowItemFacts
-pub mod CardFacts
-pub mod Entries
-pub mod Conditions
-pub mod Books
-pub mod NewOrderRuns
-pub mod NewOrderLines
-pub mod NewOrderFacts
-pub mod NewOrderKeeps
-pub mod PaymentFacts
-pub mod PaymentKeeps
-pub mod DeliveryFacts
-pub mod DeliveryLines
 pub mod DeliverySteps
-pub mod DeliveryKeeps
-pub mod Keeping
-pub mod Framing
 pub mod Within
-pub mod Framed

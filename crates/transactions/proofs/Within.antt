@@ -13,7 +13,7 @@ use Rattle.transactions.specs.Outcomes.{Executes, IsOutcome}
 use Rattle.transactions.specs.declared.exec_error.ExecError.{ExecError}
 use Rattle.transactions.specs.declared.exec_error.ExecError.TheVariants as exec_error
 use Rattle.transactions.proofs.Covering.{covered_reads}
-use Rattle.transactions.proofs.Framing.{step_frames}
+use Rattle.tpcc_laws.proofs.Framing.{step_frames}
 use Rattle.transactions.proofs.Lending.{lent_agree}
 
 module _ (view : View) (cards : Cards) (q : Request) where

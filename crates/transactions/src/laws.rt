@@ -1,5 +1,5 @@
 //! Laws of the steps, as contracts of functions that do nothing.
-ghost use Rattle.transactions.specs.Laws.{IsFramedMachine, StepFrames, StepKeeps};
+ghost use Rattle.tpcc_laws.specs.Laws.{IsFramedMachine, StepFrames, StepKeeps};
 
 /// A step on a sound database, with its number and moment within their limits, gives a sound database, in which the
 /// history is that of before and at most one row more, at the request's number.
@@ -17,7 +17,4 @@ pub fn frame()
 /// of the run of a batch's levels, it says of them.
 pub fn framed_machine()
     ensures { IsFramedMachine }
-{
-    keeps();
-    frame();
-}
+{}

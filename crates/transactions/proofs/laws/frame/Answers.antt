@@ -1,4 +1,4 @@
-use Rattle.transactions.proofs.Framing.{step_frames}
+use Rattle.tpcc_laws.proofs.Framing.{step_frames}
 use Rattle.transactions.proofs.laws.frame.Goals as goal
 
 pub returns : goal.returns

@@ -1,4 +1,4 @@
-use Rattle.transactions.proofs.Keeping.{step_keeps}
+use Rattle.tpcc_laws.proofs.Keeping.{step_keeps}
 use Rattle.transactions.proofs.laws.keeps.Goals as goal
 
 pub returns : goal.returns

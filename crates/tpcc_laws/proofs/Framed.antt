@@ -16,7 +16,7 @@ use Rattle.tpcc_rows.proofs.Singles.{found_later, second}
 use Rattle.tpcc_model.specs.Database.{Database}
 use Rattle.tpcc_model.specs.Steps.{step}
 use Rattle.tpcc_model.specs.Touches.{ArePlaced, IsPlaced, touch}
-use Rattle.transactions.specs.Laws.{IsFramedMachine, StepFrames, StepKeeps}
+use Rattle.tpcc_laws.specs.Laws.{IsFramedMachine, StepFrames, StepKeeps}
 
 -- the entries of placed changes
 placed_entries : (number : ℕ) (gs : List Granule) (es : List (RowKey × Option Row)) → T (is_sorted row_key_cmp es) → ((k : RowKey) (new : Option Row) → find row_key_cmp k es ≡ Some new → IsPlaced number gs k) → AllByRecursion (λ e. IsPlaced number gs e.0) es

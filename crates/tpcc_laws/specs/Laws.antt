@@ -15,7 +15,7 @@ use Rattle.tpcc_rows.specs.Limits.{IsBetween}
 use Rattle.tpcc_rows.specs.RowMap.{Rows}
 use Rattle.tpcc_rows.specs.declared.granule.Granule.{Granule}
 use Rattle.tpcc_rows.specs.declared.key.RowKey.TheVariants as key
-use Rattle.transactions.specs.Requests.{IsRequest}
+use Rattle.tpcc_laws.specs.Requests.{IsRequest}
 
 -- the history is the same, but for a row at this number
 abbrev pub KeepsHistory : Rows → Rows → ℕ → Type 0

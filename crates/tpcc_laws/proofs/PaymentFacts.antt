@@ -25,9 +25,9 @@ use Rattle.tpcc_model.specs.Database.{Database}
 use Rattle.tpcc_model.specs.Payments.{Paid, field, found_cards, found_rows, history_of, paid_customer, paid_data, paid_district, paid_rows, paid_warehouse, payment, payment_note}
 use Rattle.tpcc_model.specs.Soundness.{IsCustomerRow, IsHistory, IsSound}
 use Rattle.tpcc_model.specs.Staging.{known, within}
-use Rattle.transactions.specs.Requests.{IsPayment}
-use Rattle.transactions.proofs.CardFacts.{warehouse-limits, district-limits, customer-limits}
-use Rattle.transactions.proofs.Doing.{ok-by, ok_or-ok, is_there, cents-some, between-some}
+use Rattle.tpcc_laws.specs.Requests.{IsPayment}
+use Rattle.tpcc_laws.proofs.CardFacts.{warehouse-limits, district-limits, customer-limits}
+use Rattle.tpcc_laws.proofs.Doing.{ok-by, ok_or-ok, is_there, cents-some, between-some}
 
 -- ---- rows of their keys' kinds
 pub warehouse-there : (o : Option Row) (r : WarehouseRow) → option_and_then as_warehouse o ≡ Some r → o ≡ Some (row.Warehouse r)

@@ -24,11 +24,11 @@ use Rattle.tpcc_model.specs.Conditions.{Condition1, IsConsistent, district_share
 use Rattle.tpcc_model.specs.Database.{Database}
 use Rattle.tpcc_model.specs.Payments.{Paid, payment, payment_changes}
 use Rattle.tpcc_model.specs.Soundness.{IsSound}
-use Rattle.transactions.specs.Laws.{IsKeptSound, KeepsHistory}
-use Rattle.transactions.specs.Requests.{IsPayment}
-use Rattle.transactions.proofs.Conditions.{balanced, still_consistent}
-use Rattle.transactions.proofs.Entries.{Each, OrdersKept, There, each-insert, each-moved, there-insert}
-use Rattle.transactions.proofs.PaymentFacts.{IsPaid, found}
+use Rattle.tpcc_laws.specs.Laws.{IsKeptSound, KeepsHistory}
+use Rattle.tpcc_laws.specs.Requests.{IsPayment}
+use Rattle.tpcc_laws.proofs.Conditions.{balanced, still_consistent}
+use Rattle.tpcc_laws.proofs.Entries.{Each, OrdersKept, There, each-insert, each-moved, there-insert}
+use Rattle.tpcc_laws.proofs.PaymentFacts.{IsPaid, found}
 
 and_then-cond : {A B : Type 0} (f : A → Option B) (b : Bool) (x : A) (o : Option A) → option_and_then f (cond b (Some x) o) ≡ cond b (f x) (option_and_then f o)
 and_then-cond f true x o = refl

@@ -31,16 +31,16 @@ use Rattle.tpcc_model.specs.Database.{Database}
 use Rattle.tpcc_model.specs.Deliveries.{Delivered, carried, credited, delivery, districts_delivered, lines_amount, lines_dated, oldest_delivered, order_delivered}
 use Rattle.tpcc_model.specs.Soundness.{IsCustomerRow, IsEntry, IsSound}
 use Rattle.tpcc_model.specs.Staging.{known}
-use Rattle.transactions.specs.Laws.{IsKeptSound}
-use Rattle.transactions.proofs.Books.{shorter_book}
-use Rattle.transactions.proofs.Conditions.{still_consistent}
-use Rattle.transactions.proofs.DeliveryFacts.{credited-fits, oldest-is}
-use Rattle.transactions.proofs.DeliveryLines.{IsDated, dated, is_dated}
-use Rattle.transactions.proofs.Doing.{ok-by, ok_or-ok}
-use Rattle.transactions.proofs.Entries.{Each, OrdersKept, There, each-insert, each-moved, each-remove, there-insert, there-remove}
-use Rattle.transactions.proofs.NewOrderKeeps.{other_district}
-use Rattle.transactions.proofs.NewOrderRuns.{book_of, consistent_of}
-use Rattle.transactions.proofs.PaymentFacts.{customer-there}
+use Rattle.tpcc_laws.specs.Laws.{IsKeptSound}
+use Rattle.tpcc_laws.proofs.Books.{shorter_book}
+use Rattle.tpcc_laws.proofs.Conditions.{still_consistent}
+use Rattle.tpcc_laws.proofs.DeliveryFacts.{credited-fits, oldest-is}
+use Rattle.tpcc_laws.proofs.DeliveryLines.{IsDated, dated, is_dated}
+use Rattle.tpcc_laws.proofs.Doing.{ok-by, ok_or-ok}
+use Rattle.tpcc_laws.proofs.Entries.{Each, OrdersKept, There, each-insert, each-moved, each-remove, there-insert, there-remove}
+use Rattle.tpcc_laws.proofs.NewOrderKeeps.{other_district}
+use Rattle.tpcc_laws.proofs.NewOrderRuns.{book_of, consistent_of}
+use Rattle.tpcc_laws.proofs.PaymentFacts.{customer-there}
 
 -- ---- shares to which the date of a line makes no difference
 alike_promised : (v e : ℕ) (k : RowKey) (r s : OrderLineRow) → promised_share v e k (row.OrderLine r) ≡ promised_share v e k (row.OrderLine s)

@@ -30,8 +30,8 @@ use Rattle.tpcc_model.specs.Conditions.{line_share}
 use Rattle.tpcc_model.specs.NewOrders.{LineCards, OrderSoFar, brand_of, left_quantity, line_amount, line_done, lines_done, order_line_of, ordered_stock, remote_orders}
 use Rattle.tpcc_model.specs.Soundness.{IsOrderLine, IsStockRow}
 use Rattle.tpcc_model.specs.Staging.{known, within}
-use Rattle.transactions.proofs.Doing.{ok-by, ok_or-ok, passed, between-some}
-use Rattle.transactions.proofs.Entries.{Each, There, each-insert, there-insert}
+use Rattle.tpcc_laws.proofs.Doing.{ok-by, ok_or-ok, passed, between-some}
+use Rattle.tpcc_laws.proofs.Entries.{Each, There, each-insert, there-insert}
 
 apart : (m : Rows) (k : RowKey) (x : Row) (q : RowKey) → (q ≡ k → ⊥) → get (insert m k x) q ≡ get m q
 apart m k x q n = single.apart row_key_cmp_total exact_keys m k x q n

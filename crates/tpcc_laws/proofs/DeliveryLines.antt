@@ -19,7 +19,7 @@ use Rattle.tpcc_rows.proofs.RowKindFacts.{order-line-there}
 use Rattle.tpcc_rows.proofs.Singles.{apart}
 use Rattle.tpcc_rows.proofs.Totals.{total-same}
 use Rattle.tpcc_model.specs.Deliveries.{line_dated, lines_dated}
-use Rattle.transactions.proofs.Entries.{Each, There, each-insert, there-insert}
+use Rattle.tpcc_laws.proofs.Entries.{Each, There, each-insert, there-insert}
 
 -- the keys whose rows the lines change
 abbrev pub is_dated : RowKey → Bool

@@ -17,10 +17,10 @@ use Rattle.tpcc_model.specs.Payments.{Paid, payment, payment_changes}
 use Rattle.tpcc_model.specs.Soundness.{IsSound}
 use Rattle.tpcc_model.specs.StockLevels.{stock_level}
 use Rattle.tpcc_model.specs.Steps.{delivery_outcome, new_order_outcome, order_status_outcome, payment_outcome, stock_level_outcome, step}
-use Rattle.transactions.specs.Laws.{IsKeptSound, StepKeeps}
-use Rattle.transactions.proofs.DeliveryKeeps.{delivery_keeps}
-use Rattle.transactions.proofs.NewOrderKeeps.{new_order_keeps}
-use Rattle.transactions.proofs.PaymentKeeps.{payment_keeps}
+use Rattle.tpcc_laws.specs.Laws.{IsKeptSound, StepKeeps}
+use Rattle.tpcc_laws.proofs.DeliveryKeeps.{delivery_keeps}
+use Rattle.tpcc_laws.proofs.NewOrderKeeps.{new_order_keeps}
+use Rattle.tpcc_laws.proofs.PaymentKeeps.{payment_keeps}
 
 -- where nothing changes
 unchanged : (db : Database) (number : ℕ) → IsSound db → IsKeptSound db (after db.rows empty) number

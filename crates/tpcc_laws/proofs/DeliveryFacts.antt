@@ -15,7 +15,7 @@ use Rattle.tpcc_model.specs.Conditions.{HasNewOrder, IsLeast}
 use Rattle.tpcc_model.specs.Deliveries.{credited}
 use Rattle.tpcc_model.specs.Soundness.{IsCustomerRow}
 use Rattle.tpcc_model.specs.Staging.{within}
-use Rattle.transactions.proofs.Doing.{between-some, cents-some, ok-by, ok_or-ok, passed}
+use Rattle.tpcc_laws.proofs.Doing.{between-some, cents-some, ok-by, ok_or-ok, passed}
 
 picked_new : (w d : ℕ) (k : RowKey) (x : Row) (o : ℕ) → new_pick w d k x ≡ Some o → (k ≡ key.NewOrder w d o) × (x ≡ row.NewOrder)
 picked_new w d (key.NewOrder v e z) row.NewOrder o h =

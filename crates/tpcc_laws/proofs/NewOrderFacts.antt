@@ -17,12 +17,12 @@ use Rattle.tpcc_model.specs.Database.{Database}
 use Rattle.tpcc_model.specs.NewOrders.{LineCards, LineItem, PlacedOrder, OrderSoFar, found_cards, found_item, found_lines, found_stock, lines_done, new_order, new_order_reply, opened, raised_district}
 use Rattle.tpcc_model.specs.Soundness.{AreCards}
 use Rattle.tpcc_model.specs.Staging.{for_each, known, within}
-use Rattle.transactions.specs.Requests.{IsNewOrder}
-use Rattle.transactions.proofs.CardFacts.{info-limits}
-use Rattle.transactions.proofs.Doing.{ok-by, ok_or-ok, is_there, between-some}
-use Rattle.transactions.proofs.FoundLines.{found_lines-length}
-use Rattle.transactions.proofs.NewOrderLines.{IsFound}
-use Rattle.transactions.proofs.PaymentFacts.{district-there}
+use Rattle.tpcc_laws.specs.Requests.{IsNewOrder}
+use Rattle.tpcc_laws.proofs.CardFacts.{info-limits}
+use Rattle.tpcc_laws.proofs.Doing.{ok-by, ok_or-ok, is_there, between-some}
+use Rattle.tpcc_laws.proofs.FoundLines.{found_lines-length}
+use Rattle.tpcc_laws.proofs.NewOrderLines.{IsFound}
+use Rattle.tpcc_laws.proofs.PaymentFacts.{district-there}
 
 -- ---- the lines
 items_found : (cards : Cards) (lines : List OrderedLine) (items : List LineItem) → AllByRecursion (λ (line : OrderedLine). IsBetween 1 10 line.quantity) lines → for_each (found_item cards) lines ≡ Ok items

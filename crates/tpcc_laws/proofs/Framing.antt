@@ -19,7 +19,7 @@ use Rattle.tpcc_model.proofs.FramePayments.{payment_placed, same_payment}
 use Rattle.tpcc_model.proofs.FrameQuestions.{same_order_status, same_stock_level, same_stock_level_touch}
 use Rattle.tpcc_model.proofs.Placing.{placed-none}
 use Rattle.tpcc_model.proofs.Touching.{read_too}
-use Rattle.transactions.specs.Laws.{StepFrames}
+use Rattle.tpcc_laws.specs.Laws.{StepFrames}
 
 -- cards alone decide what three of the five touch
 same_touch : (cards : Cards) (s t : Rows) (q : Request) → Agree s t (touch (record { cards = cards; rows = s }) q).reads → touch (record { cards = cards; rows = t }) q ≡ touch (record { cards = cards; rows = s }) q

@@ -15,7 +15,7 @@ use Rattle.tpcc_rows.proofs.Keys.{row_key_cmp_total, exact_keys}
 use Rattle.tpcc_rows.proofs.Singles.{gone, left}
 use Rattle.tpcc_rows.proofs.Totals.{total-remove, total-zero}
 use Rattle.tpcc_model.specs.Conditions.{HasNewOrder, HasOrder, IsConsistent, new_order_share}
-use Rattle.transactions.proofs.Books.{IsBook}
+use Rattle.tpcc_laws.proofs.Books.{IsBook}
 
 new_or_not : (o : Option Row) → (o ≡ Some row.NewOrder) ⊎ (o ≡ Some row.NewOrder → ⊥)
 new_or_not None = inr (λ e. cc)

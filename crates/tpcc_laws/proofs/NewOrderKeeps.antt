@@ -25,14 +25,14 @@ use Rattle.tpcc_model.specs.Conditions.{Condition1, IsConsistent, district_share
 use Rattle.tpcc_model.specs.Database.{Database}
 use Rattle.tpcc_model.specs.NewOrders.{PlacedOrder, new_order, opened, order_of}
 use Rattle.tpcc_model.specs.Soundness.{IsEntry, IsSound}
-use Rattle.transactions.specs.Laws.{IsKeptSound, KeepsHistory}
-use Rattle.transactions.specs.Requests.{IsNewOrder}
-use Rattle.transactions.proofs.Books.{IsBook, longer_book, none_by}
-use Rattle.transactions.proofs.Conditions.{still_consistent}
-use Rattle.transactions.proofs.Entries.{Each, OrdersKept, There, each-insert, each-moved, there-insert}
-use Rattle.transactions.proofs.NewOrderFacts.{IsPlacedOrder, order_found}
-use Rattle.transactions.proofs.NewOrderLines.{IsLined, counted, is_lined, lined}
-use Rattle.transactions.proofs.NewOrderRuns.{book_of, consistent_of}
+use Rattle.tpcc_laws.specs.Laws.{IsKeptSound, KeepsHistory}
+use Rattle.tpcc_laws.specs.Requests.{IsNewOrder}
+use Rattle.tpcc_laws.proofs.Books.{IsBook, longer_book, none_by}
+use Rattle.tpcc_laws.proofs.Conditions.{still_consistent}
+use Rattle.tpcc_laws.proofs.Entries.{Each, OrdersKept, There, each-insert, each-moved, there-insert}
+use Rattle.tpcc_laws.proofs.NewOrderFacts.{IsPlacedOrder, order_found}
+use Rattle.tpcc_laws.proofs.NewOrderLines.{IsLined, counted, is_lined, lined}
+use Rattle.tpcc_laws.proofs.NewOrderRuns.{book_of, consistent_of}
 
 -- ---- shares to which a line adds nothing
 no_promise : (v e : ℕ) (k : RowKey) (x : Row) → is_lined k ≡ true → promised_share v e k x ≡ pos 0
