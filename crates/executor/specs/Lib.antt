@@ -7,3 +7,4 @@ pub mod Lines
 pub mod Filing
 pub mod Executions
 pub mod Runs
+pub mod Headline
