@@ -1,18 +1,19 @@
 -- A batch that was executed, and its record.
-use Rattle.std.proofs.Common.{◌≡◌, ◌∙◌, ◌+◌, ◌++◌, ℕ, Bool, true, false, List, length, Some, None, inl, inr, refl, ap, ap₂}
+use Rattle.std.proofs.Common.{◌≡◌, ◌∙◌, ◌+◌, ◌++◌, ℕ, Bool, true, false, List, length, Some, None, inl, inr, refl, ap, ap₂, subst}
 use Rattle.std.specs.Prelude.{nat_lt, if◌then◌else◌}
 use Rattle.std.proofs.lemmas.Bool.{cases_Bool, ltb-false}
 use Rattle.serializability.proofs.Folding.{length-fold_replies}
 use Rattle.catalog.specs.CardMap.{Cards}
 use Rattle.executor.specs.Executions.{IsRecordOf, exhausts, refusal_for}
-use Rattle.executor.specs.Lines.{Line}
+use Rattle.executor.specs.Lines.{Line, extended}
 use Rattle.executor.specs.Paths.{path_of}
+use Rattle.executor.specs.States.{IsSoundState}
 use Rattle.executor.specs.declared.path.Path.{Path}
 use Rattle.executor.specs.declared.record.Record.{Record}
 use Rattle.executor.specs.declared.refusal.Refusal.TheVariants as refusal
 use Rattle.requests.specs.declared.request.Batch.{Batch}
 use Rattle.requests.specs.declared.reply.Reply.{Reply}
-use Rattle.runner.specs.Runs.{NumbersFit}
+use Rattle.runner.specs.Runs.{Completes, NumbersFit}
 use Rattle.runner.specs.Text.{batch_record_text, batch_text, replies_text}
 use Rattle.tpcc_model.specs.Serial.{State, batch_replies}
 use Rattle.tpcc_model.specs.Steps.{steps_at}
@@ -35,6 +36,9 @@ fit_by state batch e = elim (cases_Bool (nat_lt 999999999999999 (state.sequence 
 
 pub admitted_fits : (most : ℕ) (line : Line) (batch : Batch) → refusal_for most line batch ≡ None → NumbersFit line.present batch
 admitted_fits most line batch e = fit_by line.present batch (second_of (nat_lt 1024 (length batch.requests)) (exhausts line.present batch) (nat_lt (length line.earlier) most) e)
+
+pub completes : (old new : Line) (batch : Batch) → refusal_for 1 old batch ≡ None → new ≡ extended old batch → IsSoundState new.cards new.present → Completes old.cards old.present batch
+completes old new batch admitted line sound = (admitted_fits 1 old batch admitted, subst (λ (l : Line). IsSoundState l.cards l.present) line sound)
 
 -- ---- recorded
 pub count_of_replies : (how : Path) (cards : Cards) (state : State) (batch : Batch) (r : Record) → IsRecordOf cards state batch how r → length r.replies.items ≡ length batch.requests

@@ -61,7 +61,7 @@ text-both cards state (b ∷ done) more =
 
 pub completed-more : (cards : Cards) (state : State) (done : List Batch) (batch : Batch) → AreCompleted cards state done → Completes cards (serial cards state done) batch → AreCompleted cards state (done ++ batch ∷ [])
 completed-more cards state [] batch all one = (all, one.0, one.1)
-completed-more cards state (b ∷ done) batch all one = (all.0, all.1.0, completed-more cards (after_batch cards state b) done batch all.1.1 one)
+completed-more cards state (b ∷ done) batch all one = (all.0, all.1, completed-more cards (after_batch cards state b) done batch all.2 one)
 
 pub text-more : (cards : Cards) (state : State) (done : List Batch) (batch : Batch) (old mid new : Taken) → Appends old mid (text cards state done) → Appends mid new (batch_text cards (serial cards state done) batch)
     → Appends old new (text cards state (done ++ batch ∷ []))
@@ -92,7 +92,7 @@ module _ (cards : Cards) (state : State) (all : Reading) (done : List Batch) (ba
       let first = text cards state done in
       let whole : text cards state (done ++ batch ∷ []) ≡ (first ++ front) ++ back =
       text-both cards state done (batch ∷ []) ∙ ap (λ (t : List ℕ). first ++ t) (append-nil (batch_text cards now batch) ∙ cut) ∙ sym (append_assoc first front back) in
-      (done ++ batch ∷ [], rest, parts ∙ sym (append_assoc done (batch ∷ []) rest), completed-more cards state done batch completed completes, first ++ front, back, whole, appends_twice old mid new first front written took)
+      (done ++ batch ∷ [], rest, parts ∙ sym (append_assoc done (batch ∷ []) rest), completed-more cards state done batch completed completes, (first ++ front, back, whole, appends_twice old mid new first front written took))
 
   pub left_in_batch : (e : RunFault) → LeavesBatch e cards (serial cards state done) batch mid new → Left e cards state all old new
   left_in_batch (run_fault.Exec refusal.NumbersExhausted) h = (done, batch, rest, began h.1, h.0)

@@ -57,7 +57,7 @@ returns-then-is_err-clause-err g c =
     let state = c.args.executor.now.present in
     let end : c.batches.reader ≡ ([], clean) = search rules in
     let all = all_read _ c.batches.reader done read end in
-    (done, [], all ∙ sym (append-nil done), completed, text cards state done, [], sym (append-nil (text cards state done)), then_kept _ _ _ _ written c.flush.ensures.bytes)
+    (done, [], all ∙ sym (append-nil done), completed, (text cards state done, [], sym (append-nil (text cards state done)), then_kept _ _ _ _ written c.flush.ensures.bytes))
 
 pub returns-in-Err-next_batch-clause-kinds : goal.returns-in-Err-next_batch-clause-kinds
 returns-in-Err-next_batch-clause-kinds g c =

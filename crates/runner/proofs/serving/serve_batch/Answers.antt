@@ -3,7 +3,7 @@ use Rattle.std.specs.Io.KnownBytes.{Appends}
 use Rattle.records.specs.Io.{AppendsFront}
 use Rattle.runner.specs.Runs.{NumbersFit}
 use Rattle.runner.specs.Text.{batch_text}
-use Rattle.runner.proofs.ExecutedBatches.{admitted_fits, count_of_replies, recorded_text}
+use Rattle.runner.proofs.ExecutedBatches.{admitted_fits, completes, count_of_replies, recorded_text}
 use Rattle.runner.proofs.serving.serve_batch.Goals as goal
 
 pub batch_text-requires-clause-high : goal.batch_text-requires-clause-high
@@ -21,7 +21,10 @@ returns-then-is_err-clause-err g c =
     let batch = c.args.batch.now in
     let text : c.as_slice.result.now ≡ batch_text line.cards line.present batch = c.as_slice.ensures.value ∙ c.in-Ok-batch_text.ensures ∙ recorded_text line.cards line.present batch c.in-Ok.record c.in-Ok.ensures.record in
     let front : AppendsFront (g.S.Sink.taken c.args.sink.now) (g.S.Sink.taken c.push_all.new.sink) c.as_slice.result.now = search rules in
-    (admitted_fits 1 line batch c.in-Ok.ensures.admitted, subst (AppendsFront (g.S.Sink.taken c.args.sink.now) (g.S.Sink.taken c.push_all.new.sink)) text front)
+    (completes line c.execute.new.self batch c.in-Ok.ensures.admitted c.in-Ok.ensures.line c.in-Ok.ensures.sound, subst (AppendsFront (g.S.Sink.taken c.args.sink.now) (g.S.Sink.taken c.push_all.new.sink)) text front)
+
+pub returns-clause-completed : goal.returns-clause-completed
+returns-clause-completed g c = completes c.args.executor.now c.execute.new.self c.args.batch.now c.in-Ok.ensures.admitted c.in-Ok.ensures.line c.in-Ok.ensures.sound
 
 pub returns-clause-text : goal.returns-clause-text
 returns-clause-text g c =
