@@ -1,6 +1,7 @@
 -- Rows by leaf: a list of pages, the one at n having the rows of leaf n.
 use Rattle.std.specs.Prelude.{◌≡◌, ℕ, eqb, true, false, map as each, List, [], ◌∷◌, ◌++◌, length, get_or, None}
 use Rattle.std.specs.FinMap as map
+use Rattle.tpcc_rows.specs.declared.codes.TheConstants.{LEAVES}
 use Rattle.tpcc_rows.specs.declared.key.RowKey.{RowKey}
 use Rattle.tpcc_rows.specs.declared.row.Row.{Row}
 use Rattle.std.specs.List.{list_all}
@@ -28,7 +29,7 @@ pub record IsByLeaf (pages : List Rows) : Type 0 where
 
 -- a page for each leaf
 pub record IsPaged (pages : List Rows) : Type 0 where
-  pub full : length pages ≡ 4096
+  pub full : length pages ≡ LEAVES
   pub fits : IsByLeaf pages
 
 -- the pages of lists of rows, each list's rows put one after the other

@@ -101,7 +101,7 @@ impl RowStore {
 
     /// The rows of a leaf.
     pub fn page(&self, leaf: usize) -> &plain::RowStore
-        requires { leaf < 4096 }
+        requires { leaf < LEAVES }
         ensures { result.now ≡ page_rows self.now leaf }
     {
         &self.pages[leaf]

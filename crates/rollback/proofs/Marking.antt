@@ -80,9 +80,6 @@ keeps-all before old new view marks n clean =
       page-past new.rows old.rows n (or-left (nat_lt n 4096) (is_dirty before.dirty n) both),
     )
 
-pub keeps-same : (old new : Pointed) → new ≡ old → KeepsCleanLeaves old new
-keeps-same old new same n clean = (ap (λ (p : Pointed). is_dirty p.dirty n) (sym same) ∙ clean, ap (λ (p : Pointed). page_rows p.rows n) same)
-
 pub keeps-more : (a b c : Pointed) → KeepsCleanLeaves a b → KeepsCleanLeaves b c → KeepsCleanLeaves a c
 keeps-more a b c first second n clean =
     let later = second n clean in

@@ -3,6 +3,7 @@ use Rattle.std.specs.Prelude.{◌≡◌, ℕ, Bool, false, ◌||◌, eqb, nat_lt
 use Rattle.std.specs.List.{list_any}
 use Rattle.std.specs.FinMap as map
 use Rattle.tpcc_rows.specs.Leaves.{leaf}
+use Rattle.tpcc_rows.specs.declared.codes.TheConstants.{LEAVES}
 use Rattle.tpcc_rows.specs.RowMap.{Changes}
 
 -- whether the leaf is one of them
@@ -18,7 +19,7 @@ HasAlso old leaf new = (n : ℕ) → is_dirty new n ≡ (eqb n leaf || is_dirty 
 
 -- the new leaves are the old ones and all of the tree's
 abbrev pub HasAlsoAll : List Bool → List Bool → Type 0
-HasAlsoAll old new = (n : ℕ) → is_dirty new n ≡ (nat_lt n 4096 || is_dirty old n)
+HasAlsoAll old new = (n : ℕ) → is_dirty new n ≡ (nat_lt n LEAVES || is_dirty old n)
 
 -- whether one of the changes is on the leaf
 abbrev pub changes_leaf : Changes → ℕ → Bool

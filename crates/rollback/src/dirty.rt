@@ -32,14 +32,14 @@ impl Dirty {
 
     /// Whether the leaf is in the set.
     pub fn has(&self, leaf: usize) -> bool
-        requires { leaf < 4096 }
+        requires { leaf < LEAVES }
         ensures { result ≡ is_dirty self.now leaf }
     {
         self.marks[leaf]
     }
 
     pub(crate) fn add(&mut self, leaf: usize)
-        requires { leaf < 4096 }
+        requires { leaf < LEAVES }
         ensures { HasAlso self.old leaf self.new }
     {
         self.marks[leaf] = true;

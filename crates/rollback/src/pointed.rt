@@ -17,7 +17,7 @@ use crate::refusal::{MarkError, NoSuchPoint, RewindError};
 use pages::RowStore;
 use std::alloc::Global;
 use std::marker::Model;
-use tpcc_rows::codes::leaf;
+use tpcc_rows::codes::{LEAVES, leaf};
 use tpcc_rows::delta::Delta;
 use tpcc_rows::id::{CustomerId, DistrictId, OrderId, WarehouseId};
 use tpcc_rows::key::RowKey;
@@ -119,7 +119,7 @@ impl PointedStore {
 
     /// The rows of a leaf.
     pub fn page(&self, leaf: usize) -> &plain::RowStore
-        requires { leaf < 4096 }
+        requires { leaf < LEAVES }
         ensures { result.now ≡ page_rows self.now.rows leaf }
     {
         self.store.page(leaf)

@@ -22,9 +22,6 @@ rows-insert m k x are fit q r h = elim (entry_of row_key_cmp_total exact_keys m 
 pub rows-remove : (m : Rows) (k : RowKey) → AreRows m → AreRows (remove m k)
 rows-remove m k are q r h = are q r (entry_left row_key_cmp_total exact_keys m k q r h)
 
-pub changes-empty : AreChanges empty
-changes-empty k r h = let no : None ≡ Some (Some r) = sym (get-empty row_key_cmp k) ∙ h in cc
-
 pub changes-insert : (m : Changes) (k : RowKey) (x : Option Row) → AreChanges m → ((r : Row) → x ≡ Some r → fits k r ≡ true) → AreChanges (insert m k x)
 changes-insert m k x are fit q r h = elim (entry_of row_key_cmp_total exact_keys m k x q (Some r) h) [
   | inl e ↦ ap (λ (a : RowKey). fits a r) e.0 ∙ fit r e.1

@@ -2,17 +2,14 @@
 ghost use Rattle.std.specs.Prelude.{◌≡◌, ◌<◌, ◌^◌, IfOk, IfSome, OnOk, OnErr, length, option_copied, true};
 ghost use Rattle.std.specs.FinMap as map;
 ghost use Rattle.std.specs.List.{list_all};
-ghost use Rattle.serializability.specs.Changes.{changed};
-ghost use Rattle.tpcc_rows.specs.Changing.{IsMadeInPart, after, new_row_fits, with_each};
+ghost use Rattle.tpcc_rows.specs.Changing.{with_each};
 ghost use Rattle.tpcc_rows.specs.Picks.{latest, oldest};
 ghost use Rattle.tpcc_rows.specs.RowKinds.{fits};
-ghost use Rattle.tpcc_rows.specs.Rows.{customer_row, district_row, warehouse_row};
 
-use crate::delta::Delta;
 use crate::id::{CustomerId, DistrictId, OrderId, WarehouseId};
 use crate::key::RowKey;
 use crate::memory::Memory;
-use crate::row::{CustomerRow, DistrictRow, Row, WarehouseRow};
+use crate::row::Row;
 use crate::searching::{larger, lesser, new_pick, order_pick};
 use std::alloc::Global;
 use std::collections::BTreeMap;
@@ -118,38 +115,6 @@ impl RowStore {
         rows.into_iter()
     }
 
-    pub fn warehouse(&self, warehouse: WarehouseId) -> Option<&WarehouseRow>
-        ensures { option_copied result ≡ warehouse_row self.now warehouse }
-    {
-        self.get(&RowKey::Warehouse { warehouse })?.as_warehouse()
-    }
-
-    pub fn district(&self, warehouse: WarehouseId, district: DistrictId) -> Option<&DistrictRow>
-        ensures { option_copied result ≡ district_row self.now warehouse district }
-    {
-        let key = RowKey::District {
-            warehouse,
-            district,
-        };
-        self.get(&key)?.as_district()
-    }
-
-    pub fn customer(
-        &self,
-        warehouse: WarehouseId,
-        district: DistrictId,
-        customer: CustomerId,
-    ) -> Option<&CustomerRow>
-        ensures { option_copied result ≡ customer_row self.now warehouse district customer }
-    {
-        let key = RowKey::Customer {
-            warehouse,
-            district,
-            customer,
-        };
-        self.get(&key)?.as_customer()
-    }
-
     /// The least number of the district's new orders.
     pub fn oldest_new(&self, warehouse: WarehouseId, district: DistrictId) -> Option<OrderId>
         ensures { result ≡ oldest self.now warehouse district }
@@ -179,31 +144,5 @@ impl RowStore {
             }
         }
         latest
-    }
-
-    fn change(&mut self, key: &RowKey, new_row: &Option<Row>) -> Result<(), Memory>
-        requires { new_row_fits key.now new_row.now ≡ true }
-        ensures ok { OnOk result (self.new ≡ changed self.old key.now new_row.now) }
-        ensures err { OnErr result (self.new ≡ self.old) }
-    {
-        match new_row {
-            Some(row) => self.put(*key, row.copied()?),
-            None => {
-                let _ = self.remove(key);
-                Ok(())
-            }
-        }
-    }
-
-    /// Makes the changes. After a refusal a beginning of them, in key order, is made.
-    #[tactic(auto, unfolding(crate::specs::Changing::after))]
-    pub fn apply(&mut self, delta: &Delta) -> Result<(), Memory>
-        ensures ok { OnOk result (self.new ≡ after self.old delta.now) }
-        ensures err { OnErr result (IsMadeInPart self.old self.new delta.now) }
-    {
-        for (key, new_row) in delta.iter() {
-            self.change(key, new_row)?;
-        }
-        Ok(())
     }
 }

@@ -126,7 +126,7 @@ impl HistoryRow {
 }
 
 impl Row {
-    /// A customer's row, in a place of its own.
+    /// A customer's row, reference-counted.
     pub fn of_customer(alloc: Global, row: CustomerRow) -> Result<Row, Memory>
         ensures { IfOk result (λ made. made ≡ Customer row) }
     {
