@@ -1,0 +1,149 @@
+//! What no clause of `command_line` says: words that are a line, words that are none, and the texts of help. Each
+//! command line is printed, and what it comes to.
+#![tactic(auto)]
+
+use command_line::{Line, LineFault, line_of, line_status};
+use std::alloc::{AllocError, Global};
+
+/// Lines that are taken, that are refused, and that ask for help.
+const LINES: [&str; 57] = [
+    "eve-tpcc run image.csv batches.csv",
+    "eve-tpcc run image.csv batches.csv --workers 2",
+    "eve-tpcc run image.csv batches.csv --workers=64",
+    "eve-tpcc run image.csv --workers +03 batches.csv",
+    "eve-tpcc run --workers 1 image.csv batches.csv",
+    "eve-tpcc run --workers 1 -- image.csv batches.csv",
+    "eve-tpcc check image.csv",
+    "eve-tpcc make 1 45 100",
+    "eve-tpcc make 1 1 1",
+    "eve-tpcc make 100 3000 100000",
+    "eve-tpcc make +5 007 +0100",
+    "eve-tpcc",
+    "eve-tpcc walk",
+    "eve-tpcc --version",
+    "eve-tpcc run",
+    "eve-tpcc run a",
+    "eve-tpcc run a b c",
+    "eve-tpcc run a --workers 2",
+    "eve-tpcc run a b --worker 2",
+    "eve-tpcc run a b --workers 0",
+    "eve-tpcc run a b --workers 65",
+    "eve-tpcc run a b --workers x",
+    "eve-tpcc run a b --workers=",
+    "eve-tpcc run a b --workers",
+    "eve-tpcc run a b --workers 1 --workers 2",
+    "eve-tpcc check",
+    "eve-tpcc check a b",
+    "eve-tpcc check --all a",
+    "eve-tpcc check a --workers 2",
+    "eve-tpcc make",
+    "eve-tpcc make 1 1",
+    "eve-tpcc make 1 1 1 1",
+    "eve-tpcc make 1 1 1 --workers 2",
+    "eve-tpcc make -1 1 1",
+    "eve-tpcc make 0 1 1",
+    "eve-tpcc make 101 1 1",
+    "eve-tpcc make 1 0 1",
+    "eve-tpcc make 1 3001 1",
+    "eve-tpcc make 1 1 0",
+    "eve-tpcc make 1 1 100001",
+    "eve-tpcc make 1 1 1.5",
+    "eve-tpcc make 1 1 -- -1",
+    "eve-tpcc make one 1 1",
+    "eve-tpcc make  1 1",
+    "eve-tpcc --help",
+    "eve-tpcc -h",
+    "eve-tpcc help",
+    "eve-tpcc help run",
+    "eve-tpcc run --help",
+    "eve-tpcc run a -h",
+    "eve-tpcc run --workers 2 -h",
+    "eve-tpcc help check",
+    "eve-tpcc check --help",
+    "eve-tpcc check a -h",
+    "eve-tpcc help make",
+    "eve-tpcc make --help",
+    "eve-tpcc make 1 -h",
+];
+
+/// Lines whose whole text is printed, of a program that was started by another name.
+const TEXTS: [&str; 11] = [
+    "out/eve_tpcc --help",
+    "out/eve_tpcc run --help",
+    "out/eve_tpcc check --help",
+    "out/eve_tpcc make --help",
+    "out/eve_tpcc run a",
+    "out/eve_tpcc run a --workers 2",
+    "out/eve_tpcc make 1 0 1",
+    "out/eve_tpcc make one 1 1",
+    "out/eve_tpcc run a b --workers 65",
+    "out/eve_tpcc run a b --workers 1 --workers 2",
+    "out/eve_tpcc run a b --workers",
+];
+
+fn words(alloc: Global, line: &str) -> Result<Vec<String>, AllocError> {
+    let mut words = Vec::new(alloc);
+    for word in line.split(' ') {
+        words.push(String::from_str(alloc, word)?)?;
+    }
+    Ok(words)
+}
+
+fn read(alloc: Global, line: &str) -> Result<Line, LineFault> {
+    line_of(alloc, words(alloc, line)?)
+}
+
+fn print_line<R: Print>(rt: &R, line: &Line) {
+    let _ = match line {
+        Line::Run {
+            image,
+            batches,
+            workers,
+        } => println!(rt; "run {image} {batches} {}", workers.count()),
+        Line::Check { image } => println!(rt; "check {image}"),
+        Line::Make {
+            warehouses,
+            customers,
+            items,
+        } => println!(rt; "make {warehouses} {customers} {items}"),
+    };
+}
+
+fn print_fault<R: Print>(rt: &R, fault: &LineFault) {
+    let status = line_status(fault);
+    let _ = match fault {
+        LineFault::Refused(error) => {
+            let stream = if error.use_stderr() {
+                "stderr"
+            } else {
+                "stdout"
+            };
+            println!(rt; "status {status}, {stream}, {:?}", error.kind())
+        }
+        LineFault::Memory => println!(rt; "status {status}, memory ran out"),
+    };
+}
+
+fn print_text<R: Print>(rt: &R, fault: &LineFault) {
+    let _ = match fault {
+        LineFault::Refused(error) => print!(rt; "{error}"),
+        LineFault::Memory => println!(rt; "memory ran out"),
+    };
+}
+
+fn main(rt: HostRuntime) {
+    for line in LINES {
+        let _ = println!(rt; "> {line}");
+        match read(rt.alloc(), line) {
+            Ok(line) => print_line(&rt, &line),
+            Err(fault) => print_fault(&rt, &fault),
+        }
+    }
+    for line in TEXTS {
+        let _ = println!(rt; "> {line}");
+        match read(rt.alloc(), line) {
+            Ok(line) => print_line(&rt, &line),
+            Err(fault) => print_text(&rt, &fault),
+        }
+    }
+}
