@@ -1,8 +1,11 @@
 -- A run on the database of an image.
-use Rattle.std.proofs.Common.{◌≡◌, ℕ, List, [], sym, append-nil, Option, Some, None, Result, Ok, Err, IfOk, IfErr, IfSome}
+use Rattle.std.proofs.Common.{◌≡◌, ℕ, List, [], refl, sym, append-nil, Option, Some, None, Result, Ok, Err, IfOk, IfErr, IfSome}
 use Rattle.std.specs.Io.KnownBytes.{Appends, Keeps}
+use Rattle.executor.specs.States.{IsSoundState}
+use Rattle.executor.specs.declared.refusal.Refusal.TheVariants as refusal
 use Rattle.loader.specs.Image.{image}
 use Rattle.records.specs.Io.{AppendsFront}
+use Rattle.requests.specs.Batches.{batches}
 use Rattle.runner.proofs.RunLemmas.{then_kept}
 use Rattle.runner.specs.CheckTexts.{ChecksImage, LeavesCheck, opening_text}
 use Rattle.runner.specs.Runs.{Taken}
@@ -10,7 +13,18 @@ use Rattle.runner.specs.WholeRuns.{IsOfDatabase, LeavesDatabase, LeavesRun, RanO
 use Rattle.runner.specs.declared.fault.RunFault.{RunFault}
 use Rattle.runner.specs.declared.fault.RunFault.TheVariants as run_fault
 use Rattle.tpcc_model.specs.Database.{Database}
+use Rattle.tpcc_model.specs.Serial.{opening}
 
+-- ---- a run that ends before its first batch
+nothing_taken : (t : Taken) → Appends t t []
+nothing_taken None = tt
+nothing_taken (Some xs) = sym (append-nil xs)
+
+pub refused_at_once : (db : Database) (left : Option (List ℕ)) (t : Taken) → IsSoundState db.cards (opening db.cards db.rows) → IfSome left (λ batch_bytes. LeavesDatabase (run_fault.Exec refusal.Memory) db batch_bytes t t)
+refused_at_once db None t sound = tt
+refused_at_once db (Some batch_bytes) t sound = ([], (batches batch_bytes).0, record { parts = refl; completed = sound; written = nothing_taken t })
+
+-- ---- a run on the database of an image
 pub ran_whole : (r : Result ℕ RunFault) (images batches : Option (List ℕ)) (db : Database) (old new : Taken) → IfSome images (λ image_bytes. image image_bytes ≡ Ok db)
     → IfOk r (λ count. IfSome batches (λ batch_bytes. RanOn db batch_bytes old new count))
     → IfOk r (λ count. IfSome images (λ image_bytes. IfSome batches (λ batch_bytes. RanWhole image_bytes batch_bytes old new count)))

@@ -7,6 +7,7 @@ ghost use Rattle.tpcc_model.specs.Soundness.{IsSound};
 use crate::fault::RunFault;
 use crate::serving::run_batches;
 use catalog::Catalog;
+use executor::laws::sound_states;
 use executor::{Executor, Refusal};
 use loader::load;
 use records::io::{Sink, Source};
@@ -40,6 +41,7 @@ fn run_database<R: Threads + Sync, B: Source, S: Sink, G: Gate>(
     ensures batches_failures { B.failed batches.new ≡ B.failed batches.old + (if is_batches_read result then 1 else 0) }
     ensures sink_failures { S.failed sink.new ≡ S.failed sink.old + (if is_write result then 1 else 0) }
 {
+    sound_states();
     let Ok(mut executor) = Executor::new(rt, alloc, catalog, store) else {
         return Err(RunFault::Exec(Refusal::Memory));
     };
