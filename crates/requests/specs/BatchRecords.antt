@@ -1,5 +1,5 @@
 -- What a record of a file of batches says.
-use Rattle.std.specs.Prelude.{◌==◌, ℕ, List, length, codes, Option, Result, Ok, Err, if◌then◌else◌}
+use Rattle.std.specs.Prelude.{ℕ, List, codes, Option, Result, Ok, Err, if◌then◌else◌}
 use Rattle.csv.specs.Records.{field_at}
 use Rattle.records.specs.Fields.{Fields, ◌>>=◌, is_text, number_at, of_count}
 use Rattle.requests.specs.RequestRecords.{delivery_fields, has_lines, new_order_fields, order_status_fields, payment_fields, stock_level_fields}

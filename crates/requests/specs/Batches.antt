@@ -1,5 +1,5 @@
 -- The batches that a text holds.
-use Rattle.std.specs.Prelude.{◌≡◌, ◌⊎◌, ◌==◌, ◌+◌, ◌∷◌, ◌++◌, [], ℕ, List, length, Result, Ok, Err, if◌then◌else◌}
+use Rattle.std.specs.Prelude.{◌≡◌, ◌⊎◌, ◌==◌, ◌+◌, ◌∷◌, ◌++◌, [], ℕ, List, length, Option, Some, Result, Ok, Err, if◌then◌else◌}
 use Rattle.requests.specs.BatchRecords.{head_at, request_at}
 use Rattle.records.specs.Fields.{Fields}
 use Rattle.records.specs.Records.{records_in}
@@ -63,6 +63,15 @@ reading_from (r ∷ rs) n (within head requests) = continued n head requests (re
 -- the batches of a text, whose records are numbered from 1
 abbrev pub batches : List ℕ → Reading
 batches bytes = reading_from (records_in bytes) 1 between
+
+-- what a reader has still to give, and the error by which it stopped, if it did
+pub record BatchesLeft : Type 0 where
+  pub left : Reading
+  pub stopped : Option ReadError
+
+-- a reader that stopped by this error
+abbrev pub stopped_at : ReadError → BatchesLeft
+stopped_at e = record { left = ([], fault e); stopped = Some e }
 
 -- a reading stopped with this fault, or for want of memory
 abbrev pub StopsBy : ReadError → Reading → Type 0

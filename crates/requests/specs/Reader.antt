@@ -1,9 +1,10 @@
 -- What a reader of batches has still to give.
-use Rattle.std.specs.Prelude.{◌+◌, ◌<◌, ◌^◌, ℕ, List, [], length}
+use Rattle.std.specs.Prelude.{◌+◌, ◌<◌, ◌^◌, ℕ, List, [], length, Option, Some, None}
 use Rattle.std.specs.Borrow.{Bor}
 use Rattle.csv.specs.declared.reader.Reader.{Reader}
-use Rattle.requests.specs.Batches.{Place, Reading, between, clean, fault, reading_from}
+use Rattle.requests.specs.Batches.{BatchesLeft, Place, Reading, between, clean, fault, reading_from}
 use Rattle.records.specs.Records.{IsGoing, records_left}
+use Rattle.records.specs.declared.fault.ReadError.{ReadError}
 use Rattle.requests.specs.declared.batch_reader.Standing.{Standing}
 use Rattle.requests.specs.declared.batch_reader.Standing.TheVariants as standing
 use Rattle.requests.specs.declared.batch_reader.BatchReader.TheInside.{Inside}
@@ -17,8 +18,14 @@ left_by standing.Going left = left
 left_by standing.Done left = ([], clean)
 left_by (standing.Stopped e) left = ([], fault e)
 
-abbrev pub reading_of : Inside → Reading
-reading_of b = left_by b.standing (left_at b.reader b.number between)
+-- the error that was answered, if there was one
+abbrev pub stopped_by : Standing → Option ReadError
+stopped_by standing.Going = None
+stopped_by standing.Done = None
+stopped_by (standing.Stopped e) = Some e
+
+abbrev pub reading_of : Inside → BatchesLeft
+reading_of b = record { left = left_by b.standing (left_at b.reader b.number between); stopped = stopped_by b.standing }
 
 abbrev pub CanRead : Standing → Type 0 → Type 0
 CanRead standing.Going P = P

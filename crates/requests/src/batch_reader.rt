@@ -1,6 +1,6 @@
 //! The batches of a text, one after the other.
-ghost use Rattle.std.specs.Prelude.{◌≡◌, ◌+◌, ◌≤◌, ◌<◌, ◌^◌, [], length, IfOk, IfErr, IfSome, IfNone};
-ghost use Rattle.requests.specs.Batches.{StopsBy, batches, clean, fault, with_front};
+ghost use Rattle.std.specs.Prelude.{◌≡◌, ◌+◌, ◌≤◌, [], length, IfOk, IfErr, IfSome, IfNone};
+ghost use Rattle.requests.specs.Batches.{StopsBy, batches, clean, stopped_at, with_front};
 
 use crate::reading::read_batch;
 use crate::request::Batch;
@@ -28,10 +28,10 @@ pub struct BatchReader<'a> {
 }
 
 impl<'a> Model for BatchReader<'a> {
-    ghost use Rattle.requests.specs.Batches.{Reading};
+    ghost use Rattle.requests.specs.Batches.{BatchesLeft};
     ghost use Rattle.requests.specs.Reader.{IsSteady, reading_of};
 
-    ghost Value = { Reading };
+    ghost Value = { BatchesLeft };
 
     ghost view = { reading_of };
 
@@ -41,11 +41,11 @@ impl<'a> Model for BatchReader<'a> {
 impl<'a> BatchReader<'a> {
     /// All batches of the text are left.
     pub fn new(alloc: Global, text: &'a [u8]) -> Result<BatchReader<'a>, ReadError>
-        requires { length text.now < 2 ^ 32 }
-        ensures all { IfOk result (λ r. r ≡ batches text.now) }
-        ensures count { IfOk result (λ r. length r.0 ≤ length text.now + 1) }
+        ensures all { IfOk result (λ r. r.left ≡ batches text.now) }
+        ensures count { IfOk result (λ r. length r.left.0 ≤ length text.now + 1) }
         ensures err { IfErr result (λ e. e ≡ ReadError.Memory) }
     {
+        let _length = text.len();
         Ok(BatchReader {
             reader: records_of(alloc, text),
             fields: ByteRecord::new(alloc),
@@ -54,11 +54,13 @@ impl<'a> BatchReader<'a> {
         })
     }
 
-    /// The next batch, or none where the text ends between batches. After an error it is answered for good.
+    /// The next batch, or none where the text ends between batches. An error that was answered is the answer of each
+    /// further call.
     pub fn next_batch(&mut self, alloc: Global) -> Result<Option<Batch>, ReadError>
-        ensures batch { IfOk result (λ o. IfSome o (λ b. self.old ≡ with_front b self.new)) }
-        ensures end { IfOk result (λ o. IfNone o ((self.old ≡ ([], clean)) × (self.new ≡ ([], clean)))) }
-        ensures err { IfErr result (λ e. StopsBy e self.old × (self.new ≡ ([], fault e))) }
+        ensures batch { IfOk result (λ o. IfSome o (λ b. self.old.left ≡ with_front b self.new.left)) }
+        ensures end { IfOk result (λ o. IfNone o ((self.old.left ≡ ([], clean)) × (self.new.left ≡ ([], clean)))) }
+        ensures err { IfErr result (λ e. StopsBy e self.old.left × (self.new ≡ stopped_at e)) }
+        ensures again { IfSome self.old.stopped (λ e. result ≡ Err e) }
     {
         match self.standing {
             Standing::Stopped(e) => return Err(e),

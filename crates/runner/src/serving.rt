@@ -66,7 +66,6 @@ pub(crate) fn run_batches<R: Threads + Sync, S: Sink, G: Gate>(
     requires alone { executor.old.earlier ≡ [] }
     requires sound { IsSoundState executor.old.cards executor.old.present }
     requires low { 1 ≤ executor.old.present.next }
-    requires small { length text.now < 2 ^ 32 }
     requires count { S.failed sink.old < 2 ^ 63 }
     ensures ok { IfOk result (Ran executor.old.cards executor.old.present (batches text.now) (S.taken sink.old) (S.taken sink.new)) }
     ensures err { IfErr result (λ e. Left e executor.old.cards executor.old.present (batches text.now) (S.taken sink.old) (S.taken sink.new)) }

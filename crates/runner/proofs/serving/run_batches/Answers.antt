@@ -21,17 +21,17 @@ serve_batch-requires-clause-low g c _ _ =
 pub serve_batch-requires-clause-few : goal.serve_batch-requires-clause-few
 serve_batch-requires-clause-few g c _ _ =
     let (same, done, read, count, line, completed, written) = c.batches.invariant in
-    let parts = next_in _ c.batches.reader c.next_batch.new.self done c.in-Ok-Some.batch read (search rules) in
-    short_batch c.args.text.now done c.in-Ok-Some.batch c.next_batch.new.self.0 parts
+    let parts = next_in _ c.batches.reader.left c.next_batch.new.self.left done c.in-Ok-Some.batch read (search rules) in
+    short_batch c.args.text.now done c.in-Ok-Some.batch c.next_batch.new.self.left.0 parts
 
 pub returns-in-Err-serve_batch-clause-err : goal.returns-in-Err-serve_batch-clause-err
 returns-in-Err-serve_batch-clause-err g c =
     let (same, done, read, count, line, completed, written) = c.batches.invariant in
     let cards = c.args.executor.now.cards in
     let state = c.args.executor.now.present in
-    let parts = next_in _ c.batches.reader c.next_batch.new.self done c.in-Ok-Some.batch read (search rules) in
+    let parts = next_in _ c.batches.reader.left c.next_batch.new.self.left done c.in-Ok-Some.batch read (search rules) in
     let left = subst (λ (l : Line). LeavesBatch c.in-Err-serve_batch.fault l.cards l.present c.in-Ok-Some.batch (g.S.Sink.taken c.batches.sink) (g.S.Sink.taken c.serve_batch.new.sink)) line c.in-Err-serve_batch.ensures.err in
-    left_in_batch cards state _ done c.in-Ok-Some.batch c.next_batch.new.self.0 _ _ _ parts completed written c.in-Err-serve_batch.fault left
+    left_in_batch cards state _ done c.in-Ok-Some.batch c.next_batch.new.self.left.0 _ _ _ parts completed written c.in-Err-serve_batch.fault left
 
 pub batches-preserved : goal.batches-preserved
 batches-preserved g c =
@@ -39,7 +39,7 @@ batches-preserved g c =
     let cards = c.args.executor.now.cards in
     let state = c.args.executor.now.present in
     let batch = c.in-Ok-Some.batch in
-    let split = reading-more _ c.batches.reader c.next_batch.new.self done batch read (search rules) in
+    let split = reading-more _ c.batches.reader.left c.next_batch.new.self.left done batch read (search rules) in
     let long = length-append done (batch ∷ []) in (
       search rules,
       done ++ batch ∷ [],
@@ -55,12 +55,12 @@ returns-then-is_err-clause-err g c =
     let (same, done, read, count, line, completed, written) = c.batches.invariant in
     let cards = c.args.executor.now.cards in
     let state = c.args.executor.now.present in
-    let end : c.batches.reader ≡ ([], clean) = search rules in
-    let all = all_read _ c.batches.reader done read end in
+    let end : c.batches.reader.left ≡ ([], clean) = search rules in
+    let all = all_read _ c.batches.reader.left done read end in
     (done, [], all ∙ sym (append-nil done), completed, (text cards state done, [], sym (append-nil (text cards state done)), then_kept _ _ _ _ written c.flush.ensures.bytes))
 
 pub returns-in-Err-next_batch-clause-kinds : goal.returns-in-Err-next_batch-clause-kinds
 returns-in-Err-next_batch-clause-kinds g c =
     let (same, done, read, count, line, completed, written) = c.batches.invariant in
-    let stops : StopsBy c.in-Err-next_batch.error c.batches.reader = search rules in
-    stops_by_records c.args.text.now c.batches.reader done c.in-Err-next_batch.error read stops
+    let stops : StopsBy c.in-Err-next_batch.error c.batches.reader.left = search rules in
+    stops_by_records c.args.text.now c.batches.reader.left done c.in-Err-next_batch.error read stops

@@ -11,11 +11,11 @@ use Rattle.runner.proofs.serving.run_batches.Given as goal
 abbrev pub invariant-batches : goal.invariant-batches
 invariant-batches g l = (g.S.Sink.failed l.sink ≡ g.S.Sink.failed l.initial.sink)
     × (written : List Batch)
-    × (batches l.text ≡ (written ++ l.reader.0, l.reader.1))
+    × (batches l.text ≡ (written ++ l.reader.left.0, l.reader.left.1))
     × (length written ≡ l.done)
     × (l.executor ≡ line_on l.initial.executor.cards l.initial.executor.present written)
     × AreCompleted l.initial.executor.cards l.initial.executor.present written
     × Appends (g.S.Sink.taken l.initial.sink) (g.S.Sink.taken l.sink) (text l.initial.executor.cards l.initial.executor.present written)
 
 abbrev pub decreases-batches : goal.decreases-batches
-decreases-batches g l = length l.reader.0
+decreases-batches g l = length l.reader.left.0
