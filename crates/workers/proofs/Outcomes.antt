@@ -13,7 +13,7 @@ use Rattle.tpcc_model.specs.Machine.{tpcc}
 use Rattle.tickets.proofs.Lists.{Some-injective, get_there}
 use Rattle.workers.specs.LevelEnds.{AreDone, IsPlaceDone, IsStray}
 use Rattle.workers.specs.Parts.{AreInOrder, CameOf, Drawn, IsOutcomeOf, is_stray, ticket_of}
-use Rattle.workers.specs.declared.job.PlaceOutcome.{PlaceOutcome}
+use Rattle.workers.specs.declared.placed_request.PlaceOutcome.{PlaceOutcome}
 use Rattle.workers.specs.declared.part.Outcome.{Outcome}
 use Rattle.workers.specs.declared.part.Outcome.TheVariants as came
 

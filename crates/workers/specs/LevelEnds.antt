@@ -12,14 +12,14 @@ use Rattle.requests.specs.declared.request.Request.{Request}
 use Rattle.tpcc_model.specs.Machine.{tpcc}
 use Rattle.transactions.specs.declared.exec_error.ExecError.{ExecError}
 use Rattle.transactions.specs.declared.exec_error.ExecError.TheVariants as exec_error
-use Rattle.workers.specs.declared.job.Job.{Job as JobInHand}
-use Rattle.workers.specs.declared.job.PlaceOutcome.{PlaceOutcome}
+use Rattle.workers.specs.declared.placed_request.PlacedRequest.{PlacedRequest}
+use Rattle.workers.specs.declared.placed_request.PlaceOutcome.{PlaceOutcome}
 use Rattle.workers.specs.declared.level.LevelEnd.{LevelEnd}
 use Rattle.workers.specs.declared.level.LevelEnd.TheVariants as level_end
 
 -- ---- one request
-abbrev pub job_of : JobInHand → Job Granule Request
-job_of job = record { number = job.number; request = job.request.now; declared = job.declared.now }
+abbrev pub job_of : PlacedRequest → Job Granule Request
+job_of placed = record { number = placed.number; request = placed.request.now; declared = placed.declared.now }
 
 -- the job, which doesn't stray on these rows, has this outcome at its place
 pub record IsPlaceDone (cards : Cards) (rows : Rows) (moment : ℕ) (job : Job Granule Request) (place : ℕ) (done : PlaceOutcome) : Type 0 where

@@ -17,7 +17,7 @@ use Rattle.tickets.specs.Entries.{has_stopped}
 use Rattle.tickets.specs.Once.{times}
 use Rattle.tickets.specs.Seats.{HasStopped as HasEnded, IsSeatOf, entry_of}
 use Rattle.workers.specs.LevelEnds.{IsPlaceDone}
-use Rattle.workers.specs.declared.job.PlaceOutcome.{PlaceOutcome}
+use Rattle.workers.specs.declared.placed_request.PlaceOutcome.{PlaceOutcome}
 use Rattle.workers.specs.declared.part.Outcome.{Outcome}
 use Rattle.workers.specs.declared.part.Outcome.TheVariants as outcome
 

@@ -4,8 +4,8 @@ ghost use Rattle.std.specs.List.{Any};
 ghost use Rattle.tickets.specs.Once.{once_below, times};
 ghost use Rattle.workers.specs.Parts.{AreGathered, AreInOrder, AreQuiet, IsFiledAt, is_stray, ticket_of};
 
-use crate::job::PlaceOutcome;
 use crate::part::Outcome;
+use crate::placed_request::PlaceOutcome;
 use std::alloc::Global;
 use tickets::Seat;
 use tpcc_rows::memory::Memory;

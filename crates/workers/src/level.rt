@@ -7,8 +7,8 @@ ghost use Rattle.workers.specs.Parts.{AreWorked, IsPartOf};
 
 use crate::filing::{gathered, in_order, stray_among};
 use crate::gate::Gate;
-use crate::job::PlaceOutcome;
 use crate::part::{Outcome, run_part};
+use crate::placed_request::PlaceOutcome;
 use catalog::Catalog;
 use requests::request::Batch;
 use rollback::PointedStore;

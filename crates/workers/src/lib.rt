@@ -4,14 +4,14 @@
 
 mod filing;
 mod gate;
-mod job;
 mod level;
 mod part;
+mod placed_request;
 
 pub use gate::{Gate, NoGate};
-pub use job::PlaceOutcome;
 pub use level::{LevelEnd, run_level};
 pub use part::{Outcome, run_seat};
+pub use placed_request::PlaceOutcome;
 pub use tickets::Workers;
 
 #[cfg(test)]

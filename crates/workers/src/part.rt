@@ -5,7 +5,7 @@ ghost use Rattle.tickets.specs.Seats.{IsNewSeatOf, IsSeatOf, entry_of, places_of
 ghost use Rattle.workers.specs.Parts.{IsOutcomeOf, IsPartOf, Raises, is_stray, ticket_of};
 
 use crate::gate::Gate;
-use crate::job::{PlaceOutcome, execute_job, job_at};
+use crate::placed_request::{PlaceOutcome, execute_placed, request_at};
 use catalog::Catalog;
 use requests::request::Batch;
 use rollback::PointedStore;
@@ -51,8 +51,8 @@ fn execute_ticket<G: Gate>(
     requires high { first + length batch.now.requests ≤ 1000000000000000 }
     ensures { IfOk result (λ outcome. IsOutcomeOf catalog.now store.now.rows batch.now first footprints.now places.now (ticket, outcome)) }
 {
-    let job = job_at(batch, first, footprints, places[ticket]);
-    match execute_job(alloc, catalog, store, batch.moment, job, gate) {
+    let placed = request_at(batch, first, footprints, places[ticket]);
+    match execute_placed(alloc, catalog, store, batch.moment, placed, gate) {
         Ok(done) => Ok(Outcome::Done(done)),
         Err(ExecError::Strayed) => Ok(Outcome::Strayed),
         Err(ExecError::Memory) => Err(Memory),

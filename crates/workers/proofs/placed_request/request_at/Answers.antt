@@ -1,8 +1,7 @@
 use Rattle.std.proofs.Common.{rules, ◌≡◌, ◌+◌, get_or, ap, ◌∙◌}
 use Rattle.workers.proofs.Jobs.{job_there}
-use Rattle.workers.proofs.job.job_at.Goals as goal
+use Rattle.workers.proofs.placed_request.request_at.Goals as goal
 
--- src/job.rt:38:1
 pub returns-clause-job : goal.returns-clause-job
 returns-clause-job c =
     let numbered : c.unwrap.result ≡ c.args.first + c.args.place = search rules in

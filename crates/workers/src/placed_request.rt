@@ -1,4 +1,4 @@
-//! One request of a level.
+//! One request of a level, at its place of the batch.
 ghost use Rattle.std.specs.Prelude.{◌≡◌, ◌+◌, ◌<◌, ◌≤◌, Some, length, slice_get, MatchResult};
 ghost use Rattle.serializability.specs.Levels.{job_strays, jobs};
 ghost use Rattle.tpcc_model.specs.Machine.{tpcc};
@@ -27,20 +27,20 @@ pub struct PlaceOutcome {
 
 /// The request at a place of a batch, with its number and what it declared.
 #[derive(Clone, Copy)]
-pub(crate) struct Job<'a> {
+pub(crate) struct PlacedRequest<'a> {
     pub place: usize,
     pub number: RequestNumber,
     pub request: &'a Request,
     pub declared: &'a Footprint,
 }
 
-/// The job at a place of the batch, whose first request has this number.
-pub(crate) fn job_at<'a>(
+/// The request at a place of the batch, whose first request has this number.
+pub(crate) fn request_at<'a>(
     batch: &'a Batch,
     first: u64,
     footprints: &'a [Footprint],
     place: usize,
-) -> Job<'a>
+) -> PlacedRequest<'a>
     requires there { place < length batch.now.requests }
     requires each { length footprints.now ≡ length batch.now.requests }
     requires low { 1 ≤ first }
@@ -49,7 +49,7 @@ pub(crate) fn job_at<'a>(
     ensures place { result.place ≡ place }
     ensures number { result.number ≡ first + place }
 {
-    Job {
+    PlacedRequest {
         place,
         number: RequestNumber::new(first + place as u64).unwrap(),
         request: &batch.requests.as_slice()[place],
@@ -57,27 +57,27 @@ pub(crate) fn job_at<'a>(
     }
 }
 
-/// Executes the job on the rows that its footprint lends.
-pub(crate) fn execute_job<G: Gate>(
+/// Executes the request on the rows that its footprint lends.
+pub(crate) fn execute_placed<G: Gate>(
     alloc: Global,
     catalog: &Catalog,
     store: &PointedStore,
     moment: Moment,
-    job: Job<'_>,
+    placed: PlacedRequest<'_>,
     gate: &G,
 ) -> Result<PlaceOutcome, ExecError>
-    ensures { MatchResult result (IsPlaceDone catalog.now store.now.rows moment (job_of job.entry) job.entry.place) (StraysWhere (job_strays (tpcc catalog.now moment) store.now.rows (job_of job.entry))) }
+    ensures { MatchResult result (IsPlaceDone catalog.now store.now.rows moment (job_of placed.entry) placed.entry.place) (StraysWhere (job_strays (tpcc catalog.now moment) store.now.rows (job_of placed.entry))) }
 {
     let view = Loan {
         store,
-        footprint: job.declared,
+        footprint: placed.declared,
     };
-    gate.enter(job.place);
-    let outcome = execute(alloc, catalog, job.request, job.number, moment, &view);
-    gate.leave(job.place);
+    gate.enter(placed.place);
+    let outcome = execute(alloc, catalog, placed.request, placed.number, moment, &view);
+    gate.leave(placed.place);
     let (reply, changes) = outcome?;
     Ok(PlaceOutcome {
-        place: job.place,
+        place: placed.place,
         reply,
         changes,
     })
