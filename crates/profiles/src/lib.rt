@@ -1,7 +1,6 @@
 //! Profiles: what a request will touch, told before its batch runs.
 #![tactic(auto)]
 
-mod choice;
 mod delivery;
 mod new_order;
 mod order_status;

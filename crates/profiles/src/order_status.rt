@@ -3,11 +3,11 @@ ghost use Rattle.std.specs.Prelude.{◌≡◌, IfOk};
 ghost use Rattle.tpcc_model.specs.Touches.{asked_customer, order_status_touch};
 ghost use Rattle.tpcc_rows.specs.RowMap.{Rows};
 
-use crate::choice::chosen_customer;
 use catalog::Catalog;
 use requests::reply::RequestRefusal;
 use requests::request::OrderStatus;
 use std::alloc::Global;
+use tpcc_model::choice::chosen_customer;
 use tpcc_rows::footprint::Footprint;
 use tpcc_rows::granule::Granule;
 use tpcc_rows::id::CustomerId;

@@ -5,11 +5,11 @@ ghost use Rattle.profiles.specs.Found.{paying_customer};
 ghost use Rattle.tpcc_model.specs.Touches.{payment_touch};
 ghost use Rattle.tpcc_rows.specs.RowMap.{Rows};
 
-use crate::choice::chosen_customer;
 use catalog::Catalog;
 use requests::reply::RequestRefusal;
 use requests::request::Payment;
 use std::alloc::Global;
+use tpcc_model::choice::chosen_customer;
 use tpcc_rows::footprint::Footprint;
 use tpcc_rows::granule::Granule;
 use tpcc_rows::id::CustomerId;

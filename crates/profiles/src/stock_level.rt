@@ -4,13 +4,13 @@ ghost use Rattle.std.specs.Prelude.{◌≡◌, ◌-◌, option_copied, IfOk, OnO
 ghost use Rattle.serializability.specs.Footprints.{joined};
 ghost use Rattle.tpcc_model.specs.StockLevels.{first_recent};
 ghost use Rattle.tpcc_model.specs.Touches.{line_touch, lines_touch, orders_touch, stock_level_touch};
-ghost use Rattle.tpcc_rows.specs.Limits.{IsBetween};
 ghost use Rattle.tpcc_rows.specs.Rows.{order_line_row};
 
 use catalog::Catalog;
 use requests::request::StockLevel;
 use rollback::PointedStore;
 use std::alloc::Global;
+use tpcc_model::number::{line_number, order_id};
 use tpcc_rows::footprint::Footprint;
 use tpcc_rows::granule::Granule;
 use tpcc_rows::id::{LineNumber, OrderId};
@@ -55,13 +55,6 @@ fn touch_line(
     }
 }
 
-fn line_number(number: u8) -> LineNumber
-    requires { IsBetween 1 15 number }
-    ensures { result ≡ number }
-{
-    LineNumber::new(number).unwrap()
-}
-
 /// The order's lines, of which there are at most fifteen.
 fn touch_lines(
     catalog: &Catalog,
@@ -77,13 +70,6 @@ fn touch_lines(
         touch_line(catalog, p, line, footprint)?;
     }
     Ok(())
-}
-
-fn order_id(number: u32) -> OrderId
-    requires { IsBetween 1 9999999 number }
-    ensures { result ≡ number }
-{
-    OrderId::new(number).unwrap()
 }
 
 /// The last twenty orders before the next one.

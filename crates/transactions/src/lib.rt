@@ -1,7 +1,6 @@
 //! The transactions: what one request answers, and which rows it changes.
 #![tactic(auto)]
 
-mod choice;
 mod delivery;
 pub mod exec_error;
 mod fault;

@@ -6,7 +6,6 @@ ghost use Rattle.tpcc_model.specs.Database.{Database};
 ghost use Rattle.tpcc_model.specs.NewOrders.{all_local, line_done, lines_done, new_order, opened, order_of, raised_district};
 ghost use Rattle.tpcc_model.specs.Steps.{new_order_outcome};
 ghost use Rattle.tpcc_model.specs.Touches.{new_order_touch, ordered_touch, placed_touch};
-ghost use Rattle.tpcc_rows.specs.Limits.{IsBetween};
 ghost use Rattle.tpcc_rows.specs.Prices.{total_cents};
 ghost use Rattle.transactions.specs.Faults.{AnswersBy, AnswersWithin};
 ghost use Rattle.transactions.specs.Lending.{lent};
@@ -25,6 +24,7 @@ use catalog::{Catalog, CustomerCard, DistrictCard, WarehouseCard};
 use requests::reply::{LineReplies, LineReply, NewOrderReply, Reply, RequestRefusal};
 use requests::request::{NewOrder, OrderedLine, RequestKind};
 use std::alloc::Global;
+use tpcc_model::number::line_number;
 use tpcc_rows::delta::Delta;
 use tpcc_rows::granule::Granule;
 use tpcc_rows::id::{LineNumber, OrderId, WarehouseId};
@@ -41,13 +41,6 @@ fn raised_district(old: &DistrictRow) -> Result<DistrictRow, RequestRefusal>
 {
     let next_order = old.next_order.next().ok_or(RequestRefusal::LimitReached)?;
     Ok(DistrictRow { next_order, ..*old })
-}
-
-pub(crate) fn line_number(number: usize) -> LineNumber
-    requires { IsBetween 1 15 number }
-    ensures { result ≡ number }
-{
-    LineNumber::new(number as u8).unwrap()
 }
 
 fn all_local(warehouse: WarehouseId, lines: &[OrderedLine]) -> bool

@@ -11,15 +11,15 @@ ghost use Rattle.transactions.specs.Lending.{lent};
 ghost use Rattle.transactions.specs.Outcomes.{Executes};
 ghost use Rattle.worker_rows.specs.Views.{covers};
 
-use crate::choice::chosen_customer;
 use crate::exec_error::ExecError;
 use crate::fault::Fault;
 use crate::lent;
-use crate::new_order::line_number;
 use catalog::{Catalog, CustomerCard};
 use requests::reply::{OrderStatusReply, Reply, RequestRefusal, ShownLine, ShownLines, ShownOrder};
 use requests::request::{OrderStatus, RequestKind};
 use std::alloc::Global;
+use tpcc_model::choice::chosen_customer;
+use tpcc_model::number::line_number;
 use tpcc_rows::delta::Delta;
 use tpcc_rows::id::{CustomerId, LineNumber, OrderId};
 use tpcc_rows::row::{CustomerRow, OrderLineRow, OrderRow};

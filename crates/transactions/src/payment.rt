@@ -11,7 +11,6 @@ ghost use Rattle.transactions.specs.Lending.{lent};
 ghost use Rattle.transactions.specs.Outcomes.{Executes, paid_of};
 ghost use Rattle.worker_rows.specs.Views.{covers};
 
-use crate::choice::chosen_customer;
 use crate::exec_error::ExecError;
 use crate::fault::Fault;
 use crate::lent;
@@ -20,6 +19,7 @@ use requests::number::PaymentAmount;
 use requests::reply::{PaymentReply, Reply, RequestRefusal, ShownCredit};
 use requests::request::{Payment, RequestKind};
 use std::alloc::Global;
+use tpcc_model::choice::chosen_customer;
 use tpcc_rows::delta::Delta;
 use tpcc_rows::granule::Granule;
 use tpcc_rows::id::{CustomerId, RequestNumber};

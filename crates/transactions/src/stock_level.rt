@@ -7,7 +7,6 @@ ghost use Rattle.tpcc_model.specs.Database.{Database};
 ghost use Rattle.tpcc_model.specs.StockLevels.{first_recent, is_low, low_items, stock_level, with_line, with_lines};
 ghost use Rattle.tpcc_model.specs.Steps.{stock_level_outcome};
 ghost use Rattle.tpcc_model.specs.Touches.{item_touch, line_touch, lines_touch, orders_touch, stock_level_touch};
-ghost use Rattle.tpcc_rows.specs.Limits.{IsBetween};
 ghost use Rattle.transactions.specs.Faults.{AnswersWithin, EndsWithin};
 ghost use Rattle.transactions.specs.Lending.{lent};
 ghost use Rattle.transactions.specs.LowItems.{IsHeld};
@@ -17,12 +16,12 @@ ghost use Rattle.worker_rows.specs.Views.{covers};
 use crate::exec_error::ExecError;
 use crate::fault::Fault;
 use crate::lent;
-use crate::new_order::line_number;
 use catalog::Catalog;
 use requests::reply::{Reply, RequestRefusal, StockLevelReply};
 use requests::request::{RequestKind, StockLevel};
 use std::alloc::{AllocError, Global};
 use std::collections::BTreeSet;
+use tpcc_model::number::{line_number, order_id};
 use tpcc_rows::delta::Delta;
 use tpcc_rows::id::{ItemId, OrderId};
 use tpcc_rows::row::OrderLineRow;
@@ -55,13 +54,6 @@ fn hold(items: &mut BTreeSet<ItemId>, item: ItemId) -> Result<(), AllocError>
 {
     items.insert(item)?;
     Ok(())
-}
-
-fn order_id(number: u32) -> OrderId
-    requires { IsBetween 1 9999999 number }
-    ensures { result ≡ number }
-{
-    OrderId::new(number).unwrap()
 }
 
 /// Holds the item of the line too, where it is low.

@@ -7,7 +7,7 @@ use requests::request::CustomerChoice;
 use tpcc_rows::id::{CustomerId, DistrictId, WarehouseId};
 
 /// The number of the customer of the district whom a request means.
-pub(crate) fn chosen_customer(
+pub fn chosen_customer(
     catalog: &Catalog,
     warehouse: WarehouseId,
     district: DistrictId,
