@@ -1,7 +1,8 @@
--- All nodes of a tree in one list, in heap order: the root at 1, the children of i at 2 i and 2 i + 1, leaf n at 4,096 + n.
+-- All nodes of a tree in one list, in heap order: the root at 1, the children of i at 2 i and 2 i + 1, leaf n at LEAVES + n.
 use Rattle.std.specs.Prelude.{◌≡◌, ℕ, ◌+◌, ◌*◌, ◌<◌, ◌≤◌, List, [], length, get_or}
 use Rattle.tpcc_model.specs.Roots.{joined, leaf_hash}
 use Rattle.tpcc_rows.specs.RowMap.{Rows}
+use Rattle.tpcc_rows.specs.declared.codes.TheConstants.{LEAVES}
 
 -- the hash at a place
 abbrev pub at : List (List ℕ) → ℕ → List ℕ
@@ -13,9 +14,9 @@ pub record IsJoin (nodes : List (List ℕ)) (i : ℕ) : Type 0 where
 
 -- each inner node is the hash of its children
 pub record IsTree (nodes : List (List ℕ)) : Type 0 where
-  pub full : length nodes ≡ 8192
-  pub joins : (i : ℕ) → 1 ≤ i → i < 4096 → IsJoin nodes i
+  pub full : length nodes ≡ 2 * LEAVES
+  pub joins : (i : ℕ) → 1 ≤ i → i < LEAVES → IsJoin nodes i
 
 -- each leaf hash is that of the rows
 pub record IsOf (leaves : List (List ℕ)) (rows : Rows) : Type 0 where
-  pub each : (n : ℕ) → n < 4096 → at leaves n ≡ leaf_hash rows n
+  pub each : (n : ℕ) → n < LEAVES → at leaves n ≡ leaf_hash rows n

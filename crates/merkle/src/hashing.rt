@@ -22,11 +22,14 @@ const NODE: u8 = 1;
 /// The most bytes of a row.
 const ROW_BYTES: usize = 536;
 
+/// How many bytes wait at most.
+const WAITING_BYTES: usize = 4096;
+
 /// What goes to SHA-256, gathered from the bytes of rows: given to it row by row, a tree took half as long again.
 #[derive(Drop)]
 struct Gathered {
     hasher: Sha256,
-    waiting: ByteBuf<4096>,
+    waiting: ByteBuf<WAITING_BYTES>,
 }
 
 impl Gathered {
@@ -45,7 +48,7 @@ impl Gathered {
     /// What waits goes on where there is room for fewer bytes.
     fn make_room(&mut self, bytes: usize)
         ensures fed { (m : List ℕ) → IsFed self.old m → IsFed self.new m }
-        ensures room { bytes ≤ 4096 → length self.new.waiting + bytes ≤ 4096 }
+        ensures room { bytes ≤ WAITING_BYTES → length self.new.waiting + bytes ≤ WAITING_BYTES }
     {
         if self.waiting.room() < bytes {
             self.hasher.update(self.waiting.as_slice());
@@ -72,9 +75,9 @@ impl Gathered {
     }
 }
 
-/// How many bytes suffice for the rows of a page. A customer's row stands in a place of its own. Those of the page are looked
-/// at here, right after each other, before the first is encoded: so they come from memory together, where the encoder
-/// would wait for each of them in its turn.
+/// Prefetches the rows of a page; the answer is how many bytes suffice for them. A customer's row is reference-counted, and
+/// so lies apart from the page. Read one right after the other, before the first is encoded, the page's customers come from
+/// memory together, where the encoder would wait for each of them in its turn.
 fn prefetch_rows(page: &RowStore) -> usize {
     let mut bytes = 0usize;
     for (_, row) in page.iter() {
@@ -83,7 +86,7 @@ fn prefetch_rows(page: &RowStore) -> usize {
     bytes
 }
 
-/// How many bytes suffice for the first row of a page.
+/// Prefetches the first row of a page; the answer is how many bytes suffice for it.
 pub(crate) fn prefetch_first_row(page: &RowStore) -> usize {
     match page.iter().next() {
         Some((_, row)) => enough_bytes(row),

@@ -13,13 +13,14 @@ use tpcc_rows::codes::LEAVES;
 /// How many leaves one thread takes at least: few enough that all threads have work to the end.
 const LEAVES_AT_ONCE: usize = 64;
 
-/// How many leaves have their first rows looked at together.
+/// How many leaves have their first rows prefetched together.
 const TOGETHER: usize = 8;
 
-/// How many bytes suffice for the first rows of the leaves from this one on. To find the rows of a leaf is to follow a few
-/// pointers one after the other; those of several leaves are followed here together, before the first is hashed.
+/// Prefetches the first rows of the leaves from this one on; the answer is how many bytes suffice for them. To find the rows
+/// of a leaf is to follow a few pointers one after the other; those of several leaves are followed here together, before the
+/// first is hashed.
 fn prefetch_first_rows(store: &PointedStore, first: usize) -> usize
-    requires { first < 4096 }
+    requires { first < LEAVES }
 {
     let mut bytes = 0usize;
     for n in first..(first + TOGETHER).min(LEAVES) {
@@ -31,7 +32,7 @@ fn prefetch_first_rows(store: &PointedStore, first: usize) -> usize
 /// The hash of a leaf.
 #[tactic(auto, unfolding(tpcc_model::specs::Roots::leaf_hash))]
 fn nth_hash(store: &PointedStore, n: usize) -> [u8; 32]
-    requires { n < 4096 }
+    requires { n < LEAVES }
     ensures { result ≡ leaf_hash store.now.rows n }
 {
     let more = if n % TOGETHER == 0 {
@@ -48,7 +49,7 @@ pub(crate) fn leaf_hashes<R: Threads + Sync>(
     alloc: Global,
     store: &PointedStore,
 ) -> Result<Vec<[u8; 32]>, AllocError>
-    ensures len { IfOk result (λ hashes. length hashes.items ≡ 4096) }
+    ensures len { IfOk result (λ hashes. length hashes.items ≡ LEAVES) }
     ensures each { IfOk result (λ hashes. IsOf hashes.items store.now.rows) }
 {
     (0..LEAVES)
@@ -56,7 +57,7 @@ pub(crate) fn leaf_hashes<R: Threads + Sync>(
         .with_min_len(LEAVES_AT_ONCE)
         .map(
             |n: usize| -> [u8; 32]
-                requires { n < 4096 }
+                requires { n < LEAVES }
                 ensures { result ≡ leaf_hash store.entry.now.rows n }
             { nth_hash(store, n) },
         )

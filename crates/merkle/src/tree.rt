@@ -1,5 +1,5 @@
 //! All nodes of the tree.
-ghost use Rattle.std.specs.Prelude.{◌≡◌, ◌<◌, ◌≤◌, ℕ, drop, length, IfOk};
+ghost use Rattle.std.specs.Prelude.{◌≡◌, ◌<◌, ◌≤◌, ◌*◌, ℕ, drop, length, IfOk};
 ghost use Rattle.merkle.specs.Nodes.{IsJoin, IsOf, IsTree};
 ghost use Rattle.tpcc_model.specs.Roots.{root};
 ghost use Rattle.tpcc_rows.specs.RowMap.{Rows};
@@ -15,10 +15,10 @@ use tpcc_rows::memory::Memory;
 
 /// Joins the inner nodes, from the lowest up.
 fn join_all(nodes: &mut [[u8; 32]])
-    requires { length nodes.old ≡ 8192 }
-    ensures full { length nodes.new ≡ 8192 }
-    ensures joins { (i : ℕ) → 1 ≤ i → i < 4096 → IsJoin nodes.new i }
-    ensures leaves { drop 4096 nodes.new ≡ drop 4096 nodes.old }
+    requires { length nodes.old ≡ 2 * LEAVES }
+    ensures full { length nodes.new ≡ 2 * LEAVES }
+    ensures joins { (i : ℕ) → 1 ≤ i → i < LEAVES → IsJoin nodes.new i }
+    ensures leaves { drop LEAVES nodes.new ≡ drop LEAVES nodes.old }
 {
     for i in (1..LEAVES).rev() {
         nodes[i] = join(&nodes[2 * i], &nodes[2 * i + 1]);
@@ -28,10 +28,10 @@ fn join_all(nodes: &mut [[u8; 32]])
 /// Puts the leaves at their places, and joins the nodes above them.
 #[tactic(auto, using(crate::proofs::Joins::leaves_after))]
 fn place_leaves(nodes: &mut [[u8; 32]], leaves: &[[u8; 32]])
-    requires room { length nodes.old ≡ 8192 }
-    requires leaves { length leaves.now ≡ 4096 }
+    requires room { length nodes.old ≡ 2 * LEAVES }
+    requires leaves { length leaves.now ≡ LEAVES }
     ensures tree { IsTree nodes.new }
-    ensures leaves { drop 4096 nodes.new ≡ leaves.now }
+    ensures leaves { drop LEAVES nodes.new ≡ leaves.now }
 {
     let (_, places) = nodes.split_at_mut(LEAVES);
     places.copy_from_slice(leaves);
@@ -48,10 +48,11 @@ pub struct Tree {
 impl Model for Tree {
     ghost use Rattle.std.specs.Prelude.{ℕ, List, drop};
     ghost use Rattle.merkle.specs.Nodes.{IsTree};
+    ghost use Rattle.tpcc_rows.specs.declared.codes.TheConstants.{LEAVES};
 
     ghost Value = { List (List ℕ) };
 
-    ghost view = { λ t. drop 4096 t.nodes.items };
+    ghost view = { λ t. drop LEAVES t.nodes.items };
 
     ghost invariant = { λ t. IsTree t.nodes.items };
 }
