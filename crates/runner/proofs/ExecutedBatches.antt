@@ -1,5 +1,5 @@
 -- A batch that was executed, and its record.
-use Rattle.std.proofs.Common.{◌≡◌, ◌∙◌, ◌+◌, ◌++◌, ℕ, Bool, true, false, List, length, Some, None, inl, inr, refl, ap, ap₂, subst}
+use Rattle.std.proofs.Common.{◌≡◌, ◌∙◌, ◌+◌, ◌++◌, ℕ, Bool, true, false, List, length, Some, None, inl, inr, refl, ap, subst}
 use Rattle.std.specs.Prelude.{nat_lt, if◌then◌else◌}
 use Rattle.std.proofs.lemmas.Bool.{cases_Bool, ltb-false}
 use Rattle.serializability.proofs.Folding.{length-fold_replies}
@@ -14,7 +14,7 @@ use Rattle.executor.specs.declared.refusal.Refusal.TheVariants as refusal
 use Rattle.requests.specs.declared.request.Batch.{Batch}
 use Rattle.requests.specs.declared.reply.Reply.{Reply}
 use Rattle.runner.specs.Runs.{Completes, NumbersFit}
-use Rattle.runner.specs.Text.{batch_record_text, batch_text, replies_text}
+use Rattle.runner.specs.Text.{batch_record_text, batch_text, completed_text, replies_text}
 use Rattle.tpcc_model.specs.Serial.{State, batch_replies}
 use Rattle.tpcc_model.specs.Steps.{steps_at}
 
@@ -49,6 +49,4 @@ pub recorded_text : (cards : Cards) (state : State) (batch : Batch) (r : Record)
     → replies_text r.first r.replies.items ++ batch_record_text r.sequence r.path r.token ≡ batch_text cards state batch
 unfolding batch_text
 recorded_text cards state batch r is =
-    ap₂ (λ (first : ℕ) (replies : List Reply). replies_text first replies ++ batch_record_text r.sequence r.path r.token) is.first is.replies
-    ∙ ap₂ (λ (sequence : ℕ) (path : Path). replies_text state.next (batch_replies cards state batch) ++ batch_record_text sequence path r.token) is.sequence is.path
-    ∙ ap (λ (token : List ℕ). replies_text state.next (batch_replies cards state batch) ++ batch_record_text (state.sequence + 1) (path_of cards state batch) token) is.token
+    (λ i. completed_text (record { sequence = is.sequence i; first = is.first i; replies = is.replies i; token = is.token i; path = is.path i }))

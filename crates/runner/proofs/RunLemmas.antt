@@ -1,11 +1,13 @@
 -- Runs of batches, and one batch more.
-use Rattle.std.proofs.Common.{◌≡◌, ◌≤◌, ◌∙◌, ◌+◌, ℕ, List, [], ◌∷◌, ◌++◌, length, Option, Some, None, inl, inr, refl, sym, ap, subst, append_assoc, arith}
+use Rattle.std.proofs.Common.{◌≡◌, ◌⊎◌, ◌≤◌, ◌∙◌, ◌+◌, ℕ, zero, suc, List, [], ◌∷◌, ◌++◌, length, take, Option, Some, None, inl, inr, refl, sym, ap, subst, append_assoc, arith}
 use Rattle.std.specs.Prelude.{◌==◌, Result, Ok, Err}
 use Rattle.std.proofs.lemmas.Bool.{cases_Bool}
-use Rattle.std.proofs.lemmas.List.{append-nil}
+use Rattle.std.proofs.lemmas.List.{append-nil, take_all}
 use Rattle.std.specs.Io.KnownBytes.{Appends, Keeps}
 use Rattle.catalog.specs.CardMap.{Cards}
+use Rattle.executor.specs.Headline.{Headline, all_serially}
 use Rattle.executor.specs.Lines.{Line, committed, extended}
+use Rattle.executor.specs.States.{IsSoundState}
 use Rattle.executor.specs.declared.refusal.Refusal.TheVariants as refusal
 use Rattle.requests.specs.BatchRecords.{head_at, request_at}
 use Rattle.requests.specs.Batches.{End, Place, Reading, StopsBy, batches, begun, between, clean, continued, fault, fault_of, reading_from, settled, with_front, within}
@@ -18,11 +20,12 @@ use Rattle.requests.specs.declared.request.Request.{Request}
 use Rattle.records.specs.Io.{AppendsFront}
 use Rattle.requests.specs.declared.request.Batch.{Batch}
 use Rattle.records.proofs.IoLemmas.{appends_twice}
-use Rattle.runner.specs.Runs.{AreCompleted, Began, Completes, IsOfRecords, LeavesBatch, Left, Taken, TookFront}
+use Rattle.runner.specs.Runs.{AllFit, AreCompleted, Began, Completes, IsOfRecords, LeavesBatch, Left, NumbersFit, Taken, TookFront}
 use Rattle.runner.specs.Text.{batch_text, text}
 use Rattle.runner.specs.declared.fault.RunFault.{RunFault}
 use Rattle.runner.specs.declared.fault.RunFault.TheVariants as run_fault
 use Rattle.tpcc_model.specs.Serial.{State, after_batch, next_number, opening, serial}
+use Rattle.tpcc_model.specs.Soundness.{IsSound}
 use Rattle.tpcc_rows.specs.RowMap.{Rows}
 
 -- nothing was appended
@@ -59,9 +62,57 @@ text-both cards state (b ∷ done) more =
     ap (λ t. batch_text cards state b ++ t) (text-both cards (after_batch cards state b) done more)
     ∙ sym (append_assoc (batch_text cards state b) (text cards (after_batch cards state b) done) (text cards (serial cards (after_batch cards state b) done) more))
 
+-- ---- completed batches
+length-all : (cards : Cards) (state : State) (done : List Batch) → length (all_serially cards state done) ≡ length done
+length-all cards state [] = refl
+length-all cards state (b ∷ done) = ap suc (length-all cards (after_batch cards state b) done)
+
+-- a batch more takes none of those before it
+take-more : (count : ℕ) (done : List Batch) (batch : Batch) → count ≤ length (done ++ batch ∷ []) → (count ≤ length done × (take count (done ++ batch ∷ []) ≡ take count done)) ⊎ (take count (done ++ batch ∷ []) ≡ done ++ batch ∷ [])
+take-more zero done batch low = inl (omega arith, refl)
+take-more (suc zero) [] batch low = inr refl
+take-more (suc (suc n)) [] batch low = absurd (omega (arith, low))
+take-more (suc n) (b ∷ done) batch low = elim (take-more n done batch (omega (arith, low))) [
+  | inl (within, same) ↦ inl (omega (arith, within), ap (λ (bs : List Batch). b ∷ bs) same)
+  | inr same ↦ inr (ap (λ (bs : List Batch). b ∷ bs) same)
+]
+
+fit-more : (cards : Cards) (state : State) (done : List Batch) (batch : Batch) → AllFit cards state done → NumbersFit (serial cards state done) batch → AllFit cards state (done ++ batch ∷ [])
+fit-more cards state [] batch all one = (one, tt)
+fit-more cards state (b ∷ done) batch all one = (all.0, fit-more cards (after_batch cards state b) done batch all.1 one)
+
+-- what one thread completes has the headline where each state on the way is sound
+pub headline_by : (cards : Cards) (state : State) (done : List Batch)
+    → ((count : ℕ) → count ≤ length done → IsSound (record { cards = cards; rows = (serial cards state (take count done)).rows }))
+    → Headline cards state done (all_serially cards state done) (serial cards state done)
+headline_by cards state done sound =
+    let same = length-all cards state done in
+    let all : done ≡ take (length (all_serially cards state done)) done = sym (take_all (length (all_serially cards state done)) done (omega (arith, same))) in
+    let low : (count : ℕ) → count ≤ length (all_serially cards state done) → count ≤ length done = λ count within. omega (arith, within, same) in
+    record {
+      batches_as_serial = ap (all_serially cards state) all;
+      state_as_serial = ap (serial cards state) all;
+      sound = λ count within. sound count (low count within);
+      conditions = λ count within. let is = sound count (low count within) in record { condition_1 = is.condition_1; conditions_2_to_4 = is.districts };
+    }
+
+pub completed-none : (cards : Cards) (state : State) → IsSoundState cards state → AreCompleted cards state []
+completed-none cards state sound = (tt, headline_by cards state [] (λ count low. subst (λ (bs : List Batch). IsSound (record { cards = cards; rows = (serial cards state bs).rows })) (sym (take-none count)) sound.database))
+  where
+    take-none : (count : ℕ) → take count ([] : List Batch) ≡ []
+    take-none zero = refl
+    take-none (suc n) = refl
+
 pub completed-more : (cards : Cards) (state : State) (done : List Batch) (batch : Batch) → AreCompleted cards state done → Completes cards (serial cards state done) batch → AreCompleted cards state (done ++ batch ∷ [])
-completed-more cards state [] batch all one = (all, one.0, one.1)
-completed-more cards state (b ∷ done) batch all one = (all.0, all.1, completed-more cards (after_batch cards state b) done batch all.2 one)
+completed-more cards state done batch all one = (fit-more cards state done batch all.0 one.0, headline_by cards state (done ++ batch ∷ []) each)
+  where
+    is_sound : List Batch → Type 0
+    is_sound bs = IsSound (record { cards = cards; rows = (serial cards state bs).rows })
+    each : (count : ℕ) → count ≤ length (done ++ batch ∷ []) → is_sound (take count (done ++ batch ∷ []))
+    each count low = elim (take-more count done batch low) [
+      | inl (within, same) ↦ subst is_sound (sym same) (all.1.sound count (let same_length = length-all cards state done in omega (arith, within, same_length)))
+      | inr same ↦ subst is_sound (sym same) (subst (λ (s : State). IsSound (record { cards = cards; rows = s.rows })) (sym (serial-more cards state done batch)) one.1.database)
+    ]
 
 pub text-more : (cards : Cards) (state : State) (done : List Batch) (batch : Batch) (old mid new : Taken) → Appends old mid (text cards state done) → Appends mid new (batch_text cards (serial cards state done) batch)
     → Appends old new (text cards state (done ++ batch ∷ []))

@@ -6,7 +6,7 @@ use Rattle.executor.specs.declared.refusal.Refusal.TheVariants as refusal
 use Rattle.loader.specs.Image.{image}
 use Rattle.records.specs.Io.{AppendsFront}
 use Rattle.requests.specs.Batches.{batches}
-use Rattle.runner.proofs.RunLemmas.{then_kept}
+use Rattle.runner.proofs.RunLemmas.{completed-none, then_kept}
 use Rattle.runner.specs.CheckTexts.{ChecksImage, LeavesCheck, opening_text}
 use Rattle.runner.specs.Runs.{Taken}
 use Rattle.runner.specs.WholeRuns.{IsOfDatabase, LeavesDatabase, LeavesRun, RanOn, RanWhole}
@@ -22,7 +22,7 @@ nothing_taken (Some xs) = sym (append-nil xs)
 
 pub refused_at_once : (db : Database) (left : Option (List ℕ)) (t : Taken) → IsSoundState db.cards (opening db.cards db.rows) → IfSome left (λ batch_bytes. LeavesDatabase (run_fault.Exec refusal.Memory) db batch_bytes t t)
 refused_at_once db None t sound = tt
-refused_at_once db (Some batch_bytes) t sound = ([], (batches batch_bytes).0, record { parts = refl; completed = sound; written = nothing_taken t })
+refused_at_once db (Some batch_bytes) t sound = ([], (batches batch_bytes).0, record { parts = refl; completed = completed-none db.cards (opening db.cards db.rows) sound; written = nothing_taken t })
 
 -- ---- a run on the database of an image
 pub ran_whole : (r : Result ℕ RunFault) (images batches : Option (List ℕ)) (db : Database) (old new : Taken) → IfSome images (λ image_bytes. image image_bytes ≡ Ok db)

@@ -2,6 +2,7 @@
 use Rattle.std.specs.Prelude.{◌≡◌, ◌⊎◌, ℕ, ◌+◌, ◌<◌, ◌≤◌, Bool, true, false, List, [], ◌∷◌, ◌++◌, length, Option, Result, Ok, Err}
 use Rattle.std.specs.Io.KnownBytes.{Appends, Keeps}
 use Rattle.catalog.specs.CardMap.{Cards}
+use Rattle.executor.specs.Headline.{Headline, all_serially}
 use Rattle.executor.specs.States.{IsSoundState}
 use Rattle.executor.specs.declared.refusal.Refusal.TheVariants as refusal
 use Rattle.requests.specs.Batches.{Reading, clean, fault}
@@ -25,11 +26,13 @@ NumbersFit state batch = (state.sequence + 1 ≤ 999999999999999) × (state.next
 abbrev pub NumbersExhaust : State → Batch → Type 0
 NumbersExhaust state batch = (999999999999999 < state.sequence + 1) ⊎ (1000000000000000 < state.next + length batch.requests)
 
--- batches that are completed one after the other: the numbers of each fit, and each state, the first and the last included,
--- is sound: the four consistency conditions hold
+abbrev pub AllFit : Cards → State → List Batch → Type 0
+AllFit cards state [] = Unit {0}
+AllFit cards state (batch ∷ batches) = NumbersFit state batch × AllFit cards (after_batch cards state batch) batches
+
+-- batches that were completed one after the other: their numbers fit, and the headline holds of them
 abbrev pub AreCompleted : Cards → State → List Batch → Type 0
-AreCompleted cards state [] = IsSoundState cards state
-AreCompleted cards state (batch ∷ batches) = IsSoundState cards state × NumbersFit state batch × AreCompleted cards (after_batch cards state batch) batches
+AreCompleted cards state batches = AllFit cards state batches × Headline cards state batches (all_serially cards state batches) (serial cards state batches)
 
 -- the numbers of a batch fit, and the state that it leaves is sound
 abbrev pub Completes : Cards → State → Batch → Type 0

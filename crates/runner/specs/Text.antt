@@ -2,7 +2,7 @@
 use Rattle.std.specs.Prelude.{ℕ, ◌+◌, List, [], ◌∷◌, ◌++◌, codes, decimal}
 use Rattle.hex.specs.Hex.{encode_lower}
 use Rattle.catalog.specs.CardMap.{Cards}
-use Rattle.executor.specs.Paths.{path_of}
+use Rattle.executor.specs.Headline.{Completed, completed_serially}
 use Rattle.executor.specs.declared.path.Path.{Path}
 use Rattle.executor.specs.declared.path.Path.TheVariants as path
 use Rattle.records.specs.Fields.{Fields}
@@ -10,7 +10,7 @@ use Rattle.requests.specs.Replies.{reply_text}
 use Rattle.records.specs.Spelling.{text_of_record}
 use Rattle.requests.specs.declared.reply.Reply.{Reply}
 use Rattle.requests.specs.declared.request.Batch.{Batch}
-use Rattle.tpcc_model.specs.Serial.{State, after_batch, batch_replies}
+use Rattle.tpcc_model.specs.Serial.{State, after_batch}
 
 -- the records of replies, the first with this number
 abbrev pub replies_text : ℕ → List Reply → List ℕ
@@ -36,9 +36,12 @@ abbrev pub batch_record_text : ℕ → Path → List ℕ → List ℕ
 batch_record_text sequence path token = text_of_record (batch_record_fields sequence path token)
 
 -- the records of the replies, and that of the batch
+abbrev pub completed_text : Completed → List ℕ
+completed_text done = replies_text done.first done.replies ++ batch_record_text done.sequence done.path done.token
+
+-- as one thread completes the batch, which met this state
 unfoldable pub batch_text : Cards → State → Batch → List ℕ
-batch_text cards state batch =
-    replies_text state.next (batch_replies cards state batch) ++ batch_record_text (state.sequence + 1) (path_of cards state batch) (after_batch cards state batch).token
+batch_text cards state batch = completed_text (completed_serially cards state batch)
 
 -- the texts of batches, from this state on
 abbrev pub text : Cards → State → List Batch → List ℕ
