@@ -1,5 +1,4 @@
 pub mod FaultLemmas
 pub mod LineLemmas
 pub mod NumberLemmas
-pub mod SubcommandLemmas
 pub mod ValueLemmas

@@ -6,8 +6,7 @@ use Rattle.clap.specs.Faults.{check_fault, defaults_fault, entered_fault, fault_
 use Rattle.clap.specs.Simple.{App, built, built_leaf, entered, inherited, marked_built, names_of, rows_at, Shape, subcommand_of, with_leaf_noted}
 use Rattle.clap.specs.Walk.{answers_to, finished, Held, idle, Names, nothing_held, option, positional, Row, settled, subcommand_met, Text, Waiting, walk, walk_from}
 use Rattle.command_line.specs.CommandLine.{check_app, IsComplete, IsMet, make_app, program_app, run_app}
-use Rattle.command_line.proofs.ValueLemmas.{find-All, level-has_values, or_else-first, or_else-second}
-use Rattle.command_line.proofs.SubcommandLemmas.{StopsAtOwn-walk}
+use Rattle.command_line.proofs.ValueLemmas.{each_ready, find-All, IsSoundWalk-walk, level-has_values, or_else-first, or_else-second}
 
 abbrev program : App
 program = built program_app
@@ -74,4 +73,4 @@ subcommand_of-complete words none =
     let entered_well = or_else-first (entered_fault program end.stopped) _ rest in
     let checked = or_else-second (defaults_fault (settled program.top.rules end.held).rows program.top.rules) _
     (or_else-second (settle_fault program.top.rules program.top.args_override_self end.held) _ (or_else-second (entered_fault program end.stopped) _ rest)) in
-    stop-complete end.stopped (finished program.top.rules end.held) (StopsAtOwn-walk program.top names IsOwn own (walk_from nothing_held) ws walked_well tt) entered_well checked
+    stop-complete end.stopped (finished program.top.rules end.held) (IsSoundWalk-walk program.top (each_ready program.top.rules refl) names IsOwn own (walk_from nothing_held) ws walked_well (tt, tt)).1 entered_well checked

@@ -15,7 +15,7 @@ use Rattle.clap.specs.Simple.{Shape}
 use Rattle.clap.specs.Takes.{is_given}
 use Rattle.clap.specs.Values.{is_request, read_as, refused_kind}
 use Rattle.clap.specs.ValueTests.{accepts}
-use Rattle.clap.specs.Walk.{action_of, after_flag, after_step, arg_by_id, arg_by_index, arg_by_long, arg_by_short, at_row, attached_value, bundle, bundle_met, bundle_step, default_rows, done, first_of, has_row, Held, idle, is_empty, is_pending, long_met, long_or_other, more_values, Names, next, nothing_held, option, option_met, option_word, Outcome, plain, plain_word, positional, pushed, reacted, reading_by, refused, Row, row_text, rows_after, Rule, settled, settled_rows, short_met, short_or_plain, Step, subcommand, subcommand_met, subcommand_or_other, takes_several, takes_values, Text, to_positional, trailing, used, used_as, used_by_id, value, Waiting, waits, Walk, walk, walk_from, walked, walked_from, with_default, with_values, without, word_met}
+use Rattle.clap.specs.Walk.{action_of, after_flag, after_step, arg_by_id, arg_by_index, arg_by_long, arg_by_short, at_row, attached_value, bundle, bundle_met, bundle_step, default_rows, done, has_row, Held, idle, is_empty, is_pending, long_met, long_or_other, more_values, Names, next, nothing_held, option, option_met, option_word, Outcome, plain, plain_word, positional, pushed, reacted, reading_by, refused, Row, row_text, rows_after, Rule, settled, settled_rows, short_met, short_or_plain, Step, subcommand, subcommand_met, subcommand_or_other, takes_several, takes_values, Text, to_positional, trailing, used, used_as, used_by_id, value, Waiting, waits, Walk, walk, walk_from, walked, walked_from, with_default, with_values, without, word_met}
 use Rattle.clap.specs.declared.builder.action.ArgAction.{ArgAction}
 use Rattle.clap.specs.declared.builder.action.ArgAction.TheVariants as action
 use Rattle.clap.specs.declared.builder.value_parser.Reading.{Reading}
@@ -59,7 +59,7 @@ IsReady-cons rule rules (later ∷ more) other each =
     let apart = or-false (bytes_eq rule.id later.id) _ other in
     ((each.0.0, rw apart.0 each.0.1), IsReady-cons rule rules more apart.1 each.1)
 
-each_ready : (rules : List Rule) → are_ready rules ≡ true → AllByRecursion (IsReady rules) rules
+pub each_ready : (rules : List Rule) → are_ready rules ≡ true → AllByRecursion (IsReady rules) rules
 each_ready [] ready = tt
 each_ready (rule ∷ rules) ready =
     let first = both (has_value rule) _ ready in
@@ -250,91 +250,104 @@ module _ (s : Shape) (ready : AllByRecursion (IsReady s.rules) s.rules) where
   EachIsFilled-option_word None id word held each = each
   EachIsFilled-option_word (Some rule) id word held each = each
 
-  EachIsFilled-plain_word : (waiting : Waiting) (word : Text) (held : Held) → EachIsFilled held.rows → EachIsFilled (plain_word s.rules waiting word held).0.rows
-  EachIsFilled-plain_word idle word held each = each
-  EachIsFilled-plain_word (option id) word held each = EachIsFilled-option_word (arg_by_id s.rules id) id word held each
-  EachIsFilled-plain_word positional word held each = each
+  -- what a step leaves: rows with values, and no subcommand entered but an own one
+  module _ (names : Names) (IsOwn : Text → Type 0)
+      (own : (waiting : Waiting) (word : Text) (held : Held) → IfSome (subcommand_met names waiting word) (λ name. other_fault s (Some name) word held ≡ [] → IsOwn name)) where
+    abbrev Enters : Step → Type 0
+    Enters (subcommand name) = IsOwn name
+    Enters _ = Unit {0}
 
-  EachIsFilled-after_flag : (waiting : Waiting) (word : Text) (held : Held) (outcome : Outcome) → EachIsFilled held.rows
-      → EachIsFilled (after_flag s.rules waiting word held outcome).0.rows
-  EachIsFilled-after_flag waiting word held done each = each
-  EachIsFilled-after_flag waiting word held (waits id) each = each
-  EachIsFilled-after_flag waiting word held plain each = EachIsFilled-plain_word waiting word held each
-  EachIsFilled-after_flag waiting word held refused each = EachIsFilled-plain_word waiting word held each
+    abbrev IsSound : Held × Step → Type 0
+    IsSound met = EachIsFilled met.0.rows × Enters met.1
 
-  EachIsFilled-short_or_plain : (waiting : Waiting) (word : Text) (flags : Option Text) (held : Held)
-      → option_map_or (λ f. bundle_fault s.rules s.args_override_self f held) flags [] ≡ [] → EachIsFilled held.rows
-      → EachIsFilled (short_or_plain s.rules waiting word flags held).0.rows
-  EachIsFilled-short_or_plain waiting word (Some flags) held none each =
-      EachIsFilled-after_flag waiting word _ (bundle s.rules flags held).1 (EachIsFilled-bundle flags held none each)
-  EachIsFilled-short_or_plain waiting word None held none each = EachIsFilled-plain_word waiting word held each
+    IsSound-plain_word : (waiting : Waiting) (word : Text) (held : Held) → EachIsFilled held.rows → IsSound (plain_word s.rules waiting word held)
+    IsSound-plain_word idle word held each = (each, tt)
+    IsSound-plain_word (option id) word held each = (EachIsFilled-option_word (arg_by_id s.rules id) id word held each, tt)
+    IsSound-plain_word positional word held each = (each, tt)
 
-  EachIsFilled-long_or_other : (waiting : Waiting) (word : Text) (flag : Option (Text × Option Text)) (held : Held)
-      → flag_word_fault s.rules s.args_override_self flag word held ≡ [] → EachIsFilled held.rows
-      → EachIsFilled (long_or_other s.rules waiting word flag held).0.rows
-  EachIsFilled-long_or_other waiting word (Some flag) held none each =
-      EachIsFilled-after_flag waiting word _ (long_met s.rules (arg_by_long s.rules flag.0) flag.1 held).1
-      (EachIsFilled-long_met (arg_by_long s.rules flag.0) flag.1 held (by_test _) none each)
-  EachIsFilled-long_or_other waiting word None held none each = EachIsFilled-short_or_plain waiting word (short_of word) held none each
+    IsSound-after_flag : (waiting : Waiting) (word : Text) (held : Held) (outcome : Outcome) → EachIsFilled held.rows → IsSound (after_flag s.rules waiting word held outcome)
+    IsSound-after_flag waiting word held done each = (each, tt)
+    IsSound-after_flag waiting word held (waits id) each = (each, tt)
+    IsSound-after_flag waiting word held plain each = IsSound-plain_word waiting word held each
+    IsSound-after_flag waiting word held refused each = IsSound-plain_word waiting word held each
 
-  EachIsFilled-subcommand_or_other : (met : Option Text) (waiting : Waiting) (position : ℕ) (word : Text) (held : Held) → other_fault s met word held ≡ []
-      → EachIsFilled held.rows → EachIsFilled (subcommand_or_other s.rules met waiting position word held).0.rows
-  EachIsFilled-subcommand_or_other (Some name) waiting position word held none each = each
-  EachIsFilled-subcommand_or_other None waiting position word held none each = elim (bytes_eq word (45 ∷ 45 ∷ [])) as (λ ends.
-      (if ends then [] else flag_word_fault s.rules s.args_override_self (long_of word) word held) ≡ []
-      → EachIsFilled (if ends then (held, trailing position) else long_or_other s.rules waiting word (long_of word) held).0.rows) [
-        | true ↦ λ passed. each
-        | false ↦ λ passed. EachIsFilled-long_or_other waiting word (long_of word) held passed each
-      ] none
+    IsSound-short_or_plain : (waiting : Waiting) (word : Text) (flags : Option Text) (held : Held)
+        → option_map_or (λ f. bundle_fault s.rules s.args_override_self f held) flags [] ≡ [] → EachIsFilled held.rows
+        → IsSound (short_or_plain s.rules waiting word flags held)
+    IsSound-short_or_plain waiting word (Some flags) held none each =
+        IsSound-after_flag waiting word _ (bundle s.rules flags held).1 (EachIsFilled-bundle flags held none each)
+    IsSound-short_or_plain waiting word None held none each = IsSound-plain_word waiting word held each
 
-  EachIsFilled-word_met : (names : Names) (is_trailing : Bool) (waiting : Waiting) (position : ℕ) (word : Text) (held : Held)
-      → word_fault s names is_trailing waiting word held ≡ [] → EachIsFilled held.rows
-      → EachIsFilled (word_met s.rules names is_trailing waiting position word held).0.rows
-  EachIsFilled-word_met names true waiting position word held none each = each
-  EachIsFilled-word_met names false waiting position word held none each =
-      EachIsFilled-subcommand_or_other (subcommand_met names waiting word) waiting position word held none each
+    IsSound-long_or_other : (waiting : Waiting) (word : Text) (flag : Option (Text × Option Text)) (held : Held)
+        → flag_word_fault s.rules s.args_override_self flag word held ≡ [] → EachIsFilled held.rows → IsSound (long_or_other s.rules waiting word flag held)
+    IsSound-long_or_other waiting word (Some flag) held none each =
+        IsSound-after_flag waiting word _ (long_met s.rules (arg_by_long s.rules flag.0) flag.1 held).1
+        (EachIsFilled-long_met (arg_by_long s.rules flag.0) flag.1 held (by_test _) none each)
+    IsSound-long_or_other waiting word None held none each = IsSound-short_or_plain waiting word (short_of word) held none each
 
-  EachIsFilled-to_positional : (found : Option Rule) (word : Text) (w : Walk) (held : Held)
-      → option_map_or (λ rule. positional_fault s.rules s.args_override_self rule held) found (stray_fault s) ≡ [] → EachIsFilled held.rows
-      → EachIsFilled (to_positional s.rules found word w held).held.rows
-  EachIsFilled-to_positional None word w held none each = each
-  EachIsFilled-to_positional (Some rule) word w held none each = elim (is_pending rule held.pending && takes_several rule) as (λ more.
-      (if more then [] else settle_fault s.rules s.args_override_self held) ≡ [] → EachIsFilled (pushed rule.id word (if more then held else settled s.rules held)).rows) [
-        | true ↦ λ passed. each
-        | false ↦ λ passed. EachIsFilled-settled held passed each
-      ] none
+    IsSound-subcommand_or_other : (met : Option Text) (waiting : Waiting) (position : ℕ) (word : Text) (held : Held)
+        → IfSome met (λ name. other_fault s (Some name) word held ≡ [] → IsOwn name) → other_fault s met word held ≡ [] → EachIsFilled held.rows
+        → IsSound (subcommand_or_other s.rules met waiting position word held)
+    IsSound-subcommand_or_other (Some name) waiting position word held is_own none each = (each, is_own none)
+    IsSound-subcommand_or_other None waiting position word held is_own none each = elim (bytes_eq word (45 ∷ 45 ∷ [])) as (λ ends.
+        (if ends then [] else flag_word_fault s.rules s.args_override_self (long_of word) word held) ≡ []
+        → IsSound (if ends then (held, trailing position) else long_or_other s.rules waiting word (long_of word) held)) [
+          | true ↦ λ passed. (each, tt)
+          | false ↦ λ passed. IsSound-long_or_other waiting word (long_of word) held passed each
+        ] none
 
-  EachIsFilled-after_step : (word : Text) (w : Walk) (held : Held) (step : Step) → step_fault s w.position held step ≡ [] → EachIsFilled held.rows
-      → EachIsFilled (after_step s.rules word w held step).held.rows
-  EachIsFilled-after_step word w held (next waiting) none each = each
-  EachIsFilled-after_step word w held (trailing position) none each = each
-  EachIsFilled-after_step word w held (subcommand name) none each = each
-  EachIsFilled-after_step word w held value none each = EachIsFilled-to_positional (arg_by_index s.rules w.position) word w held none each
+    IsSound-word_met : (is_trailing : Bool) (waiting : Waiting) (position : ℕ) (word : Text) (held : Held)
+        → word_fault s names is_trailing waiting word held ≡ [] → EachIsFilled held.rows
+        → IsSound (word_met s.rules names is_trailing waiting position word held)
+    IsSound-word_met true waiting position word held none each = (each, tt)
+    IsSound-word_met false waiting position word held none each =
+        IsSound-subcommand_or_other (subcommand_met names waiting word) waiting position word held (own waiting word held) none each
 
-  -- ---- the walk
+    -- ---- the walk
 
-  EachIsFilled-walked_from : (names : Names) (stopped : Option (Text × List Text)) (w : Walk) (word : Text)
-      → (let met = word_met s.rules names w.is_trailing w.waiting w.position word w.held in
-      if is_some stopped then []
-      else or_else (word_fault s names w.is_trailing w.waiting word w.held) (step_fault s w.position met.0 met.1)) ≡ []
-      → EachIsFilled w.held.rows → EachIsFilled (walked_from s.rules names stopped w word).held.rows
-  EachIsFilled-walked_from names (Some p) w word none each = each
-  EachIsFilled-walked_from names None w word none each =
-      EachIsFilled-after_step word w _ (word_met s.rules names w.is_trailing w.waiting w.position word w.held).1 (or_else-second _ _ none)
-      (EachIsFilled-word_met names w.is_trailing w.waiting w.position word w.held (or_else-first _ _ none) each)
+    abbrev IsSoundWalk : Walk → Type 0
+    IsSoundWalk w = EachIsFilled w.held.rows × IfSome w.stopped (λ p. IsOwn p.0)
 
-  EachIsFilled-walked : (names : Names) (w : Walk) (word : Text) → turn_fault s names w word ≡ [] → EachIsFilled w.held.rows
-      → EachIsFilled (walked s.rules names w word).held.rows
-  unfolding walked
-  EachIsFilled-walked names w word none each = EachIsFilled-walked_from names w.stopped w word none each
+    IsSoundWalk-to_positional : (found : Option Rule) (word : Text) (w : Walk) (held : Held)
+        → option_map_or (λ rule. positional_fault s.rules s.args_override_self rule held) found (stray_fault s) ≡ [] → EachIsFilled held.rows
+        → IfSome w.stopped (λ p. IsOwn p.0) → IsSoundWalk (to_positional s.rules found word w held)
+    IsSoundWalk-to_positional None word w held none each before = (each, before)
+    IsSoundWalk-to_positional (Some rule) word w held none each before = (
+      elim (is_pending rule held.pending && takes_several rule) as (λ more.
+          (if more then [] else settle_fault s.rules s.args_override_self held) ≡ [] → EachIsFilled (pushed rule.id word (if more then held else settled s.rules held)).rows) [
+            | true ↦ λ passed. each
+            | false ↦ λ passed. EachIsFilled-settled held passed each
+          ] none,
+      tt,
+    )
 
-  EachIsFilled-walk : (names : Names) (w : Walk) (words : List Text) → walk_fault s names w words ≡ [] → EachIsFilled w.held.rows
-      → EachIsFilled (fold (walked s.rules names) w words).held.rows
-  unfolding walk_fault
-  EachIsFilled-walk names w [] none each = each
-  EachIsFilled-walk names w (word ∷ words) none each =
-      EachIsFilled-walk names (walked s.rules names w word) words (or_else-second (turn_fault s names w word) _ none)
-      (EachIsFilled-walked names w word (or_else-first _ (walk_fault s names (walked s.rules names w word) words) none) each)
+    IsSoundWalk-after_step : (word : Text) (w : Walk) (held : Held) (step : Step) → step_fault s w.position held step ≡ [] → IsSound (held, step)
+        → IfSome w.stopped (λ p. IsOwn p.0) → IsSoundWalk (after_step s.rules word w held step)
+    IsSoundWalk-after_step word w held (next waiting) none sound before = (sound.0, before)
+    IsSoundWalk-after_step word w held (trailing position) none sound before = (sound.0, before)
+    IsSoundWalk-after_step word w held (subcommand name) none sound before = sound
+    IsSoundWalk-after_step word w held value none sound before = IsSoundWalk-to_positional (arg_by_index s.rules w.position) word w held none sound.0 before
+
+    IsSoundWalk-walked_from : (stopped : Option (Text × List Text)) (w : Walk) (word : Text)
+        → (let met = word_met s.rules names w.is_trailing w.waiting w.position word w.held in
+        if is_some stopped then []
+        else or_else (word_fault s names w.is_trailing w.waiting word w.held) (step_fault s w.position met.0 met.1)) ≡ []
+        → IfSome stopped (λ p. IsOwn p.0) → IsSoundWalk w → IsSoundWalk (walked_from s.rules names stopped w word)
+    IsSoundWalk-walked_from (Some p) w word none at sound = (sound.0, at)
+    IsSoundWalk-walked_from None w word none at sound =
+        IsSoundWalk-after_step word w _ (word_met s.rules names w.is_trailing w.waiting w.position word w.held).1 (or_else-second _ _ none)
+        (IsSound-word_met w.is_trailing w.waiting w.position word w.held (or_else-first _ _ none) sound.0) sound.1
+
+    IsSoundWalk-walked : (w : Walk) (word : Text) → turn_fault s names w word ≡ [] → IsSoundWalk w → IsSoundWalk (walked s.rules names w word)
+    unfolding walked
+    IsSoundWalk-walked w word none sound = IsSoundWalk-walked_from w.stopped w word none sound.1 sound
+
+    pub IsSoundWalk-walk : (w : Walk) (words : List Text) → walk_fault s names w words ≡ [] → IsSoundWalk w → IsSoundWalk (fold (walked s.rules names) w words)
+    unfolding walk_fault
+    IsSoundWalk-walk w [] none sound = sound
+    IsSoundWalk-walk w (word ∷ words) none sound =
+        IsSoundWalk-walk (walked s.rules names w word) words (or_else-second (turn_fault s names w word) _ none)
+        (IsSoundWalk-walked w word (or_else-first _ (walk_fault s names (walked s.rules names w word) words) none) sound)
 
   -- ---- defaults
 
@@ -482,9 +495,14 @@ level-has_values s words are none =
     let defaulted_well = or_else-first (defaults_fault (settled s.rules held).rows s.rules) _ (or_else-second (settle_fault s.rules s.args_override_self held) _ rest) in
     let checked = or_else-second (defaults_fault (settled s.rules held).rows s.rules) _ (or_else-second (settle_fault s.rules s.args_override_self held) _ rest) in
     let each = EachIsFilled-defaults s ready s.rules _ ready defaulted_well
-    (EachIsFilled-settled s ready held settled_well (EachIsFilled-walk s ready [] (walk_from nothing_held) words walked_well tt)) in
+    (EachIsFilled-settled s ready held settled_well (IsSoundWalk-walk s ready [] (λ _. ⊥) no_subcommand (walk_from nothing_held) words walked_well (tt, tt)).0) in
     has_values s.rules ready each (required-answered s.rules _ (not_required s.subcommand_negates_reqs _ (check_kinds-third _ _ _ checked))) (defaults-answered s.rules _)
   where
+    no_subcommand : (waiting : Waiting) (word : Text) (held : Held) → IfSome (subcommand_met [] waiting word) (λ name. other_fault s (Some name) word held ≡ [] → ⊥)
+    no_subcommand idle word held = tt
+    no_subcommand (option id) word held = tt
+    no_subcommand positional word held = tt
+
     answered : (required none has : Bool) → (required ≡ true → has ≡ true) → (none ≡ false → has ≡ true) → (required || not none) ≡ true → has ≡ true
     answered true none has by_words by_default is = by_words refl
     answered false false has by_words by_default is = by_default refl
