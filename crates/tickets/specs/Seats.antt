@@ -56,8 +56,8 @@ abbrev pub AreDrawn : ℕ → List Seat → Type 0
 AreDrawn n seats = (p : ℕ) → sum_by (λ seat. times p (entry_of seat).drawn) seats ≡ once_below n p
 
 -- the seat has stopped and raised nothing
-abbrev pub HasStopped : Seat → Type 0
-HasStopped seat = (has_stopped (entry_of seat) ≡ true) × ((entry_of seat).raised ≡ None)
+abbrev pub HasStoppedQuietly : Seat → Type 0
+HasStoppedQuietly seat = (has_stopped (entry_of seat) ≡ true) × ((entry_of seat).raised ≡ None)
 
 abbrev pub HasRaised : Seat → Type 0
 HasRaised seat = is_some (entry_of seat).raised ≡ true

@@ -1,5 +1,6 @@
 //! The two words that the workers of a level share.
 ghost use Rattle.std.specs.Prelude.{◌≡◌, ◌<◌, ◌≤◌};
+ghost use Rattle.tickets.specs.declared.size.TheConstants.{MOST_PLACES, MOST_WORKERS};
 
 use crate::entry::View;
 use crate::rule::{Deals, Draws, Looks, Raises, ShowsWorld};
@@ -24,7 +25,7 @@ pub struct Desk {
     ghost sized: { table.shared.key ≡ size },
     ghost two_words: { table.shared.table_id.words ≡ 2 },
     ghost no_slots: { table.shared.table_id.slots ≡ 0 },
-    ghost small: { (size.places ≤ 1024) × (size.workers ≤ 64) × (0 < size.workers) },
+    ghost small: { (size.places ≤ MOST_PLACES) × (size.workers ≤ MOST_WORKERS) × (0 < size.workers) },
 }
 
 impl Desk {
@@ -33,12 +34,12 @@ impl Desk {
     ghost use Rattle.tickets.specs.Entries.{acted, blanks, has_stopped, last_drawn, with_look, with_raise};
     ghost use Rattle.tickets.specs.Once.{SomeRaised};
     ghost use Rattle.tickets.specs.Rule.{Begins, IsAlone, flag, last_world};
-    ghost use Rattle.tickets.specs.Seats.{AreDrawn, AreOfOneLine, Closes, HasEnded, HasRaised, HasSeen, HasTaken, HasStopped, IsNewSeatOf, IsSeatOf, entry_of, places_of, workers_of};
+    ghost use Rattle.tickets.specs.Seats.{AreDrawn, AreOfOneLine, Closes, HasEnded, HasRaised, HasSeen, HasTaken, HasStoppedQuietly, IsNewSeatOf, IsSeatOf, entry_of, places_of, workers_of};
 
     /// A desk, and a seat for each worker.
     pub fn new(alloc: Global, places: usize, workers: usize) -> Result<(Desk, Vec<Seat>), Memory>
-        requires places { places ≤ 1024 }
-        requires workers { (0 < workers) × (workers ≤ 64) }
+        requires places { places ≤ MOST_PLACES }
+        requires workers { (0 < workers) × (workers ≤ MOST_WORKERS) }
         ensures size { IfOk result (λ r. (places_of r.0 ≡ places) × (workers_of r.0 ≡ workers) × (vec_len r.1 ≡ workers)) }
         ensures entries { IfOk result (λ r. map entry_of r.1.items ≡ blanks places workers 0 workers) }
         ensures own { IfOk result (λ r. All (IsNewSeatOf r.0) r.1.items) }
@@ -109,7 +110,7 @@ impl Desk {
         requires own { All (IsSeatOf self) seats.items }
         ensures rule { Closes self result seats.items }
         ensures drawn { AreDrawn (min result.0 (places_of self)) seats.items }
-        ensures all_drawn { All HasStopped seats.items → AreDrawn (places_of self) seats.items }
+        ensures all_drawn { All HasStoppedQuietly seats.items → AreDrawn (places_of self) seats.items }
         ensures line { AreOfOneLine seats.items }
         ensures halt { result.1 ≡ flag (list_any (λ seat. is_some (entry_of seat).raised) seats.items) }
         ensures saw { Any HasSeen seats.items → Any HasRaised seats.items }

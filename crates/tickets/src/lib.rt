@@ -18,6 +18,7 @@ mod world;
 pub use desk::Desk;
 pub use event::Event;
 pub use seat::Seat;
+pub use size::{MOST_PLACES, MOST_WORKERS};
 pub use worker::Worker;
 pub use workers::Workers;
 pub use world::World;

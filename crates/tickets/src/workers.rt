@@ -2,6 +2,7 @@
 ghost use Rattle.std.specs.Prelude.{◌≡◌};
 ghost use Rattle.tpcc_rows.specs.Limits.{IsBetween, between};
 
+use crate::size::MOST_WORKERS;
 use std::marker::Model;
 
 /// How many workers may run a level: 1 to 64.
@@ -12,13 +13,14 @@ pub struct Workers {
 
 impl Model for Workers {
     ghost use Rattle.std.specs.Prelude.{ℕ};
+    ghost use Rattle.tickets.specs.declared.size.TheConstants.{MOST_WORKERS};
     ghost use Rattle.tpcc_rows.specs.Limits.{IsBetween};
 
     ghost Value = { ℕ };
 
     ghost view = { λ x. x.count };
 
-    ghost invariant = { λ x. IsBetween 1 64 x.count };
+    ghost invariant = { λ x. IsBetween 1 MOST_WORKERS x.count };
 
     ghost inverse = { λ n. record { count = n } };
 }
@@ -26,9 +28,9 @@ impl Model for Workers {
 impl Workers {
     /// None outside the limits.
     pub fn new(count: usize) -> Option<Workers>
-        ensures { result ≡ between 1 64 count }
+        ensures { result ≡ between 1 MOST_WORKERS count }
     {
-        if 1 <= count && count <= 64 {
+        if 1 <= count && count <= MOST_WORKERS {
             Some(Workers { count })
         } else {
             None
@@ -37,7 +39,7 @@ impl Workers {
 
     pub fn count(self) -> usize
         ensures value { result ≡ self }
-        ensures range { IsBetween 1 64 result }
+        ensures range { IsBetween 1 MOST_WORKERS result }
     {
         self.count
     }

@@ -2,6 +2,7 @@
 ghost use Rattle.std.specs.Prelude.{◌≡◌, ◌<◌, ◌≤◌, IfOk, option_copied, option_map, slice_get};
 ghost use Rattle.tickets.specs.Playing.{worker_of};
 ghost use Rattle.tickets.specs.World.{after, opening, step};
+ghost use Rattle.tickets.specs.declared.size.TheConstants.{MOST_PLACES, MOST_WORKERS};
 ghost use Rattle.tickets.specs.declared.event.Event.TheVariants.{Draw, Finish, Look, Raise};
 
 use crate::event::Event;
@@ -35,8 +36,8 @@ impl Model for World {
 impl World {
     /// The world before any event.
     pub fn new(alloc: Global, places: usize, workers: usize) -> Result<World, Memory>
-        requires places { places ≤ 1024 }
-        requires workers { (0 < workers) × (workers ≤ 64) }
+        requires places { places ≤ MOST_PLACES }
+        requires workers { (0 < workers) × (workers ≤ MOST_WORKERS) }
         ensures { IfOk result (λ w. w ≡ opening places workers) }
     {
         let mut all = Vec::with_capacity(alloc, workers)?;

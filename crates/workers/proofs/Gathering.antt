@@ -5,18 +5,16 @@ use Rattle.std.proofs.lemmas.List.Concat.{flat_map-append}
 use Rattle.std.proofs.lemmas.List.Elements.{All-append, All-cons, All-head, All-map, All-nil, All-same, All-tail, All-weaker}
 use Rattle.std.proofs.lemmas.List.Sums.{sum_by-append, sum_by-cons}
 use Rattle.std.specs.List.{flat_map}
-use Rattle.serializability.specs.Footprints.{Footprint}
 use Rattle.tpcc_rows.specs.RowMap.{Rows}
-use Rattle.tpcc_rows.specs.declared.granule.Granule.{Granule}
 use Rattle.tpcc_rows.specs.declared.memory.Memory.{Memory}
 use Rattle.catalog.specs.CardMap.{Cards}
-use Rattle.requests.specs.declared.request.Batch.{Batch}
 use Rattle.tickets.proofs.Lists.{get-below}
 use Rattle.tickets.specs.Once.{times}
-use Rattle.tickets.specs.Seats.{HasStopped as HasEnded, IsSeatOf, entry_of}
+use Rattle.tickets.specs.Seats.{HasStoppedQuietly, IsSeatOf, entry_of}
 use Rattle.tickets.specs.declared.desk.Desk.{Desk}
 use Rattle.tickets.specs.declared.seat.Seat.{Seat}
-use Rattle.workers.specs.Parts.{AreGathered, AreWorked, Drawn, IsOutcomeOf, IsPart, IsPartOf, Part, ticket_of}
+use Rattle.workers.specs.declared.batch_level.Level.{Level}
+use Rattle.workers.specs.Parts.{AreGathered, AreWorked, Drawn, IsOutcomeIn, IsPart, IsPartOf, Part, ticket_of}
 use Rattle.workers.proofs.Raising.{is_quiet, none_raised}
 
 abbrev pub seat_in : Part → Seat
@@ -91,22 +89,22 @@ drawn_times ticket (part ∷ parts) all =
     ∙ (λ i. times ticket (sym (All-head Lists part parts all) i) + drawn_times ticket parts (All-tail Lists part parts all) i)
     ∙ sym (sum_by-cons (λ seat. times ticket (entry_of seat).drawn) part.0 (map seat_in parts))
 
-pub all_worked : (desk : Desk) (cards : Cards) (rows : Rows) (batch : Batch) (first : ℕ) (footprints : List (Footprint Granule)) (places : List ℕ) (given : List (Result Part Memory)) (seats : List Seat) (drawn : List Drawn)
-    → All (IsPartOf desk cards rows batch first footprints places) given → AreGathered given seats drawn → AreWorked desk cards rows batch first footprints places (length given) seats drawn
-all_worked desk cards rows batch first footprints places given seats drawn are all =
-    let P = IsPart desk cards rows batch first footprints places in
-    let Q = IsOutcomeOf cards rows batch first footprints places in
-    let IsBelow : Drawn → Type 0 = λ one. ticket_of one < length places in
+pub all_worked : (desk : Desk) (cards : Cards) (rows : Rows) (level : Level) (given : List (Result Part Memory)) (seats : List Seat) (drawn : List Drawn)
+    → All (IsPartOf desk cards rows level) given → AreGathered given seats drawn → AreWorked desk cards rows level (length given) seats drawn
+all_worked desk cards rows level given seats drawn are all =
+    let P = IsPart desk cards rows level in
+    let Q = IsOutcomeIn cards rows level in
+    let IsBelow : Drawn → Type 0 = λ one. ticket_of one < length level.places.now in
     let parts = all.parts in
-    let each : All P parts = all_ok P parts (All-same (IsPartOf desk cards rows batch first footprints places) _ _ (sym all.given_are) are) in
+    let each : All P parts = all_ok P parts (All-same (IsPartOf desk cards rows level) _ _ (sym all.given_are) are) in
     record {
       count = ap length all.seats_are ∙ length-map parts seat_in ∙ sym (length-map parts Ok) ∙ ap length (sym all.given_are);
       own = All-same (IsSeatOf desk) _ _ all.seats_are (All-map (IsSeatOf desk) seat_in parts (All-weaker P (λ part. IsSeatOf desk (seat_in part)) (λ part is. is.own) parts each));
       each = All-same Q _ _ all.drawn_are (all_flat Q drawn_in parts (All-weaker P (λ part. All Q (drawn_in part)) (λ part is. is.each) parts each));
-      below = All-same IsBelow _ _ all.drawn_are (all_flat IsBelow drawn_in parts (All-weaker P (λ part. All IsBelow (drawn_in part)) (λ part is. All-weaker Q IsBelow (λ one came. get-below places one.0 came.place came.at) part.1.items is.each) parts each));
+      below = All-same IsBelow _ _ all.drawn_are (all_flat IsBelow drawn_in parts (All-weaker P (λ part. All IsBelow (drawn_in part)) (λ part is. All-weaker Q IsBelow (λ one came. get-below level.places.now one.0 came.place came.at) part.1.items is.each) parts each));
       done = λ quiet.
           let quiet_parts = flat_all is_quiet drawn_in parts (All-same is_quiet _ _ (sym all.drawn_are) quiet) in
-          All-same HasEnded _ _ all.seats_are (All-map HasEnded seat_in parts (all_both P (λ part. All is_quiet (drawn_in part)) (λ part. HasEnded (seat_in part)) (λ part is none. (is.ended, none_raised part.1.items (entry_of part.0).raised is.raised none)) parts each quiet_parts));
+          All-same HasStoppedQuietly _ _ all.seats_are (All-map HasStoppedQuietly seat_in parts (all_both P (λ part. All is_quiet (drawn_in part)) (λ part. HasStoppedQuietly (seat_in part)) (λ part is none. (is.ended, none_raised part.1.items (entry_of part.0).raised is.raised none)) parts each quiet_parts));
       tickets = λ ticket.
           ap (λ (l : List Drawn). times ticket (map ticket_of l)) all.drawn_are
           ∙ drawn_times ticket parts (All-weaker P Lists (λ part is. is.drawn) parts each)

@@ -2,9 +2,11 @@
 ghost use Rattle.std.specs.Prelude.{◌≡◌, ◌+◌, ◌<◌, ◌≤◌, All, IfOk, length, vec_len};
 ghost use Rattle.std.specs.List.Sorted.{IsStrictlyIncreasing};
 ghost use Rattle.tickets.specs.Seats.{IsNewSeatOf, places_of};
+ghost use Rattle.tickets.specs.declared.size.TheConstants.{MOST_PLACES};
 ghost use Rattle.workers.specs.LevelEnds.{IsEndOf};
 ghost use Rattle.workers.specs.Parts.{AreWorked, IsPartOf};
 
+use crate::batch_level::Level;
 use crate::filing::{gathered, in_order, stray_among};
 use crate::gate::Gate;
 use crate::part::{Outcome, run_part};
@@ -34,33 +36,22 @@ fn run_workers<R: Threads + Sync, G: Gate>(
     alloc: Global,
     catalog: &Catalog,
     store: &PointedStore,
-    batch: &Batch,
-    first: u64,
-    places: &[usize],
-    footprints: &[Footprint],
+    level: &Level<'_>,
     desk: &Desk,
     seats: Vec<Seat>,
     gate: &G,
 ) -> Result<(Vec<Seat>, Vec<(usize, Outcome)>), Memory>
     requires own { All (IsNewSeatOf desk.now) seats.items }
-    requires size { places_of desk.now ≡ length places.now }
-    requires there { All (λ place. place < length batch.now.requests) places.now }
-    requires each { length footprints.now ≡ length batch.now.requests }
-    requires low { 1 ≤ first }
-    requires high { first + length batch.now.requests ≤ 1000000000000000 }
-    ensures { IfOk result (λ all. AreWorked desk.now catalog.now store.now.rows batch.now first footprints.now places.now (vec_len seats) all.0.items all.1.items) }
+    requires size { places_of desk.now ≡ length level.now.places.now }
+    ensures { IfOk result (λ all. AreWorked desk.now catalog.now store.now.rows level.now (vec_len seats) all.0.items all.1.items) }
 {
     let parts = thread::map_vec(
         rt,
         seats,
         &|seat: Seat| -> Result<(Seat, Vec<(usize, Outcome)>), Memory>
-            requires { IsNewSeatOf desk.now seat × (places_of desk.now ≡ length places.now) × All (λ place. place < length batch.now.requests) places.now × (length footprints.now ≡ length batch.now.requests) × (1 ≤ first) × (first + length batch.now.requests ≤ 1000000000000000) }
-            ensures { IsPartOf desk.entry.now catalog.entry.now store.entry.now.rows batch.entry.now first footprints.entry.now places.entry.now result }
-        {
-            run_part(
-                alloc, catalog, store, batch, first, places, footprints, desk, seat, gate,
-            )
-        },
+            requires { IsNewSeatOf desk.now seat × (places_of desk.now ≡ length level.now.places.now) }
+            ensures { IsPartOf desk.entry.now catalog.entry.now store.entry.now.rows level.entry.now result }
+        { run_part(alloc, catalog, store, level, desk, seat, gate) },
     )?;
     gathered(alloc, parts)
 }
@@ -83,7 +74,7 @@ pub fn run_level<R: Threads + Sync, G: Gate>(
     gate: &G,
 ) -> Result<LevelEnd, Memory>
     requires some { 1 ≤ length places.now }
-    requires few { length places.now ≤ 1024 }
+    requires few { length places.now ≤ MOST_PLACES }
     requires rising { IsStrictlyIncreasing places.now }
     requires there { All (λ place. place < length batch.now.requests) places.now }
     requires each { length footprints.now ≡ length batch.now.requests }
@@ -93,9 +84,13 @@ pub fn run_level<R: Threads + Sync, G: Gate>(
 {
     let count = workers.count().min(places.len());
     let (desk, seats) = Desk::new(alloc, places.len(), count)?;
-    let (seats, drawn) = run_workers(
-        rt, alloc, catalog, store, batch, first, places, footprints, &desk, seats, gate,
-    )?;
+    let level = Level {
+        batch,
+        first,
+        places,
+        footprints,
+    };
+    let (seats, drawn) = run_workers(rt, alloc, catalog, store, &level, &desk, seats, gate)?;
     if let Some(place) = stray_among(places, &drawn) {
         return Ok(LevelEnd::Strayed(place));
     }

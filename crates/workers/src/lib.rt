@@ -2,6 +2,7 @@
 //! on several threads.
 #![tactic(auto)]
 
+mod batch_level;
 mod filing;
 mod gate;
 mod level;

@@ -2,8 +2,9 @@
 ghost use Rattle.std.specs.Prelude.{◌≡◌, ◌+◌, ◌<◌, ◌≤◌, ◌++◌, All, IfOk, None, OnErr, OnOk, false, length, map, true};
 ghost use Rattle.tickets.specs.Entries.{has_stopped};
 ghost use Rattle.tickets.specs.Seats.{IsNewSeatOf, IsSeatOf, entry_of, places_of};
-ghost use Rattle.workers.specs.Parts.{IsOutcomeOf, IsPartOf, Raises, is_stray, ticket_of};
+ghost use Rattle.workers.specs.Parts.{IsOutcomeIn, IsOutcomeOf, IsPartOf, Raises, is_stray, ticket_of};
 
+use crate::batch_level::Level;
 use crate::gate::Gate;
 use crate::placed_request::{PlaceOutcome, execute_placed, request_at};
 use catalog::Catalog;
@@ -37,25 +38,57 @@ fn execute_ticket<G: Gate>(
     alloc: Global,
     catalog: &Catalog,
     store: &PointedStore,
-    batch: &Batch,
-    first: u64,
-    places: &[usize],
-    footprints: &[Footprint],
+    level: &Level<'_>,
     ticket: usize,
     gate: &G,
 ) -> Result<Outcome, Memory>
-    requires ticket { ticket < length places.now }
-    requires there { All (λ place. place < length batch.now.requests) places.now }
-    requires each { length footprints.now ≡ length batch.now.requests }
-    requires low { 1 ≤ first }
-    requires high { first + length batch.now.requests ≤ 1000000000000000 }
-    ensures { IfOk result (λ outcome. IsOutcomeOf catalog.now store.now.rows batch.now first footprints.now places.now (ticket, outcome)) }
+    requires { ticket < length level.now.places.now }
+    ensures { IfOk result (λ outcome. IsOutcomeIn catalog.now store.now.rows level.now (ticket, outcome)) }
 {
-    let placed = request_at(batch, first, footprints, places[ticket]);
-    match execute_placed(alloc, catalog, store, batch.moment, placed, gate) {
+    let placed = request_at(level, level.places[ticket]);
+    match execute_placed(alloc, catalog, store, level.batch.moment, placed, gate) {
         Ok(done) => Ok(Outcome::Done(done)),
         Err(ExecError::Strayed) => Ok(Outcome::Strayed),
         Err(ExecError::Memory) => Err(Memory),
+    }
+}
+
+/// Draws and executes until none is left, all are to stop, or a place strays, which it raises.
+fn work_through<G: Gate>(
+    alloc: Global,
+    catalog: &Catalog,
+    store: &PointedStore,
+    level: &Level<'_>,
+    desk: &Desk,
+    seat: &mut Seat,
+    gate: &G,
+) -> Result<Vec<(usize, Outcome)>, Memory>
+    requires own { IsSeatOf desk.now seat.old }
+    requires going { has_stopped (entry_of seat.old) ≡ false }
+    requires size { places_of desk.now ≡ length level.now.places.now }
+    ensures own { IsSeatOf desk.now seat.new }
+    ensures ended { OnOk result (has_stopped (entry_of seat.new) ≡ true) }
+    ensures drawn { IfOk result (λ part. (entry_of seat.new).drawn ≡ (entry_of seat.old).drawn ++ map ticket_of part.items) }
+    ensures each { IfOk result (λ part. All (IsOutcomeIn catalog.now store.now.rows level.now) part.items) }
+    ensures raised { IfOk result (λ part. Raises part.items (entry_of seat.new).raised) }
+    ensures err { OnErr result ((entry_of seat.new).raised ≡ None) }
+{
+    let mut part = Vec::new(alloc);
+    loop {
+        if desk.look(seat) {
+            return Ok(part);
+        }
+        let ticket = desk.draw(seat);
+        if ticket >= level.places.len() {
+            return Ok(part);
+        }
+        let outcome = execute_ticket(alloc, catalog, store, level, ticket, gate)?;
+        let strayed = outcome.is_stray();
+        part.push((ticket, outcome))?;
+        if strayed {
+            desk.raise(seat, ticket);
+            return Ok(part);
+        }
     }
 }
 
@@ -88,25 +121,13 @@ pub fn run_seat<G: Gate>(
     ensures raised { IfOk result (λ part. Raises part.items (entry_of seat.new).raised) }
     ensures err { OnErr result ((entry_of seat.new).raised ≡ None) }
 {
-    let mut part = Vec::new(alloc);
-    loop {
-        if desk.look(seat) {
-            return Ok(part);
-        }
-        let ticket = desk.draw(seat);
-        if ticket >= places.len() {
-            return Ok(part);
-        }
-        let outcome = execute_ticket(
-            alloc, catalog, store, batch, first, places, footprints, ticket, gate,
-        )?;
-        let strayed = outcome.is_stray();
-        part.push((ticket, outcome))?;
-        if strayed {
-            desk.raise(seat, ticket);
-            return Ok(part);
-        }
-    }
+    let level = Level {
+        batch,
+        first,
+        places,
+        footprints,
+    };
+    work_through(alloc, catalog, store, &level, desk, seat, gate)
 }
 
 /// The same by a seat that a worker has for itself, and gives back.
@@ -114,24 +135,15 @@ pub(crate) fn run_part<G: Gate>(
     alloc: Global,
     catalog: &Catalog,
     store: &PointedStore,
-    batch: &Batch,
-    first: u64,
-    places: &[usize],
-    footprints: &[Footprint],
+    level: &Level<'_>,
     desk: &Desk,
     mut seat: Seat,
     gate: &G,
 ) -> Result<(Seat, Vec<(usize, Outcome)>), Memory>
     requires own { IsNewSeatOf desk.now seat }
-    requires size { places_of desk.now ≡ length places.now }
-    requires there { All (λ place. place < length batch.now.requests) places.now }
-    requires each { length footprints.now ≡ length batch.now.requests }
-    requires low { 1 ≤ first }
-    requires high { first + length batch.now.requests ≤ 1000000000000000 }
-    ensures { IsPartOf desk.now catalog.now store.now.rows batch.now first footprints.now places.now result }
+    requires size { places_of desk.now ≡ length level.now.places.now }
+    ensures { IsPartOf desk.now catalog.now store.now.rows level.now result }
 {
-    let part = run_seat(
-        alloc, catalog, store, batch, first, places, footprints, desk, &mut seat, gate,
-    )?;
+    let part = work_through(alloc, catalog, store, level, desk, &mut seat, gate)?;
     Ok((seat, part))
 }

@@ -1,13 +1,14 @@
 //! One request of a level, at its place of the batch.
-ghost use Rattle.std.specs.Prelude.{◌≡◌, ◌+◌, ◌<◌, ◌≤◌, Some, length, slice_get, MatchResult};
+ghost use Rattle.std.specs.Prelude.{◌≡◌, ◌+◌, ◌<◌, Some, length, slice_get, MatchResult};
 ghost use Rattle.serializability.specs.Levels.{job_strays, jobs};
 ghost use Rattle.tpcc_model.specs.Machine.{tpcc};
 ghost use Rattle.workers.specs.LevelEnds.{IsPlaceDone, StraysWhere, job_of};
 
+use crate::batch_level::Level;
 use crate::gate::Gate;
 use catalog::Catalog;
 use requests::reply::Reply;
-use requests::request::{Batch, Request};
+use requests::request::Request;
 use rollback::PointedStore;
 use std::alloc::Global;
 use tpcc_rows::delta::Delta;
@@ -34,26 +35,18 @@ pub(crate) struct PlacedRequest<'a> {
     pub declared: &'a Footprint,
 }
 
-/// The request at a place of the batch, whose first request has this number.
-pub(crate) fn request_at<'a>(
-    batch: &'a Batch,
-    first: u64,
-    footprints: &'a [Footprint],
-    place: usize,
-) -> PlacedRequest<'a>
-    requires there { place < length batch.now.requests }
-    requires each { length footprints.now ≡ length batch.now.requests }
-    requires low { 1 ≤ first }
-    requires high { first + length batch.now.requests ≤ 1000000000000000 }
-    ensures job { slice_get (jobs first batch.now.requests footprints.now) place ≡ Some (job_of result) }
+/// The request at a place of the level's batch.
+pub(crate) fn request_at<'a>(level: &Level<'a>, place: usize) -> PlacedRequest<'a>
+    requires { place < length level.now.batch.now.requests }
+    ensures job { slice_get (jobs level.now.first level.now.batch.now.requests level.now.footprints.now) place ≡ Some (job_of result) }
     ensures place { result.place ≡ place }
-    ensures number { result.number ≡ first + place }
+    ensures number { result.number ≡ level.now.first + place }
 {
     PlacedRequest {
         place,
-        number: RequestNumber::new(first + place as u64).unwrap(),
-        request: &batch.requests.as_slice()[place],
-        declared: &footprints[place],
+        number: RequestNumber::new(level.first + place as u64).unwrap(),
+        request: &level.batch.requests.as_slice()[place],
+        declared: &level.footprints[place],
     }
 }
 

@@ -2,16 +2,16 @@ use Rattle.std.proofs.Common.{◌≡◌, ◌<◌, ◌≤◌, ◌++◌, ◌∷◌
 use Rattle.std.proofs.lemmas.List.{map-append}
 use Rattle.std.proofs.lemmas.List.Elements.{All-push, All-same}
 use Rattle.tickets.specs.Seats.{entry_of, places_of}
-use Rattle.workers.specs.Parts.{Drawn, IsOutcomeOf, ticket_of}
+use Rattle.workers.specs.Parts.{Drawn, IsOutcomeIn, ticket_of}
 use Rattle.workers.proofs.Raising.{going_raised, is_quiet, quiet_end, stray_end}
-use Rattle.workers.proofs.part.run_seat.Goals as goal
+use Rattle.workers.proofs.part.work_through.Goals as goal
 
 pub returns-then-look-clause-raised : goal.returns-then-look-clause-raised
 returns-then-look-clause-raised g c =
     quiet_end c.loop-alloc.part.items _ c.loop-alloc.invariant.quiet (ap (λ e. e.raised) c.look.ensures.entry ∙ going_raised (entry_of c.loop-alloc.seat) c.loop-alloc.invariant.going)
 
-pub returns-then-ticket-places-clause-raised : goal.returns-then-ticket-places-clause-raised
-returns-then-ticket-places-clause-raised g c =
+pub returns-then-ticket-level-clause-raised : goal.returns-then-ticket-level-clause-raised
+returns-then-ticket-level-clause-raised g c =
     let past : places_of c.args.desk.now ≤ c.draw-ticket.result = search rules in
     let unseen : entry_of c.look.new.seat ≡ entry_of c.loop-alloc.seat = search rules in
     quiet_end c.loop-alloc.part.items _ c.loop-alloc.invariant.quiet
@@ -21,6 +21,12 @@ pub returns-then-strayed-clause-raised : goal.returns-then-strayed-clause-raised
 returns-then-strayed-clause-raised g c =
     stray_end c.loop-alloc.part.items _ (c.draw-ticket.result, c.in_ok-outcome.outcome) _ c.loop-alloc.invariant.quiet (sym c.is_stray-strayed.ensures ∙ c.if-strayed.true) c.in_ok-push.ensures.items c.raise.ensures.raised
 
+pub returns-then-strayed-clause-each : goal.returns-then-strayed-clause-each
+returns-then-strayed-clause-each g c =
+    let one : Drawn = (c.draw-ticket.result, c.in_ok-outcome.outcome) in
+    let Q = IsOutcomeIn c.args.catalog.now c.args.store.now.rows c.args.level.now in
+    All-same Q _ _ c.in_ok-push.ensures.items (All-push Q c.loop-alloc.part.items one c.loop-alloc.invariant.each c.in_ok-outcome.ensures)
+
 pub loop-alloc-preserved : goal.loop-alloc-preserved
 loop-alloc-preserved g c =
     let low : c.draw-ticket.result < places_of c.args.desk.now = search rules in
@@ -28,7 +34,7 @@ loop-alloc-preserved g c =
     let one : Drawn = (c.draw-ticket.result, c.in_ok-outcome.outcome) in
     let taken = c.draw-ticket.ensures.taken low in
     let pushed = c.in_ok-push.ensures.items in
-    let Q = IsOutcomeOf c.args.catalog.now c.args.store.now.rows c.args.batch.now c.args.first c.args.footprints.now c.args.places.now in
+    let Q = IsOutcomeIn c.args.catalog.now c.args.store.now.rows c.args.level.now in
     record {
       own = c.draw-ticket.ensures.own;
       going = taken.going;
