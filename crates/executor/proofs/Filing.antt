@@ -1,19 +1,21 @@
 -- Replies that are filed one after the other.
-use Rattle.std.proofs.Common.{◌≡◌, ◌↔◌, inl, inr, ℕ, zero, suc, ◌+◌, ◌-◌, ◌<◌, ◌≤◌, true, false, cond, List, [], ◌∷◌, ◌++◌, length, replicate, get_or, set, Option, Some, None, Result, Ok, Err, OnOk, OnErr, refl, sym, ap, subst, ◌∙◌, append_assoc, map, arith}
+use Rattle.std.proofs.Common.{◌≡◌, ◌↔◌, inl, inr, ℕ, zero, suc, ◌+◌, ◌-◌, ◌<◌, ◌≤◌, true, false, cond, List, [], ◌∷◌, ◌++◌, length, replicate, get_or, set, Option, Some, None, Result, Ok, Err, IsOk, OnOk, refl, sym, ap, subst, ◌∙◌, append_assoc, map, arith}
 use Rattle.std.proofs.lemmas.Bool.{cases_Bool, cond-false, cond-true}
 use Rattle.std.proofs.lemmas.Bool.Decides.{nat_tests}
-use Rattle.std.proofs.lemmas.List.{get_or-set_same, get_or-set_other, length-set, length-replicate}
+use Rattle.std.proofs.lemmas.List.{get_or-map, get_or-set_same, get_or-set_other, length-map, length-set, length-replicate}
 use Rattle.std.proofs.lemmas.Option.{get_or_from_slice_get, slice_get-get_or}
 use Rattle.std.specs.FinMap.{find, nat_cmp-IsAntisymmetric}
-use Rattle.std.specs.List.{All, slice_get}
+use Rattle.std.specs.List.{All, AllPairs, slice_get}
 use Rattle.std.specs.Option.{option_or}
 use Rattle.std.specs.Ordering.{eq_by_cmp, nat_cmp}
+use Rattle.serializability.specs.Footprints.{Has}
 use Rattle.serializability.proofs.Changes.{same_key}
 use Rattle.requests.specs.declared.reply.Reply.{Reply}
 use Rattle.gather.specs.Books.{Book, blank, Expects, HasFiled, with_reply}
 use Rattle.gather.specs.declared.reply_book.FileError.{FileError}
 use Rattle.gather.specs.declared.reply_book.FileError.TheVariants as file_error
-use Rattle.executor.specs.Filing.{FilesEach, reply_at}
+use Rattle.workers.specs.declared.job.PlaceOutcome.{PlaceOutcome}
+use Rattle.executor.specs.Filing.{Awaits, FilesEach, reply_at}
 
 or_none : {X : Type 0} (o : Option X) → option_or o None ≡ o
 or_none None = refl
@@ -59,38 +61,86 @@ module _ (old : Book) (number place : ℕ) (reply : Reply) (low : old.first ≤ 
             ∙ sym (ap (option_or (reply_at old place)) (nothing f) ∙ or_none (reply_at old place))
       ]
 
-  kept : (new : Book) → new ≡ old → (old.first + place ≡ number → (there : Reply) × (reply_at old place ≡ Some there)) → reply_at new place ≡ option_or (reply_at old place) own
-  kept new is there =
-      ap (λ (b : Book). reply_at b place) is
-      ∙ elim (cases_Bool (eq_by_cmp nat_cmp (old.first + place) number)) [
-        | inl t ↦
-            let found = there (same_key nat_cmp-IsAntisymmetric (old.first + place) number t) in
-            found.1 ∙ sym (ap (λ o. option_or o own) found.1)
-        | inr f ↦ sym (ap (option_or (reply_at old place)) (nothing f) ∙ or_none (reply_at old place))
-      ]
-
--- the end of a call to file a reply under a number that is not below the first
-pub file_one : (old new : Book) (number : ℕ) (reply : Reply) (result : Result (Unit {0}) FileError) → old.first ≤ number
-    → OnOk result (new ≡ with_reply old number reply) → ((result ≡ Err file_error.Stranger) ↔ (Expects old number → ⊥)) → ((result ≡ Err file_error.Twice) ↔ HasFiled old number) → OnErr result (new ≡ old)
-    → FilesEach ((number, reply) ∷ []) old new
-file_one old new number reply (Ok done) low filed stranger twice kept_all = record {
+-- a book with a reply more, where none was filed
+pub file_one : (old new : Book) (number : ℕ) (reply : Reply) → old.first ≤ number → new ≡ with_reply old number reply → (HasFiled old number → ⊥) → FilesEach ((number, reply) ∷ []) old new
+file_one old new number reply low filed free = record {
   first = ap (λ (b : Book). b.first) filed;
   size = ap (λ (b : Book). length b.replies) filed ∙ length-set old.replies (number - old.first) (Some reply);
-  replies = λ place below. added old number place reply low below new filed (λ has. let no : Ok done ≡ Err file_error.Twice = twice.1 has in cc);
+  replies = λ place below. added old number place reply low below new filed free;
 }
-file_one old new number reply (Err file_error.Stranger) low filed stranger twice kept_all = record {
-  first = ap (λ (b : Book). b.first) kept_all;
-  size = ap (λ (b : Book). length b.replies) kept_all;
-  replies = λ place below. kept old number place reply low below new kept_all (λ here. absurd (stranger.0 refl (low, omega (arith, here, below))));
-}
-file_one old new number reply (Err file_error.Twice) low filed stranger twice kept_all = record {
-  first = ap (λ (b : Book). b.first) kept_all;
-  size = ap (λ (b : Book). length b.replies) kept_all;
-  replies = λ place below. kept old number place reply low below new kept_all (λ here.
-      let has = twice.0 refl in
-      let same : place ≡ number - old.first = omega (arith, here) in
-      (has.1, ap (λ (i : ℕ). get_or old.replies i None) same ∙ get_or_from_slice_get old.replies (number - old.first) (Some has.1) None has.2));
-}
+
+-- what holds of all holds of those behind the first
+pub all_behind : {X : Type 0} (P : X → Type 0) (xs ys : List X) (x : X) → xs ≡ x ∷ ys → All P xs → All P ys
+all_behind {X = X} P xs ys x is all k d below = subst (λ (zs : List X). All P zs) is all (suc k) d (omega (arith, below))
+
+-- ---- a reply that is awaited
+pub not_filed : (book : Book) (number place : ℕ) → number ≡ book.first + place → Awaits book place → HasFiled book number → ⊥
+not_filed book number place numbered awaited has =
+    let same : place ≡ number - book.first = omega (arith, numbered) in
+    let no : None ≡ Some has.1 = sym awaited.1 ∙ ap (λ i. get_or book.replies i None) same ∙ get_or_from_slice_get book.replies (number - book.first) (Some has.1) None has.2 in
+    cc
+
+pub first_awaited : (book : Book) (one : PlaceOutcome) (outcomes left : List PlaceOutcome) → outcomes ≡ one ∷ left → All (λ done. Awaits book done.place) outcomes → Awaits book one.place
+first_awaited book one outcomes left are awaited = subst (λ (ds : List PlaceOutcome). All (λ done. Awaits book done.place) ds) are awaited 0 one (omega arith)
+
+-- it is filed
+pub is_ok_where_awaited : (book : Book) (number place : ℕ) (result : Result (Unit {0}) FileError) → number ≡ book.first + place → Awaits book place
+    → ((result ≡ Err file_error.Stranger) ↔ (Expects book number → ⊥)) → ((result ≡ Err file_error.Twice) ↔ HasFiled book number) → IsOk result
+is_ok_where_awaited book number place (Ok done) numbered awaited stranger twice = refl
+is_ok_where_awaited book number place (Err file_error.Stranger) numbered awaited stranger twice =
+    let below = awaited.0 in absurd (stranger.0 refl (omega (arith, numbered), omega (arith, numbered, below)))
+is_ok_where_awaited book number place (Err file_error.Twice) numbered awaited stranger twice = absurd (not_filed book number place numbered awaited (twice.0 refl))
+
+pub where_ok : {T E : Type 0} (result : Result T E) (P : Type 0) → IsOk result → OnOk result P → P
+where_ok (Ok done) P ok then = then
+where_ok (Err e) P ok then = cc
+
+-- one behind it is awaited still
+awaits_on : (old new : Book) (number place later : ℕ) (reply : Reply) → number ≡ old.first + place → new ≡ with_reply old number reply → place < later → Awaits old later → Awaits new later
+awaits_on old new number place later reply numbered is low awaited = (
+  subst (λ n. later < n) (sym (ap (λ (b : Book). length b.replies) is ∙ length-set old.replies (number - old.first) (Some reply))) awaited.0,
+  ap (λ (b : Book). reply_at b later) is
+      ∙ get_or-set_other old.replies (number - old.first) later (Some reply) None (λ same. omega (arith, same, numbered, low))
+      ∙ awaited.1,
+)
+
+-- and so are all behind it
+pub awaited_behind : (old new : Book) (number : ℕ) (reply : Reply) (one : PlaceOutcome) (outcomes left : List PlaceOutcome) → number ≡ old.first + one.place → new ≡ with_reply old number reply → outcomes ≡ one ∷ left
+    → AllPairs (λ place later. place < later) (map (λ done. done.place) outcomes) → All (λ done. Awaits old done.place) outcomes → All (λ done. Awaits new done.place) left
+awaited_behind old new number reply one outcomes left numbered is are rise awaited k done below =
+    let place : PlaceOutcome → ℕ = λ d. d.place in
+    let counted = length-map left place in
+    let low : one.place < get_or (map place left) k done.place = subst (λ (ds : List PlaceOutcome). AllPairs (λ p later. p < later) (map place ds)) are rise 0 (suc k) done.place (omega arith) (omega (arith, below, counted)) in
+    let at = get_or-map place left k done done.place below in
+    awaits_on old new number one.place (get_or left k done).place reply numbered is (omega (arith, low, at))
+    (all_behind (λ (d : PlaceOutcome). Awaits old d.place) outcomes left one are awaited k done below)
+
+pub rising_behind : (one : PlaceOutcome) (outcomes left : List PlaceOutcome) → outcomes ≡ one ∷ left → AllPairs (λ place later. place < later) (map (λ done. done.place) outcomes)
+    → AllPairs (λ place later. place < later) (map (λ (done : PlaceOutcome). done.place) left)
+rising_behind one outcomes left are rise i j d low below =
+    subst (λ (ds : List PlaceOutcome). AllPairs (λ p later. p < later) (map (λ done. done.place) ds)) are rise (suc i) (suc j) d (omega (arith, low)) (omega (arith, below))
+
+-- a place that isn't one of these has no reply among theirs
+not_told : (first place : ℕ) (outcomes : List PlaceOutcome) → (Has (map (λ done. done.place) outcomes) place → ⊥) → find nat_cmp (first + place) (map (λ done. (first + done.place, done.reply)) outcomes) ≡ None
+not_told first place [] apart = refl
+not_told first place (one ∷ outcomes) apart = elim (cases_Bool (eq_by_cmp nat_cmp (first + place) (first + one.place))) [
+  | inl t ↦ absurd (apart (inl (let here = same_key nat_cmp-IsAntisymmetric (first + place) (first + one.place) t in let same : one.place ≡ place = omega (arith, here) in same)))
+  | inr f ↦
+      cond-false (eq_by_cmp nat_cmp (first + place) (first + one.place)) (Some one.reply) (find nat_cmp (first + place) (map (λ done. (first + done.place, done.reply)) outcomes)) f
+      ∙ not_told first place outcomes (λ has. apart (inr has))
+]
+
+-- the book awaits the replies to all others still
+pub awaits_others : (first : ℕ) (places : List ℕ) (outcomes : List PlaceOutcome) (old new : Book) → old.first ≡ first → map (λ done. done.place) outcomes ≡ places
+    → FilesEach (map (λ done. (first + done.place, done.reply)) outcomes) old new → (place : ℕ) → (Has places place → ⊥) → Awaits old place → Awaits new place
+awaits_others first places outcomes old new of_batch are each place apart awaited =
+    let none : (Has (map (λ (done : PlaceOutcome). done.place) outcomes) place → ⊥) = λ has. apart (subst (λ ps. Has ps place) are has) in (
+      subst (λ n. place < n) (sym each.size) awaited.0,
+      each.replies place awaited.0
+          ∙ ap (λ o. option_or o (find nat_cmp (old.first + place) (map (λ (done : PlaceOutcome). (first + done.place, done.reply)) outcomes))) awaited.1
+          ∙ ap (λ n. find nat_cmp (n + place) (map (λ (done : PlaceOutcome). (first + done.place, done.reply)) outcomes)) of_batch
+          ∙ not_told first place outcomes none,
+    )
 
 -- ---- several replies
 pub find-append : {X : Type 0} (q : ℕ) (es fs : List (ℕ × X)) → find nat_cmp q (es ++ fs) ≡ option_or (find nat_cmp q es) (find nat_cmp q fs)
@@ -144,10 +194,6 @@ pub files_blank : (told : List (ℕ × Reply)) (first count : ℕ) (now : Book) 
 files_blank told first count now each place below =
     each.replies place (omega (arith, below, length-replicate {A = Option Reply} count None))
     ∙ ap (λ (o : Option Reply). option_or o (find nat_cmp (first + place) told)) (get_or-blank count place)
-
--- what holds of all holds of those behind the first
-pub all_behind : {X : Type 0} (P : X → Type 0) (xs ys : List X) (x : X) → xs ≡ x ∷ ys → All P xs → All P ys
-all_behind {X = X} P xs ys x is all k d below = subst (λ (zs : List X). All P zs) is all (suc k) d (omega (arith, below))
 
 -- one reply more is filed, and its changes are kept
 pub kept_more : {X Y : Type 0} (f : X → Y) (made more whole : List Y) (before left : List X) (x : X) → more ≡ made ++ f x ∷ [] → before ≡ x ∷ left → made ++ map f before ≡ whole → more ++ map f left ≡ whole

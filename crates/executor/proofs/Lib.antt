@@ -12,3 +12,4 @@ pub mod Openings
 pub mod LevelResults
 pub mod Admissions
 pub mod Running
+pub mod Headlines

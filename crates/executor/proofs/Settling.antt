@@ -18,10 +18,14 @@ after_outcomes (done ∷ outcomes) rows =
     after_outcomes outcomes (after rows done.changes)
     ∙ sym (apply-append (entries done.changes) (flat_map (λ later. entries later.changes) outcomes) rows)
 
+-- what holds of all places holds of those of the outcomes
+pub of_places : (P : ℕ → Type 0) (outcomes : List PlaceOutcome) (places : List ℕ) → map (λ done. done.place) outcomes ≡ places → All P places → All (λ done. P done.place) outcomes
+of_places P outcomes places is all i done below =
+    let there : i < length places = subst (λ (ps : List ℕ). i < length ps) is (omega (arith, below, length-map outcomes (λ (d : PlaceOutcome). d.place))) in
+    subst P (ap (λ (ps : List ℕ). get_or ps i done.place) (sym is) ∙ get_or-map (λ (d : PlaceOutcome). d.place) outcomes i done done.place below) (all i done.place there)
+
 -- their numbers are within the limit where their places are those of the batch
 pub numbers_within : (outcomes : List PlaceOutcome) (places : List ℕ) (first count : ℕ) → map (λ done. done.place) outcomes ≡ places → All (λ place. place < count) places → first + count ≤ 1000000000000000 → All (λ done. first + done.place < 1000000000000000) outcomes
 numbers_within outcomes places first count is within high i done below =
-    let there : i < length places = subst (λ (ps : List ℕ). i < length ps) is (omega (arith, below, length-map outcomes (λ (d : PlaceOutcome). d.place))) in
-    let place : get_or places i done.place ≡ (get_or outcomes i done).place = ap (λ (ps : List ℕ). get_or ps i done.place) (sym is) ∙ get_or-map (λ (d : PlaceOutcome). d.place) outcomes i done done.place below in
-    let low = within i done.place there in
-    omega (arith, low, place, high)
+    let low = of_places (λ place. place < count) outcomes places is within i done below in
+    omega (arith, low, high)

@@ -15,3 +15,7 @@ pub record FilesEach (told : List (ℕ × Reply)) (old new : Book) : Type 0 wher
   pub first : new.first ≡ old.first
   pub size : length new.replies ≡ length old.replies
   pub replies : (place : ℕ) → place < length old.replies → reply_at new place ≡ option_or (reply_at old place) (find nat_cmp (old.first + place) told)
+
+-- the book has a place for this reply, and none is filed there
+abbrev pub Awaits : Book → ℕ → Type 0
+Awaits book place = (place < length book.replies) × (reply_at book place ≡ None)

@@ -1,5 +1,5 @@
 -- Laws of requests that are executed out of their order.
-use Rattle.std.specs.Prelude.{◌≡◌, ◌≢◌, ◌≤◌, ◌<◌, ◌+◌, ℕ, false, List, length, Some, slice_get}
+use Rattle.std.specs.Prelude.{◌≡◌, ◌≢◌, ◌≤◌, ◌<◌, ◌+◌, ℕ, false, List, [], ◌∷◌, length, map, Some, slice_get}
 use Rattle.std.specs.FinMap.{find}
 use Rattle.std.specs.Ordering.{nat_cmp}
 use Rattle.serializability.specs.Folds.{after}
@@ -13,13 +13,20 @@ use Rattle.requests.specs.declared.request.Batch.{Batch}
 use Rattle.requests.specs.declared.request.Request.{Request}
 use Rattle.tpcc_model.specs.Database.{Database}
 use Rattle.tpcc_model.specs.Machine.{tpcc}
-use Rattle.tpcc_model.specs.Serial.{State, after_batch, batch_replies, batch_rows, opening}
+use Rattle.tpcc_model.specs.Serial.{State, after_batch, batch_replies, batch_rows, opening, serial}
 use Rattle.tpcc_model.specs.Soundness.{IsSound}
 use Rattle.tpcc_model.specs.Steps.{steps_at}
 use Rattle.tpcc_model.specs.Touches.{touch}
 use Rattle.transactions.specs.Laws.{Fits}
+use Rattle.executor.specs.Executions.{IsRecordOf}
+use Rattle.executor.specs.Headline.{Headline, all_serially, completed}
 use Rattle.executor.specs.LevelRuns.{IsCutOf, cut_by, levels_by, meets, replies_in_levels, rows_in_levels, strays}
-use Rattle.executor.specs.States.{AreWithinLimits, IsSoundState}
+use Rattle.executor.specs.Lines.{Line, extended, opening_line}
+use Rattle.executor.specs.Paths.{path_of}
+use Rattle.executor.specs.Runs.{IsRunOf}
+use Rattle.executor.specs.States.{AreAllWithin, AreWithinLimits, IsSoundState}
+use Rattle.executor.specs.declared.record.Record.{Record}
+use Rattle.executor.specs.declared.run.RunEnd.{RunEnd}
 
 -- two requests, each of which lies within its footprint where it is stepped, and neither footprint writes what the other
 -- reads: they may be stepped the other way round
@@ -72,3 +79,21 @@ OpeningIsSound = (db : Database) → IsSound db → IsSoundState db.cards (openi
 abbrev pub BatchesKeep : Type 0
 BatchesKeep = (cards : Cards) (state : State) (batch : Batch) → IsSoundState cards state → AreWithinLimits batch.moment state.next batch.requests
     → IsSoundState cards (after_batch cards state batch)
+
+-- ---- the headline
+-- of every list of batches within their limits, as one thread completes them
+abbrev pub SerialBatchesHaveHeadline : Type 0
+SerialBatchesHaveHeadline = (cards : Cards) (start : State) (batches : List Batch) → IsSoundState cards start → AreAllWithin cards start batches
+    → Headline cards start batches (all_serially cards start batches) (serial cards start batches)
+
+-- of a batch that was executed, whoever executed it
+abbrev pub ExecutionsHaveHeadline : Type 0
+ExecutionsHaveHeadline = (old new : Line) (batch : Batch) (r : Record) → IsSoundState old.cards old.present → AreWithinLimits batch.moment old.present.next batch.requests
+    → IsRecordOf old.cards old.present batch (path_of old.cards old.present batch) r → new ≡ extended old batch
+    → Headline old.cards old.present (batch ∷ []) (completed r ∷ []) new.present
+
+-- of every run on a sound database
+abbrev pub RunsHaveHeadline : Type 0
+RunsHaveHeadline = (db : Database) (most : ℕ) (new : Line) (batches : List Batch) (end : RunEnd) → IsSound db → AreAllWithin db.cards (opening db.cards db.rows) batches
+    → IsRunOf most (opening_line db.cards db.rows) new batches end
+    → Headline db.cards (opening db.cards db.rows) batches (map completed end.records.items) new.present

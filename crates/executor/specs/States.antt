@@ -1,13 +1,14 @@
 -- Sound states, and batches that can be executed on them.
-use Rattle.std.specs.Prelude.{ℕ, ◌+◌, ◌<◌, ◌≤◌, IsSome, List, length}
+use Rattle.std.specs.Prelude.{ℕ, ◌+◌, ◌<◌, ◌≤◌, IsSome, List, [], ◌∷◌, length}
 use Rattle.std.specs.FinMap as map
 use Rattle.std.specs.List.{All}
 use Rattle.tpcc_rows.specs.Limits.{IsBetween}
 use Rattle.tpcc_rows.specs.RowMap.{Rows}
 use Rattle.tpcc_rows.specs.declared.key.RowKey.TheVariants as key
 use Rattle.catalog.specs.CardMap.{Cards}
+use Rattle.requests.specs.declared.request.Batch.{Batch}
 use Rattle.requests.specs.declared.request.Request.{Request}
-use Rattle.tpcc_model.specs.Serial.{State}
+use Rattle.tpcc_model.specs.Serial.{State, after_batch}
 use Rattle.tpcc_model.specs.Soundness.{IsSound}
 use Rattle.transactions.specs.Requests.{IsRequest}
 
@@ -26,3 +27,8 @@ pub record AreWithinLimits (moment first : ℕ) (requests : List Request) : Type
   pub each_request : All IsRequest requests
   pub first_number : 1 ≤ first
   pub last_number : first + length requests ≤ 1000000000000000
+
+-- each of the batches is within its limits, on the state that those before it leave
+abbrev pub AreAllWithin : Cards → State → List Batch → Type 0
+AreAllWithin cards state [] = Unit {0}
+AreAllWithin cards state (batch ∷ batches) = AreWithinLimits batch.moment state.next batch.requests × AreAllWithin cards (after_batch cards state batch) batches

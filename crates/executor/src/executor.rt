@@ -1,6 +1,7 @@
 //! The execution of batches on one database.
-ghost use Rattle.std.specs.Prelude.{◌≡◌, ◌↔◌, ◌≢◌, [], Err, IfErr, IfOk, IsErr, OnErr, OnOk, None, Some, map, slice_get};
+ghost use Rattle.std.specs.Prelude.{◌≡◌, ◌↔◌, ◌≢◌, [], ◌∷◌, Err, IfErr, IfOk, IsErr, OnErr, OnOk, None, Some, map, slice_get};
 ghost use Rattle.executor.specs.Executions.{IsRecordOf, IsRefusedFor, path_in, refusal_for};
+ghost use Rattle.executor.specs.Headline.{Headline, completed};
 ghost use Rattle.executor.specs.Lines.{committed, extended, opening_line, states};
 ghost use Rattle.executor.specs.Paths.{path_of};
 ghost use Rattle.executor.specs.States.{IsSoundState};
@@ -211,11 +212,13 @@ impl Executor {
     ) -> Result<Record, Refusal>
         ensures admitted { OnOk result (refusal_for POINTS self.old batch.now ≡ None) }
         ensures line { OnOk result (self.new ≡ extended self.old batch.now) }
+        ensures headline { IfOk result (λ r. Headline self.old.cards self.old.present (batch.now ∷ []) (completed r ∷ []) self.new.present) }
         ensures record { IfOk result (IsRecordOf self.old.cards self.old.present batch.now (path_of self.old.cards self.old.present batch.now)) }
         ensures refused { IfErr result (IsRefusedFor (refusal_for POINTS self.old batch.now)) }
         ensures sound { IsSoundState self.new.cards self.new.present }
         ensures err { OnErr result (self.new ≡ self.old) }
     {
+        self.keep_sound();
         self.execute_by(rt, alloc, batch, Some(workers), gate)
     }
 

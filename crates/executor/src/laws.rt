@@ -1,5 +1,5 @@
 //! Laws of requests that are executed out of their order, as contracts of functions that do nothing but call other laws.
-ghost use Rattle.executor.specs.Laws.{BatchesKeep, CutsAreWhole, DeclaredLevelsAreSerial, LevelsAreSerial, MeetOnlyAbove, OpeningIsSound, RequestsSwap};
+ghost use Rattle.executor.specs.Laws.{BatchesKeep, CutsAreWhole, DeclaredLevelsAreSerial, ExecutionsHaveHeadline, LevelsAreSerial, MeetOnlyAbove, OpeningIsSound, RequestsSwap, RunsHaveHeadline, SerialBatchesHaveHeadline};
 
 use transactions::laws::{framed_machine, keeps};
 
@@ -43,4 +43,15 @@ pub fn sound_states()
     ensures after { BatchesKeep }
 {
     keeps();
+}
+
+/// The replies, tables and token after each completed batch are those of one thread executing the requests one after the
+/// other in batch order, and the four consistency conditions hold after every one: of any list of batches within their
+/// limits, of what `execute` answers, and of what `run` answers.
+pub fn headline()
+    ensures serial { SerialBatchesHaveHeadline }
+    ensures executions { ExecutionsHaveHeadline }
+    ensures runs { RunsHaveHeadline }
+{
+    sound_states();
 }

@@ -1,13 +1,14 @@
 //! The requests of a batch, executed level by level.
 ghost use Rattle.std.specs.Prelude.{◌≡◌, ◌+◌, ◌<◌, ◌≤◌, All, IfErr, IfOk, None, OnOk, false, get_or, length, map, ℕ};
 ghost use Rattle.std.specs.FinMap.{find};
-ghost use Rattle.std.specs.List.{list_any};
+ghost use Rattle.std.specs.List.{AllPairs, list_any};
 ghost use Rattle.std.specs.List.Sorted.{IsStrictlyIncreasing};
 ghost use Rattle.std.specs.Ordering.{nat_cmp};
-ghost use Rattle.executor.specs.Filing.{FilesEach, reply_at};
+ghost use Rattle.executor.specs.Filing.{Awaits, FilesEach, reply_at};
 ghost use Rattle.executor.specs.LevelRuns.{levels_by, strays};
 ghost use Rattle.executor.specs.Lines.{state_of};
 ghost use Rattle.executor.specs.States.{IsSoundState};
+ghost use Rattle.serializability.specs.Footprints.{Has};
 ghost use Rattle.serializability.specs.Levels.{job_strays, jobs, jobs_at, level_replies, level_rows};
 ghost use Rattle.serializability.specs.Levels as levels;
 ghost use Rattle.tpcc_model.specs.Machine.{tpcc};
@@ -60,14 +61,15 @@ fn file_replies(
     requires low { 1 ≤ first }
     requires high { All (λ done. first + done.place < 1000000000000000) outcomes.items }
     requires book { book.old.first ≡ first }
+    requires rising { AllPairs (λ place later. place < later) (map (λ done. done.place) outcomes.items) }
+    requires awaited { All (λ done. Awaits book.old done.place) outcomes.items }
     ensures filed { OnOk result (FilesEach (map (λ done. (first + done.place, done.reply)) outcomes.items) book.old book.new) }
     ensures changes { IfOk result (λ deltas. deltas.items ≡ map (λ done. done.changes) outcomes.items) }
 {
     let mut deltas = Vec::with_capacity(alloc, outcomes.len())?;
     for outcome in outcomes {
         let number = RequestNumber::new(first + outcome.place as u64).unwrap();
-        // A place stands in one level, so that its reply comes once.
-        let _ = book.file(number, outcome.reply);
+        book.file(number, outcome.reply).unwrap();
         deltas.push(outcome.changes)?;
     }
     Ok(deltas)
@@ -95,9 +97,11 @@ fn settle_level<R: Threads + Sync, G: Gate>(
     requires low { 1 ≤ first }
     requires high { first + length batch.now.requests ≤ 1000000000000000 }
     requires book { book.old.first ≡ first }
+    requires awaited { All (Awaits book.old) places.now }
     ensures within { OnOk result (list_any (job_strays (tpcc catalog.now batch.now.moment) store.old.rows) (jobs_at (jobs first batch.now.requests footprints.now) places.now) ≡ false) }
     ensures rows { OnOk result (store.new.rows ≡ level_rows (tpcc catalog.now batch.now.moment) store.old.rows (jobs_at (jobs first batch.now.requests footprints.now) places.now)) }
     ensures filed { OnOk result (FilesEach (level_replies (tpcc catalog.now batch.now.moment) store.old.rows (jobs_at (jobs first batch.now.requests footprints.now) places.now)) book.old book.new) }
+    ensures others { OnOk result ((place : ℕ) → (Has places.now place → ⊥) → Awaits book.old place → Awaits book.new place) }
     ensures err { IfErr result (StraysWhere (list_any (job_strays (tpcc catalog.now batch.now.moment) store.old.rows) (jobs_at (jobs first batch.now.requests footprints.now) places.now))) }
     ensures points { store.new.points ≡ store.old.points }
 {

@@ -1,5 +1,6 @@
 //! Batches that are executed and committed one after the other.
-ghost use Rattle.std.specs.Prelude.{◌≡◌};
+ghost use Rattle.std.specs.Prelude.{◌≡◌, map};
+ghost use Rattle.executor.specs.Headline.{Headline, completed};
 ghost use Rattle.executor.specs.Runs.{IsRunOf, alone};
 ghost use Rattle.executor.specs.States.{IsSoundState};
 
@@ -30,6 +31,7 @@ impl Executor {
         workers: Workers,
         gate: &G,
     ) -> RunEnd
+        ensures headline { Headline self.old.cards self.old.present batches.now (map completed result.records.items) self.new.present }
         ensures run { IsRunOf POINTS self.old self.new batches.now result }
         ensures sound { IsSoundState self.new.cards self.new.present }
     {

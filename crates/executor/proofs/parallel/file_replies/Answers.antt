@@ -1,27 +1,48 @@
-use Rattle.std.proofs.Common.{rules, ◌≡◌, ◌+◌, ◌<◌, ◌≤◌, List, [], ◌∷◌, ℕ, map, subst, arith}
+use Rattle.std.proofs.Common.{rules, ◌≡◌, ◌+◌, ◌<◌, ◌≤◌, List, [], ◌∷◌, ℕ, IsOk, map, subst, arith}
+use Rattle.gather.specs.Books.{with_reply}
 use Rattle.requests.specs.declared.reply.Reply.{Reply}
 use Rattle.workers.specs.declared.job.PlaceOutcome.{PlaceOutcome}
-use Rattle.executor.specs.Filing.{FilesEach}
-use Rattle.executor.proofs.Filing.{FilesRest, all_behind, file_one, files_more, kept_more}
+use Rattle.executor.specs.Filing.{Awaits, FilesEach}
+use Rattle.executor.proofs.Filing.{FilesRest, all_behind, awaited_behind, file_one, files_more, first_awaited, is_ok_where_awaited, kept_more, not_filed, rising_behind, where_ok}
 use Rattle.executor.proofs.parallel.file_replies.Goals as goal
+
+pub unwrap-requires : goal.unwrap-requires
+unwrap-requires c =
+    let one = c.in-Some.outcome in
+    let book = c.loop-outcome.book in
+    let are = c.in-Some.ensures.steps.0 in
+    let numbered : c.unwrap-number.result ≡ c.args.first + one.place = search rules in
+    let first = c.loop-outcome.invariant.filed.first in
+    let of_batch = c.requires.book in
+    let awaited : Awaits book one.place = first_awaited book one c.loop-outcome.outcome-iterator.rest.items c.next.new.self.rest.items are c.loop-outcome.invariant.awaited in
+    is_ok_where_awaited book c.unwrap-number.result one.place c.file.result (omega (arith, numbered, first, of_batch)) awaited c.file.ensures.stranger c.file.ensures.twice
 
 pub loop-outcome-preserved : goal.loop-outcome-preserved
 loop-outcome-preserved c =
     let told : List PlaceOutcome → List (ℕ × Reply) = map (λ (done : PlaceOutcome). (c.args.first + done.place, done.reply)) in
     let one = c.in-Some.outcome in
+    let book = c.loop-outcome.book in
+    let before = c.loop-outcome.outcome-iterator.rest.items in
     let left = c.next.new.self.rest.items in
+    let are : before ≡ one ∷ left = c.in-Some.ensures.steps.0 in
     let numbered : c.unwrap-number.result ≡ c.args.first + one.place = search rules in
     let first = c.loop-outcome.invariant.filed.first in
     let of_batch = c.requires.book in
-    let low : c.loop-outcome.book.first ≤ c.unwrap-number.result = omega (arith, numbered, first, of_batch) in
-    let filed : FilesEach ((c.unwrap-number.result, one.reply) ∷ []) c.loop-outcome.book c.file.new.self =
-    file_one c.loop-outcome.book c.file.new.self c.unwrap-number.result one.reply c.file.result low c.file.ensures.filed c.file.ensures.stranger c.file.ensures.twice c.file.ensures.err in
-    let here : FilesEach ((c.args.first + one.place, one.reply) ∷ []) c.loop-outcome.book c.file.new.self =
-    subst (λ (n : ℕ). FilesEach ((n, one.reply) ∷ []) c.loop-outcome.book c.file.new.self) numbered filed in
+    let low : book.first ≤ c.unwrap-number.result = omega (arith, numbered, first, of_batch) in
+    let here : c.unwrap-number.result ≡ book.first + one.place = omega (arith, numbered, first, of_batch) in
+    let awaited : Awaits book one.place = first_awaited book one before left are c.loop-outcome.invariant.awaited in
+    let ok : IsOk c.file.result = is_ok_where_awaited book c.unwrap-number.result one.place c.file.result here awaited c.file.ensures.stranger c.file.ensures.twice in
+    let is : c.file.new.self ≡ with_reply book c.unwrap-number.result one.reply = where_ok c.file.result _ ok c.file.ensures.filed in
+    let filed : FilesEach ((c.unwrap-number.result, one.reply) ∷ []) book c.file.new.self =
+    file_one book c.file.new.self c.unwrap-number.result one.reply low is (not_filed book c.unwrap-number.result one.place here awaited) in
+    let told_here : FilesEach ((c.args.first + one.place, one.reply) ∷ []) book c.file.new.self =
+    subst (λ (n : ℕ). FilesEach ((n, one.reply) ∷ []) book c.file.new.self) numbered filed in
     record {
-      within = all_behind (λ (done : PlaceOutcome). c.args.first + done.place < 1000000000000000) c.loop-outcome.outcome-iterator.rest.items left one c.in-Some.ensures.steps.0 c.loop-outcome.invariant.within;
+      within = all_behind (λ (done : PlaceOutcome). c.args.first + done.place < 1000000000000000) before left one are c.loop-outcome.invariant.within;
+      rising = rising_behind one before left are c.loop-outcome.invariant.rising;
+      awaited = awaited_behind book c.file.new.self c.unwrap-number.result one.reply one before left here is are c.loop-outcome.invariant.rising c.loop-outcome.invariant.awaited;
       filed =
-          files_more (told c.args.outcomes.items) ((c.args.first + one.place, one.reply) ∷ []) (told left) c.args.book.now c.loop-outcome.book c.file.new.self here
-          (subst (λ (xs : List PlaceOutcome). FilesRest (told c.args.outcomes.items) (told xs) c.args.book.now c.loop-outcome.book) c.in-Some.ensures.steps.0 c.loop-outcome.invariant.filed);
-      changes = kept_more (λ (done : PlaceOutcome). done.changes) c.loop-outcome.deltas.items c.push.new.self.items _ c.loop-outcome.outcome-iterator.rest.items left one c.in_ok-push.ensures.items c.in-Some.ensures.steps.0 c.loop-outcome.invariant.changes;
+          files_more (told c.args.outcomes.items) ((c.args.first + one.place, one.reply) ∷ []) (told left) c.args.book.now book c.file.new.self told_here
+          (subst (λ (xs : List PlaceOutcome). FilesRest (told c.args.outcomes.items) (told xs) c.args.book.now book) are c.loop-outcome.invariant.filed);
+      changes = kept_more (λ (done : PlaceOutcome). done.changes) c.loop-outcome.deltas.items c.push.new.self.items _ before left one c.in_ok-push.ensures.items are c.loop-outcome.invariant.changes;
     }

@@ -5,6 +5,7 @@ use Rattle.std.specs.Option.{option_copied}
 use Rattle.serializability.specs.Levels.{job_strays, jobs, jobs_at, level_replies, run_replies}
 use Rattle.tpcc_model.specs.Machine.{tpcc}
 use Rattle.gather.specs.Books.{blank}
+use Rattle.executor.specs.Filing.{Awaits}
 use Rattle.executor.specs.LevelRuns.{cut_by, levels_by}
 use Rattle.executor.proofs.Filing.{FilesRest, files_more}
 use Rattle.executor.proofs.LevelSteps.{replies_on, rows_on, strays_here, strays_on, levels_from}
@@ -33,6 +34,13 @@ settle_level-requires-clause-there g c κs lives =
     ap (λ (cut : List (List ℕ)). slice_get cut c.loop-level.level) (sym c.in_ok-cut.ensures) ∙ sym c.level.ensures ∙ ap option_copied c.unwrap-places.ensures in
     each_place (λ place. place < length c.args.batch.now.requests) c.unwrap-places.result.now
     (λ place has. subst (λ (n : ℕ). place < n) c.requires.each ((c.cuts.ensures c.args.footprints.now).below c.loop-level.level place c.unwrap-places.result.now at has))
+
+pub settle_level-requires-clause-awaited : goal.settle_level-requires-clause-awaited
+settle_level-requires-clause-awaited g c κs lives =
+    let at : slice_get (cut_by c.args.footprints.now) c.loop-level.level ≡ Some c.unwrap-places.result.now =
+    ap (λ (cut : List (List ℕ)). slice_get cut c.loop-level.level) (sym c.in_ok-cut.ensures) ∙ sym c.level.ensures ∙ ap option_copied c.unwrap-places.ensures in
+    each_place (Awaits c.loop-level.book) c.unwrap-places.result.now
+    (λ place has. c.loop-level.invariant.awaited c.loop-level.level place c.unwrap-places.result.now (omega arith) at has)
 
 pub returns-in_err-settle_level-clause-err : goal.returns-in_err-settle_level-clause-err
 returns-in_err-settle_level-clause-err g c =
@@ -66,5 +74,9 @@ loop-level-preserved g c =
       filed =
           files_more told (level_replies machine rows (jobs_at all places)) (run_replies machine left (levels_from machine rows all cut i places at (i + 1))) (blank c.args.first (length c.args.batch.now.requests)) c.loop-level.book c.settle_level.new.book c.in_ok-settle_level.ensures.filed
           (subst (λ replies. FilesRest told replies (blank c.args.first (length c.args.batch.now.requests)) c.loop-level.book) (replies_on machine rows all cut i places at left after) c.loop-level.invariant.filed);
+      awaited = λ level place others low there has.
+          c.in_ok-settle_level.ensures.others place
+          (λ here. let same = (c.cuts.ensures c.args.footprints.now).once i level place places others at there here has in absurd (omega (arith, same, low)))
+          (c.loop-level.invariant.awaited level place others (omega (arith, low)) there has);
       points = c.in_ok-settle_level.ensures.points ∙ c.loop-level.invariant.points;
     }

@@ -1,7 +1,9 @@
-use Rattle.std.proofs.Common.{◌≡◌, drop, length, map}
+use Rattle.std.proofs.Common.{◌≡◌, ◌≤◌, ℕ, List, Some, drop, length, map, slice_get}
+use Rattle.serializability.specs.Footprints.{Has}
 use Rattle.serializability.specs.Levels.{jobs, jobs_at, run_replies, run_rows, strays}
 use Rattle.tpcc_model.specs.Machine.{tpcc}
 use Rattle.gather.specs.Books.{blank}
+use Rattle.executor.specs.Filing.{Awaits}
 use Rattle.executor.specs.LevelRuns.{cut_by, levels_by}
 use Rattle.executor.proofs.Filing.{FilesRest}
 use Rattle.executor.proofs.parallel.run_levels.Given as goal
@@ -16,5 +18,6 @@ invariant-loop-level g l =
       within : strays machine l.store.rows left ≡ strays machine l.fn.store.rows all;
       rows : run_rows machine l.store.rows left ≡ run_rows machine l.fn.store.rows all;
       filed : FilesRest (run_replies machine l.fn.store.rows all) (run_replies machine l.store.rows left) (blank l.first (length l.batch.requests)) l.book;
+      awaited : (level place : ℕ) (places : List ℕ) → l.level ≤ level → slice_get (cut_by l.footprints) level ≡ Some places → Has places place → Awaits l.book place;
       points : l.store.points ≡ l.fn.store.points;
     }

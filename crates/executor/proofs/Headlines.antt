@@ -1,0 +1,145 @@
+-- The headline of records that are those of a run.
+use Rattle.std.proofs.Common.{◌≡◌, ◌⊎◌, inl, inr, ℕ, zero, suc, ◌+◌, ◌≤◌, List, [], ◌∷◌, length, map, take, Result, Ok, Err, IfOk, OnOk, refl, sym, ap, subst, ◌∙◌, arith}
+use Rattle.std.proofs.lemmas.List.{length-map, take_all}
+use Rattle.catalog.specs.CardMap.{Cards}
+use Rattle.requests.specs.declared.request.Batch.{Batch}
+use Rattle.tpcc_model.specs.Database.{Database}
+use Rattle.tpcc_model.specs.Serial.{State, after_batch, opening, serial}
+use Rattle.tpcc_model.specs.Soundness.{IsSound}
+use Rattle.executor.specs.Executions.{IsRecordOf}
+use Rattle.executor.specs.Headline.{Headline, MeetsConditions, all_serially, completed, completed_serially}
+use Rattle.executor.specs.Laws.{BatchesKeep, ExecutionsHaveHeadline, OpeningIsSound, RunsHaveHeadline, SerialBatchesHaveHeadline}
+use Rattle.executor.specs.Lines.{Line, extended, opening_line}
+use Rattle.executor.specs.Paths.{path_of}
+use Rattle.executor.specs.Runs.{AreRecordsOf, line_after}
+use Rattle.executor.specs.States.{AreAllWithin, IsSoundState}
+use Rattle.executor.specs.declared.record.Record.{Record}
+use Rattle.executor.specs.declared.refusal.Refusal.{Refusal}
+
+meets_conditions : (db : Database) → IsSound db → MeetsConditions db.rows
+meets_conditions db sound = record { condition_1 = sound.condition_1; conditions_2_to_4 = sound.districts }
+
+one_as_serial : (cards : Cards) (state : State) (batch : Batch) (r : Record) → IsRecordOf cards state batch (path_of cards state batch) r → completed r ≡ completed_serially cards state batch
+one_as_serial cards state batch r is =
+    (λ i. record { sequence = is.sequence i; first = is.first i; replies = is.replies i; token = is.token i; path = is.path i })
+
+records_as_serial : (cards : Cards) (state : State) (batches : List Batch) (records : List Record) → AreRecordsOf cards state batches records
+    → map completed records ≡ all_serially cards state (take (length records) batches)
+records_as_serial cards state [] [] are = refl
+records_as_serial cards state [] (r ∷ records) are = absurd are
+records_as_serial cards state (batch ∷ batches) [] are = refl
+records_as_serial cards state (batch ∷ batches) (r ∷ records) are =
+    let here = one_as_serial cards state batch r are.0 in
+    let rest = records_as_serial cards (after_batch cards state batch) batches records are.1 in
+    (λ i. here i ∷ rest i)
+
+-- records that are those of a run, on states that are sound
+pub headline_of : (cards : Cards) (start : State) (batches : List Batch) (records : List Record) (present : State) → AreRecordsOf cards start batches records → present ≡ serial cards start (take (length records) batches)
+    → ((count : ℕ) → count ≤ length records → IsSoundState cards (serial cards start (take count batches))) → Headline cards start batches (map completed records) present
+headline_of cards start batches records present are left sound =
+    let counted : length records ≡ length (map completed records) = sym (length-map records completed) in
+    let within : (count : ℕ) → count ≤ length (map completed records) → count ≤ length records = λ count low. omega (arith, low, counted) in
+    record {
+      batches_as_serial = records_as_serial cards start batches records are ∙ ap (λ n. all_serially cards start (take n batches)) counted;
+      state_as_serial = left ∙ ap (λ n. serial cards start (take n batches)) counted;
+      sound = λ count low. (sound count (within count low)).database;
+      conditions = λ count low. let db : Database = record { cards = cards; rows = (serial cards start (take count batches)).rows } in meets_conditions db (sound count (within count low)).database;
+    }
+
+-- one batch that was executed
+pub headline_of_one : (old new : Line) (batch : Batch) (r : Record) → IsRecordOf old.cards old.present batch (path_of old.cards old.present batch) r → new ≡ extended old batch
+    → IsSoundState old.cards old.present → IsSoundState new.cards new.present → Headline old.cards old.present (batch ∷ []) (completed r ∷ []) new.present
+headline_of_one old new batch r is line sound sound_after =
+    headline_of old.cards old.present (batch ∷ []) (r ∷ []) new.present (is, tt) (ap (λ (l : Line). l.present) line) each
+  where
+    each : (count : ℕ) → count ≤ 1 → IsSoundState old.cards (serial old.cards old.present (take count (batch ∷ [])))
+    each zero low = sound
+    each (suc zero) low = subst (λ (l : Line). IsSoundState l.cards l.present) line sound_after
+    each (suc (suc n)) low = absurd (omega (arith, low))
+
+pub headline_if_ok : (old new : Line) (batch : Batch) (result : Result Record Refusal) → IfOk result (IsRecordOf old.cards old.present batch (path_of old.cards old.present batch)) → OnOk result (new ≡ extended old batch)
+    → IsSoundState old.cards old.present → IsSoundState new.cards new.present → IfOk result (λ r. Headline old.cards old.present (batch ∷ []) (completed r ∷ []) new.present)
+headline_if_ok old new batch (Ok r) is line sound sound_after = headline_of_one old new batch r is line sound sound_after
+headline_if_ok old new batch (Err e) is line sound sound_after = tt
+
+-- batches within their limits keep each state sound
+pub each_state_sound : BatchesKeep → (cards : Cards) (start : State) (batches : List Batch) → IsSoundState cards start → AreAllWithin cards start batches
+    → (count : ℕ) → IsSoundState cards (serial cards start (take count batches))
+each_state_sound keep cards start [] sound within zero = sound
+each_state_sound keep cards start [] sound within (suc count) = sound
+each_state_sound keep cards start (batch ∷ batches) sound within zero = sound
+each_state_sound keep cards start (batch ∷ batches) sound within (suc count) =
+    each_state_sound keep cards (after_batch cards start batch) batches (keep cards start batch sound within.0) within.1 count
+
+-- ---- a run
+present_after : (line : Line) (done : List Batch) → (line_after line done).present ≡ serial line.cards line.present done
+present_after line [] = refl
+present_after line (batch ∷ done) = refl
+
+sound_after : (line : Line) (done : List Batch) → IsSoundState (line_after line done).cards (line_after line done).present → IsSoundState line.cards (serial line.cards line.present done)
+sound_after line [] sound = sound
+sound_after line (batch ∷ done) sound = sound
+
+pub headline_of_line : (old new : Line) (batches : List Batch) (records : List Record) → AreRecordsOf old.cards old.present batches records → new ≡ line_after old (take (length records) batches)
+    → ((count : ℕ) → count ≤ length records → IsSoundState old.cards (serial old.cards old.present (take count batches))) → Headline old.cards old.present batches (map completed records) new.present
+headline_of_line old new batches records are line sound =
+    headline_of old.cards old.present batches records new.present are (ap (λ (l : Line). l.present) line ∙ present_after old (take (length records) batches)) sound
+
+-- no batch
+pub sound_before : (cards : Cards) (start : State) (batches : List Batch) → IsSoundState cards start → (count : ℕ) → count ≤ 0 → IsSoundState cards (serial cards start (take count batches))
+sound_before cards start [] sound zero low = sound
+sound_before cards start [] sound (suc count) low = sound
+sound_before cards start (batch ∷ batches) sound zero low = sound
+sound_before cards start (batch ∷ batches) sound (suc count) low = absurd (omega (arith, low))
+
+pub headline_of_none : (line : Line) (batches : List Batch) (records : List Record) → records ≡ [] → IsSoundState line.cards line.present → Headline line.cards line.present batches (map completed records) line.present
+headline_of_none line batches records none sound =
+    subst (λ (rs : List Record). Headline line.cards line.present batches (map completed rs) line.present) (sym none)
+    (headline_of line.cards line.present batches [] line.present (no_records batches) (left batches) (sound_before line.cards line.present batches sound))
+  where
+    no_records : (bs : List Batch) → AreRecordsOf line.cards line.present bs []
+    no_records [] = tt
+    no_records (b ∷ bs) = tt
+
+    left : (bs : List Batch) → line.present ≡ serial line.cards line.present (take 0 bs)
+    left [] = refl
+    left (b ∷ bs) = refl
+
+-- one batch more
+pub sound_more : (old new : Line) (batches : List Batch) (i : ℕ) → new ≡ line_after old (take (i + 1) batches) → IsSoundState new.cards new.present
+    → ((count : ℕ) → count ≤ i → IsSoundState old.cards (serial old.cards old.present (take count batches)))
+    → (count : ℕ) → count ≤ i + 1 → IsSoundState old.cards (serial old.cards old.present (take count batches))
+sound_more old new batches i line sound each count low =
+    let either : (count ≤ i) ⊎ (i + 1 ≡ count) = grind (arith, low) in
+    elim either [
+      | inl before ↦ each count before
+      | inr here ↦
+          subst (λ n. IsSoundState old.cards (serial old.cards old.present (take n batches))) here
+          (sound_after old (take (i + 1) batches) (subst (λ (l : Line). IsSoundState l.cards l.present) line sound))
+    ]
+
+length-all_serially : (cards : Cards) (state : State) (batches : List Batch) → length (all_serially cards state batches) ≡ length batches
+length-all_serially cards state [] = refl
+length-all_serially cards state (batch ∷ batches) = ap suc (length-all_serially cards (after_batch cards state batch) batches)
+
+-- ---- the law
+pub serial_batches_have_headline : BatchesKeep → SerialBatchesHaveHeadline
+serial_batches_have_headline keep cards start batches sound within =
+    let counted = length-all_serially cards start batches in
+    let all : take (length (all_serially cards start batches)) batches ≡ batches = ap (λ n. take n batches) counted ∙ take_all (length batches) batches (omega arith) in
+    let each = each_state_sound keep cards start batches sound within in
+    record {
+      batches_as_serial = ap (all_serially cards start) (sym all);
+      state_as_serial = ap (serial cards start) (sym all);
+      sound = λ count low. (each count).database;
+      conditions = λ count low. let db : Database = record { cards = cards; rows = (serial cards start (take count batches)).rows } in meets_conditions db (each count).database;
+    }
+
+pub executions_have_headline : BatchesKeep → ExecutionsHaveHeadline
+executions_have_headline keep old new batch r sound within is line =
+    headline_of_one old new batch r is line sound (subst (λ (l : Line). IsSoundState l.cards l.present) (sym line) (keep old.cards old.present batch sound within))
+
+pub runs_have_headline : OpeningIsSound → BatchesKeep → RunsHaveHeadline
+runs_have_headline opened keep db most new batches end sound within run =
+    headline_of_line (opening_line db.cards db.rows) new batches end.records.items run.records run.line
+    (λ count low. each_state_sound keep db.cards (opening db.cards db.rows) batches (opened db sound) within count)
