@@ -11,8 +11,7 @@
 //!   after the other (`serial`).
 //! - `LevelNumbers`: of two requests of a batch that meet, the later one has the greater level (`levels_rise`).
 //! - `Signatures`: footprints without a bit in common are apart (`apart_by_bits`).
-//! - `Agreement`: to agree on granules is to have the same rows there (`agree_from_restrict`, `restrict_from_agree`),
-//!   and then what is picked there is the same (`same_picks`).
+//! - `Agreement`: what is picked at keys where two maps agree, and nowhere else, is the same in both (`same_picks`).
 //! - `Changes`: rows that differ by the last changes of each key alone are the rows after the changes (`applied`).
 //!
 //! They are lemmas that other crates import, since no clause can speak of all types of keys and rows at once.
