@@ -10,12 +10,6 @@ pub mod BookLemmas
 pub mod DistrictLemmas
 pub mod Sound
 pub mod Texts
-pub mod StoredRecords
-pub mod StoredMaps
-pub mod StoredTables
-pub mod StoredImage
-pub mod StoredChecks
-pub mod StoredDistricts
 pub mod MadeTexts
 pub mod MadeSteps
 pub mod MadeLimits

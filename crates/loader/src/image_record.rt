@@ -22,7 +22,7 @@ use tpcc_rows::row::{
 
 /// What one record adds to a database.
 #[derive(Drop)]
-pub(crate) enum ImageRecord {
+pub enum ImageRecord {
     Warehouse {
         card: WarehouseCard,
         row: WarehouseRow,

@@ -8,7 +8,7 @@ mod columns;
 mod districts;
 pub mod fault;
 pub mod image;
-mod image_record;
+pub mod image_record;
 pub mod laws;
 mod made_records;
 pub mod making;

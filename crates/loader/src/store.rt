@@ -22,7 +22,7 @@ use tpcc_rows::memory::Memory;
 /// The cards by their place in an image: the items stand before the stocks, where in the order of keys they stand
 /// behind them.
 #[derive(Clone, Copy)]
-enum CardPart {
+pub enum CardPart {
     /// The warehouses, the districts and the customers.
     BeforeItems,
     Items,

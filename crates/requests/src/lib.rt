@@ -9,7 +9,7 @@ mod reading;
 pub mod reply;
 pub mod reply_text;
 pub mod request;
-mod request_fields;
+pub mod request_fields;
 mod request_record;
 
 pub use batch_reader::BatchReader;

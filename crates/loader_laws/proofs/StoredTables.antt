@@ -19,7 +19,7 @@ use Rattle.loader.specs.StoredImage.{card_said, row_said}
 use Rattle.loader.specs.declared.image_record.ImageRecord.{ImageRecord}
 use Rattle.loader.specs.declared.image_record.ImageRecord.TheVariants as said
 use Rattle.loader.proofs.Filled.{IsOrderKey, card_key_of, row_key_of}
-use Rattle.loader.proofs.StoredRecords.{IsStored}
+use Rattle.loader_laws.proofs.StoredRecords.{IsStored}
 
 -- the card and the row that a record adds
 abbrev pub card_of : ImageRecord → Option (CardKey × Card)

@@ -35,9 +35,9 @@ use Rattle.loader.specs.declared.image_record.ImageRecord.TheVariants as said
 use Rattle.loader.specs.declared.store.CardPart.{CardPart}
 use Rattle.loader.specs.declared.store.CardPart.TheVariants as part
 use Rattle.loader.proofs.Filled.{card_key_of}
-use Rattle.loader.proofs.StoredMaps.{AreApart, AreFresh, IsOf, Occurs, all-append, all-filter_map, all-map, all-mapped, apart-append, are-own, found-first, found-right, found-where, fresh-head, fresh-skip, fresh-tail, occurs-left, occurs-made, occurs-right, put_at, puts, puts-others, puts-whole, sorted-apart}
-use Rattle.loader.proofs.StoredRecords.{IsStored, record_at-written}
-use Rattle.loader.proofs.StoredTables.{card-said, card_of, row-said, row_of}
+use Rattle.loader_laws.proofs.StoredMaps.{AreApart, AreFresh, IsOf, Occurs, all-append, all-filter_map, all-map, all-mapped, apart-append, are-own, found-first, found-right, found-where, fresh-head, fresh-skip, fresh-tail, occurs-left, occurs-made, occurs-right, put_at, puts, puts-others, puts-whole, sorted-apart}
+use Rattle.loader_laws.proofs.StoredRecords.{IsStored, record_at-written}
+use Rattle.loader_laws.proofs.StoredTables.{card-said, card_of, row-said, row_of}
 
 abbrev CardsApart : List (CardKey × Card) → Type 0
 CardsApart = AreApart card_key_cmp_total exact_cards

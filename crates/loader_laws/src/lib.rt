@@ -1,0 +1,13 @@
+//! What is stored is read again: a call of such a function proves its law.
+#![tactic(auto)]
+
+ghost use Rattle.std.specs.Prelude.{◌≡◌, Ok};
+ghost use Rattle.tpcc_model.specs.Database.{Database};
+ghost use Rattle.tpcc_model.specs.Soundness.{IsSound};
+ghost use Rattle.loader.specs.Image.{image};
+ghost use Rattle.loader.specs.StoredImage.{image_text};
+
+/// The image of a sound database is read as that database.
+pub fn image_read_back()
+    ensures { (db : Database) → IsSound db → image (image_text db) ≡ Ok db }
+{}
