@@ -8,7 +8,7 @@ use Rattle.serializability.proofs.Changes.{apply-append}
 use Rattle.tpcc_rows.specs.Changing.{after}
 use Rattle.tpcc_rows.specs.RowMap.{Rows}
 use Rattle.gather.specs.Merged.{after_each}
-use Rattle.workers.specs.declared.job.PlaceOutcome.{PlaceOutcome}
+use Rattle.workers.specs.declared.placed_request.PlaceOutcome.{PlaceOutcome}
 
 -- the changes of each outcome in turn are all of them
 pub after_outcomes : (outcomes : List PlaceOutcome) (rows : Rows) → after_each rows (map (λ done. done.changes) outcomes) ≡ apply (flat_map (λ done. entries done.changes) outcomes) rows
