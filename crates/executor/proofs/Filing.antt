@@ -14,7 +14,7 @@ use Rattle.requests.specs.declared.reply.Reply.{Reply}
 use Rattle.gather.specs.Books.{Book, blank, Expects, HasFiled, with_reply}
 use Rattle.gather.specs.declared.reply_book.FileError.{FileError}
 use Rattle.gather.specs.declared.reply_book.FileError.TheVariants as file_error
-use Rattle.workers.specs.declared.job.PlaceOutcome.{PlaceOutcome}
+use Rattle.workers.specs.declared.placed_request.PlaceOutcome.{PlaceOutcome}
 use Rattle.executor.specs.Filing.{Awaits, FilesEach, reply_at}
 
 or_none : {X : Type 0} (o : Option X) → option_or o None ≡ o
