@@ -37,6 +37,3 @@ pub use request::{
     Request, RequestKind, Requests, StockLevel, Verdict,
 };
 pub use whole::{push_all, slurp};
-
-#[cfg(test)]
-mod tests;
