@@ -1,6 +1,6 @@
-//! A database is made and stored, its image is checked, and batches of all five transactions are run on it, in levels and
-//! one request after the other, all over bytes in memory, for trying what comes where memory is refused: in this folder, `rt try --fail-alloc N` refuses the
-//! Nth growth. With ample memory it prints the line of the check and the text of the run, and ends with status 0. Where
+//! A database is made and stored, its image is checked, and batches of all five transactions are run on it by two workers,
+//! all over bytes in memory, for trying what comes where memory is refused: in this folder, `rt try --fail-alloc N` refuses
+//! the Nth growth. With ample memory it prints the line of the check and the text of the run, and ends with status 0. Where
 //! an answer is that memory was refused, what the sink took is a beginning of its text, and the status is 1 with no
 //! output. Anything else is printed as wrong.
 #![tactic(auto)]
@@ -8,7 +8,7 @@
 use executor::Refusal;
 use loader::{LoadError, make, store_image};
 use requests::{BytesSink, BytesSource, ReadError};
-use runner::{RunFault, check_text, run_text, run_text_sequential};
+use runner::{RunFault, check_text, run_text};
 use std::alloc::Global;
 use std::process::ExitCode;
 use std::thread::Threads;
@@ -29,7 +29,7 @@ P,1,2,1,1,I,1,100
 /// The line of the check.
 const LINE: &str = "ok 1 26 ba7bdc56d856e2d02dee1b537231a423790137c3d0d04061bbcdd7a588f2d1d0\n";
 
-/// The text of the run in levels.
+/// The text of the run.
 const TEXT: &str = "1,new-order,ok,1,1553,10,G,100,11,G,200,12,G,300,13,G,400,14,G,500
 2,payment,ok,1,-2000,GC
 3,order-status,ok,1,F9,OE,NAME1,-2000,1,100,-,1,1,1,100,-,2,1,1,200,-,3,1,1,300,-,4,1,1,400,-,5,1,1,500,-
@@ -39,18 +39,6 @@ const TEXT: &str = "1,new-order,ok,1,1553,10,G,100,11,G,200,12,G,300,13,G,400,14
 batch,1,reran,9b5fd4983a60fe341d8c32e2474b27401e590f9bdd7c4e367670963d3243df78
 7,payment,ok,1,-600,GC
 batch,2,parallel,edf328309a7e38ae0fce86a3ae788c8d2d4835676dc5c93ad5560a77a094ee8e
-";
-
-/// The text of the run of one request after the other.
-const TEXT_IN_TURN: &str = "1,new-order,ok,1,1553,10,G,100,11,G,200,12,G,300,13,G,400,14,G,500
-2,payment,ok,1,-2000,GC
-3,order-status,ok,1,F9,OE,NAME1,-2000,1,100,-,1,1,1,100,-,2,1,1,200,-,3,1,1,300,-,4,1,1,400,-,5,1,1,500,-
-4,delivery,ok,1,-,-,-,-,-,-,-,-,-
-5,stock-level,ok,2
-6,payment,refused,2,Unknown key
-batch,1,sequential,9b5fd4983a60fe341d8c32e2474b27401e590f9bdd7c4e367670963d3243df78
-7,payment,ok,1,-600,GC
-batch,2,sequential,edf328309a7e38ae0fce86a3ae788c8d2d4835676dc5c93ad5560a77a094ee8e
 ";
 
 /// What comes of a call.
@@ -114,25 +102,17 @@ fn ran<R: Threads + Sync + AllocGlobal>(rt: &R, image: &[u8]) -> Outcome {
         &mut image,
         &mut batches,
         &mut sink,
-        Workers::new(1).unwrap(),
+        Workers::new(2).unwrap(),
         &NoGate,
     );
     outcome_of(&answer, &2, sink.bytes.as_slice(), TEXT)
 }
 
-fn ran_in_turn<R: Threads + Sync + AllocGlobal>(rt: &R, image: &[u8]) -> Outcome {
-    let mut image = BytesSource::new(image, 64);
-    let mut batches = BytesSource::new(BATCHES, 64);
-    let mut sink = BytesSink::new(rt.alloc(), 64);
-    let answer = run_text_sequential(rt, rt.alloc(), &mut image, &mut batches, &mut sink);
-    outcome_of(&answer, &2, sink.bytes.as_slice(), TEXT_IN_TURN)
-}
-
-/// What comes of all three calls together.
+/// What comes of both calls together.
 fn tried<R: Threads + Sync + AllocGlobal>(rt: &R, image: &[u8]) -> Outcome {
-    match (checked(rt, image), ran(rt, image), ran_in_turn(rt, image)) {
-        (Outcome::Done, Outcome::Done, Outcome::Done) => Outcome::Done,
-        (Outcome::Wrong, _, _) | (_, Outcome::Wrong, _) | (_, _, Outcome::Wrong) => Outcome::Wrong,
+    match (checked(rt, image), ran(rt, image)) {
+        (Outcome::Done, Outcome::Done) => Outcome::Done,
+        (Outcome::Wrong, _) | (_, Outcome::Wrong) => Outcome::Wrong,
         _ => Outcome::Refused,
     }
 }
@@ -143,7 +123,7 @@ fn main(rt: HostRuntime) -> ExitCode {
     };
     match tried(&rt, image.as_slice()) {
         Outcome::Done => {
-            let _ = print!(&rt; "{LINE}{TEXT}{TEXT_IN_TURN}");
+            let _ = print!(&rt; "{LINE}{TEXT}");
             ExitCode::SUCCESS
         }
         Outcome::Wrong => {

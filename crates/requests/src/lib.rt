@@ -28,6 +28,3 @@ pub use request::{
     Batch, CustomerChoice, Delivery, NewOrder, OrderStatus, OrderedLine, OrderedLines, Payment,
     Request, RequestKind, Requests, StockLevel, Verdict,
 };
-
-#[cfg(test)]
-mod tests;
