@@ -43,7 +43,7 @@ batch,2,parallel,edf328309a7e38ae0fce86a3ae788c8d2d4835676dc5c93ad5560a77a094ee8
 
 /// What comes of a call.
 #[derive(Drop)]
-enum Outcome {
+enum Answer {
     /// The wanted text was written.
     Done,
     /// Memory was refused, and a beginning of the wanted text was written.
@@ -78,21 +78,21 @@ fn outcome_of<T: PartialEq>(
     wanted: &T,
     written: &[u8],
     text: &str,
-) -> Outcome {
+) -> Answer {
     match answer {
-        Ok(value) if value == wanted && written == text.as_bytes() => Outcome::Done,
-        Err(fault) if is_memory(fault) && text.as_bytes().starts_with(written) => Outcome::Refused,
-        _ => Outcome::Wrong,
+        Ok(value) if value == wanted && written == text.as_bytes() => Answer::Done,
+        Err(fault) if is_memory(fault) && text.as_bytes().starts_with(written) => Answer::Refused,
+        _ => Answer::Wrong,
     }
 }
 
-fn checked<R: Threads + Sync + AllocGlobal>(rt: &R, image: &[u8]) -> Outcome {
+fn checked<R: Threads + Sync + AllocGlobal>(rt: &R, image: &[u8]) -> Answer {
     let mut sink = BytesSink::new(rt.alloc(), 64);
     let answer = check_text(rt, rt.alloc(), &mut BytesSource::new(image, 64), &mut sink);
     outcome_of(&answer, &(), sink.bytes.as_slice(), LINE)
 }
 
-fn ran<R: Threads + Sync + AllocGlobal>(rt: &R, image: &[u8]) -> Outcome {
+fn ran<R: Threads + Sync + AllocGlobal>(rt: &R, image: &[u8]) -> Answer {
     let mut image = BytesSource::new(image, 64);
     let mut batches = BytesSource::new(BATCHES, 64);
     let mut sink = BytesSink::new(rt.alloc(), 64);
@@ -109,11 +109,11 @@ fn ran<R: Threads + Sync + AllocGlobal>(rt: &R, image: &[u8]) -> Outcome {
 }
 
 /// What comes of both calls together.
-fn tried<R: Threads + Sync + AllocGlobal>(rt: &R, image: &[u8]) -> Outcome {
+fn tried<R: Threads + Sync + AllocGlobal>(rt: &R, image: &[u8]) -> Answer {
     match (checked(rt, image), ran(rt, image)) {
-        (Outcome::Done, Outcome::Done) => Outcome::Done,
-        (Outcome::Wrong, _) | (_, Outcome::Wrong) => Outcome::Wrong,
-        _ => Outcome::Refused,
+        (Answer::Done, Answer::Done) => Answer::Done,
+        (Answer::Wrong, _) | (_, Answer::Wrong) => Answer::Wrong,
+        _ => Answer::Refused,
     }
 }
 
@@ -122,14 +122,14 @@ fn main(rt: HostRuntime) -> ExitCode {
         return ExitCode::FAILURE;
     };
     match tried(&rt, image.as_slice()) {
-        Outcome::Done => {
+        Answer::Done => {
             let _ = print!(&rt; "{LINE}{TEXT}");
             ExitCode::SUCCESS
         }
-        Outcome::Wrong => {
+        Answer::Wrong => {
             let _ = println!(&rt; "wrong");
             ExitCode::SUCCESS
         }
-        Outcome::Refused => ExitCode::FAILURE,
+        Answer::Refused => ExitCode::FAILURE,
     }
 }
