@@ -122,18 +122,25 @@ length-all_serially : (cards : Cards) (state : State) (batches : List Batch) →
 length-all_serially cards state [] = refl
 length-all_serially cards state (batch ∷ batches) = ap suc (length-all_serially cards (after_batch cards state batch) batches)
 
--- ---- the law
-pub serial_batches_have_headline : BatchesKeep → SerialBatchesHaveHeadline
-serial_batches_have_headline keep cards start batches sound within =
+-- ---- batches as one thread completes them
+-- on states that are sound
+pub headline_where_sound : (cards : Cards) (start : State) (batches : List Batch) → ((count : ℕ) → count ≤ length batches → IsSoundState cards (serial cards start (take count batches)))
+    → Headline cards start batches (all_serially cards start batches) (serial cards start batches)
+headline_where_sound cards start batches each =
     let counted = length-all_serially cards start batches in
     let all : take (length (all_serially cards start batches)) batches ≡ batches = ap (λ n. take n batches) counted ∙ take_all (length batches) batches (omega arith) in
-    let each = each_state_sound keep cards start batches sound within in
+    let within : (count : ℕ) → count ≤ length (all_serially cards start batches) → count ≤ length batches = λ count low. omega (arith, low, counted) in
     record {
       batches_as_serial = ap (all_serially cards start) (sym all);
       state_as_serial = ap (serial cards start) (sym all);
-      sound = λ count low. (each count).database;
-      conditions = λ count low. let db : Database = record { cards = cards; rows = (serial cards start (take count batches)).rows } in meets_conditions db (each count).database;
+      sound = λ count low. (each count (within count low)).database;
+      conditions = λ count low. let db : Database = record { cards = cards; rows = (serial cards start (take count batches)).rows } in meets_conditions db (each count (within count low)).database;
     }
+
+-- ---- the law
+pub serial_batches_have_headline : BatchesKeep → SerialBatchesHaveHeadline
+serial_batches_have_headline keep cards start batches sound within =
+    headline_where_sound cards start batches (λ count low. each_state_sound keep cards start batches sound within count)
 
 pub executions_have_headline : BatchesKeep → ExecutionsHaveHeadline
 executions_have_headline keep old new batch r sound within is line =

@@ -15,8 +15,6 @@ mod refusal;
 mod run;
 mod sequential;
 mod stamp;
-#[cfg(test)]
-mod tests;
 
 pub use executor::Executor;
 pub use record::Record;

@@ -1,0 +1,78 @@
+//! Two requests of a level are executed at the same time.
+use crate::batches::{TEN_ORDERS, batch_of, opened};
+use executor::Executor;
+use executor::path::Path;
+use requests::request::Batch;
+use std::alloc::Global;
+use std::hint::spin_loop;
+use std::sync::atomic::{AtomicBool, Ordering};
+use std::test::Fail;
+use std::thread::Threads;
+use workers::{Gate, Workers};
+
+/// The most turns that a place is held.
+const TURNS: u64 = 50_000_000;
+
+/// Holds place 0 until place 1 is entered.
+#[derive(Drop)]
+struct MeetingGate {
+    entered: AtomicBool,
+    missed: AtomicBool,
+}
+
+impl Gate for MeetingGate {
+    fn enter(&self, place: usize) {
+        if place == 1 {
+            self.entered.store(true, Ordering::SeqCst);
+        }
+        if place != 0 {
+            return;
+        }
+        for _turn in 0..TURNS {
+            if self.entered.load(Ordering::SeqCst) {
+                return;
+            }
+            spin_loop();
+        }
+        self.missed.store(true, Ordering::SeqCst);
+    }
+
+    fn leave(&self, _: usize) {}
+}
+
+impl MeetingGate {
+    fn new() -> MeetingGate {
+        MeetingGate {
+            entered: AtomicBool::new(false),
+            missed: AtomicBool::new(false),
+        }
+    }
+
+    /// Places 0 and 1 were executed at the same time.
+    fn has_met(&self) -> bool {
+        self.entered.load(Ordering::SeqCst) && !self.missed.load(Ordering::SeqCst)
+    }
+}
+
+/// Whether places 0 and 1 of the batch meet on two workers.
+fn meets<R: Threads + Sync>(
+    rt: &R,
+    alloc: Global,
+    executor: &mut Executor,
+    batch: &Batch,
+    gate: &MeetingGate,
+) -> Option<bool> {
+    let workers = Workers::new(2)?;
+    let record = executor.execute(rt, alloc, batch, workers, gate).ok()?;
+    Some(record.path == Path::Parallel && gate.has_met())
+}
+
+#[test]
+fn two_at_once(rt: HostRuntime) -> Result<(), Fail> {
+    let alloc = rt.alloc();
+    let mut executor = opened(&rt, alloc)?;
+    let batch = batch_of(alloc, TEN_ORDERS).ok_or("a batch")?;
+    let gate = MeetingGate::new();
+    assert_eq!(rt; meets(&rt, alloc, &mut executor, &batch, &gate), Some(true));
+    Ok(())
+}
