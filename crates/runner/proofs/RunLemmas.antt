@@ -20,7 +20,7 @@ use Rattle.requests.specs.declared.request.Request.{Request}
 use Rattle.records.specs.Io.{AppendsFront}
 use Rattle.requests.specs.declared.request.Batch.{Batch}
 use Rattle.records.proofs.IoLemmas.{appends_twice}
-use Rattle.runner.specs.Runs.{AllFit, AreCompleted, Began, Completes, IsOfRecords, LeavesBatch, Left, NumbersFit, Taken, TookFront}
+use Rattle.runner.specs.Runs.{AllFit, AreCompleted, Began, Completes, IsOfRecords, LeavesBatch, Left, NumbersFit, Taken, TookFront, TookSome}
 use Rattle.runner.specs.Text.{batch_text, text}
 use Rattle.runner.specs.declared.fault.RunFault.{RunFault}
 use Rattle.runner.specs.declared.fault.RunFault.TheVariants as run_fault
@@ -73,7 +73,7 @@ take-more zero done batch low = inl (omega arith, refl)
 take-more (suc zero) [] batch low = inr refl
 take-more (suc (suc n)) [] batch low = absurd (omega (arith, low))
 take-more (suc n) (b ∷ done) batch low = elim (take-more n done batch (omega (arith, low))) [
-  | inl (within, same) ↦ inl (omega (arith, within), ap (λ (bs : List Batch). b ∷ bs) same)
+  | inl (few, same) ↦ inl (omega (arith, few), ap (λ (bs : List Batch). b ∷ bs) same)
   | inr same ↦ inr (ap (λ (bs : List Batch). b ∷ bs) same)
 ]
 
@@ -88,29 +88,34 @@ pub headline_by : (cards : Cards) (state : State) (done : List Batch)
 headline_by cards state done sound =
     let same = length-all cards state done in
     let all : done ≡ take (length (all_serially cards state done)) done = sym (take_all (length (all_serially cards state done)) done (omega (arith, same))) in
-    let low : (count : ℕ) → count ≤ length (all_serially cards state done) → count ≤ length done = λ count within. omega (arith, within, same) in
+    let low : (count : ℕ) → count ≤ length (all_serially cards state done) → count ≤ length done = λ count few. omega (arith, few, same) in
     record {
       batches_as_serial = ap (all_serially cards state) all;
       state_as_serial = ap (serial cards state) all;
-      sound = λ count within. sound count (low count within);
-      conditions = λ count within. let is = sound count (low count within) in record { condition_1 = is.condition_1; conditions_2_to_4 = is.districts };
+      sound = λ count few. sound count (low count few);
+      conditions = λ count few. let is = sound count (low count few) in record { condition_1 = is.condition_1; conditions_2_to_4 = is.districts };
     }
 
+abbrev no_batch : List Batch
+no_batch = []
+
+take-none : (count : ℕ) → take count no_batch ≡ no_batch
+take-none zero = refl
+take-none (suc n) = refl
+
 pub completed-none : (cards : Cards) (state : State) → IsSoundState cards state → AreCompleted cards state []
-completed-none cards state sound = (tt, headline_by cards state [] (λ count low. subst (λ (bs : List Batch). IsSound (record { cards = cards; rows = (serial cards state bs).rows })) (sym (take-none count)) sound.database))
-  where
-    take-none : (count : ℕ) → take count ([] : List Batch) ≡ []
-    take-none zero = refl
-    take-none (suc n) = refl
+completed-none cards state sound =
+    (tt, headline_by cards state no_batch (λ count low. subst (λ (bs : List Batch). IsSound (record { cards = cards; rows = (serial cards state bs).rows })) (sym (take-none count)) sound.database))
 
 pub completed-more : (cards : Cards) (state : State) (done : List Batch) (batch : Batch) → AreCompleted cards state done → Completes cards (serial cards state done) batch → AreCompleted cards state (done ++ batch ∷ [])
 completed-more cards state done batch all one = (fit-more cards state done batch all.0 one.0, headline_by cards state (done ++ batch ∷ []) each)
   where
     is_sound : List Batch → Type 0
     is_sound bs = IsSound (record { cards = cards; rows = (serial cards state bs).rows })
+
     each : (count : ℕ) → count ≤ length (done ++ batch ∷ []) → is_sound (take count (done ++ batch ∷ []))
     each count low = elim (take-more count done batch low) [
-      | inl (within, same) ↦ subst is_sound (sym same) (all.1.sound count (let same_length = length-all cards state done in omega (arith, within, same_length)))
+      | inl (few, same) ↦ subst is_sound (sym same) (all.1.sound count (let same_length = length-all cards state done in omega (arith, few, same_length)))
       | inr same ↦ subst is_sound (sym same) (subst (λ (s : State). IsSound (record { cards = cards; rows = s.rows })) (sym (serial-more cards state done batch)) one.1.database)
     ]
 
@@ -120,6 +125,14 @@ text-more cards state done batch old mid new a b =
     let whole : text cards state (done ++ batch ∷ []) ≡ text cards state done ++ batch_text cards (serial cards state done) batch =
     text-both cards state done (batch ∷ []) ∙ ap (λ t. text cards state done ++ t) (append-nil (batch_text cards (serial cards state done) batch)) in
     subst (Appends old new) (sym whole) (appends_twice old mid new (text cards state done) (batch_text cards (serial cards state done) batch) a b)
+
+-- ---- before the first batch
+pub nothing_taken : (t : Taken) → Appends t t []
+nothing_taken None = tt
+nothing_taken (Some xs) = sym (append-nil xs)
+
+pub took_none : (cards : Cards) (state : State) (all : List Batch) (t : Taken) → IsSoundState cards state → TookSome cards state all t t
+took_none cards state all t sound = ([], all, record { parts = refl; completed = completed-none cards state sound; written = nothing_taken t })
 
 -- one batch more was read
 pub reading-more : (all left new : Reading) (done : List Batch) (batch : Batch) → all ≡ (done ++ left.0, left.1) → left ≡ with_front batch new → all ≡ ((done ++ batch ∷ []) ++ new.0, new.1)

@@ -1,12 +1,12 @@
 -- A run on the database of an image.
-use Rattle.std.proofs.Common.{◌≡◌, ℕ, List, [], refl, sym, append-nil, Option, Some, None, Result, Ok, Err, IfOk, IfErr, IfSome}
+use Rattle.std.proofs.Common.{◌≡◌, ℕ, List, [], sym, append-nil, Option, Some, None, Result, Ok, Err, IfOk, IfErr, IfSome}
 use Rattle.std.specs.Io.KnownBytes.{Appends, Keeps}
 use Rattle.executor.specs.States.{IsSoundState}
 use Rattle.executor.specs.declared.refusal.Refusal.TheVariants as refusal
 use Rattle.loader.specs.Image.{image}
 use Rattle.records.specs.Io.{AppendsFront}
 use Rattle.requests.specs.Batches.{batches}
-use Rattle.runner.proofs.RunLemmas.{completed-none, then_kept}
+use Rattle.runner.proofs.RunLemmas.{then_kept, took_none}
 use Rattle.runner.specs.CheckTexts.{ChecksImage, LeavesCheck, opening_text}
 use Rattle.runner.specs.Runs.{Taken}
 use Rattle.runner.specs.WholeRuns.{IsOfDatabase, LeavesDatabase, LeavesRun, RanOn, RanWhole}
@@ -16,13 +16,9 @@ use Rattle.tpcc_model.specs.Database.{Database}
 use Rattle.tpcc_model.specs.Serial.{opening}
 
 -- ---- a run that ends before its first batch
-nothing_taken : (t : Taken) → Appends t t []
-nothing_taken None = tt
-nothing_taken (Some xs) = sym (append-nil xs)
-
 pub refused_at_once : (db : Database) (left : Option (List ℕ)) (t : Taken) → IsSoundState db.cards (opening db.cards db.rows) → IfSome left (λ batch_bytes. LeavesDatabase (run_fault.Exec refusal.Memory) db batch_bytes t t)
 refused_at_once db None t sound = tt
-refused_at_once db (Some batch_bytes) t sound = ([], (batches batch_bytes).0, record { parts = refl; completed = completed-none db.cards (opening db.cards db.rows) sound; written = nothing_taken t })
+refused_at_once db (Some batch_bytes) t sound = took_none db.cards (opening db.cards db.rows) (batches batch_bytes).0 t sound
 
 -- ---- a run on the database of an image
 pub ran_whole : (r : Result ℕ RunFault) (images batches : Option (List ℕ)) (db : Database) (old new : Taken) → IfSome images (λ image_bytes. image image_bytes ≡ Ok db)

@@ -1,10 +1,10 @@
-use Rattle.std.proofs.Common.{rules, ◌≡◌, ◌≤◌, ◌∙◌, ◌∷◌, ◌++◌, [], arith, length-append, append-nil, ap, subst, sym}
+use Rattle.std.proofs.Common.{rules, ◌≡◌, ◌≤◌, ◌∙◌, ◌∷◌, ◌++◌, [], arith, length-append, append-nil, ap, inr, subst, sym}
 use Rattle.std.specs.Io.KnownBytes.{Appends}
 use Rattle.executor.specs.Lines.{Line, committed, extended}
 use Rattle.requests.specs.Batches.{StopsBy, batches, clean}
 use Rattle.runner.specs.Runs.{Completes, LeavesBatch}
 use Rattle.runner.specs.Text.{batch_text, text}
-use Rattle.runner.proofs.RunLemmas.{all_read, completed-more, left_in_batch, line-more, next_in, next-serial, reading-more, stops_by_records, text-more, then_kept}
+use Rattle.runner.proofs.RunLemmas.{all_read, completed-more, completed-none, left_in_batch, line-more, next_in, next-serial, nothing_taken, reading-more, stops_by_records, text-more, then_kept, took_none}
 use Rattle.runner.proofs.ShortBatches.{short_batch}
 use Rattle.runner.proofs.serving.run_batches.Goals as goal
 
@@ -64,3 +64,11 @@ returns-in-Err-next_batch-clause-kinds g c =
     let (same, done, read, count, line, completed, written) = c.batches.invariant in
     let stops : StopsBy c.in-Err-next_batch.error c.batches.reader.left = search rules in
     stops_by_records c.args.text.now c.batches.reader.left done c.in-Err-next_batch.error read stops
+
+pub returns-in-Err-clause-err : goal.returns-in-Err-clause-err
+returns-in-Err-clause-err g c =
+    inr (search rules, took_none c.args.executor.now.cards c.args.executor.now.present (batches c.args.text.now).0 (g.S.Sink.taken c.args.sink.now) c.requires.sound)
+
+pub batches-init : goal.batches-init
+batches-init g c =
+    (search rules, [], search rules, search rules, search rules, completed-none c.args.executor.now.cards c.args.executor.now.present c.requires.sound, nothing_taken (g.S.Sink.taken c.args.sink.now))
