@@ -10,6 +10,3 @@ mod profile;
 mod stock_level;
 
 pub use profile::declare;
-
-#[cfg(test)]
-mod tests;

@@ -13,6 +13,3 @@ pub use job::PlaceOutcome;
 pub use level::{LevelEnd, run_level};
 pub use part::{Outcome, run_seat};
 pub use tickets::Workers;
-
-#[cfg(test)]
-mod tests;
