@@ -6,6 +6,3 @@ mod searching;
 pub mod store;
 
 pub use store::RowStore;
-
-#[cfg(test)]
-mod tests;

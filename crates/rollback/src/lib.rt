@@ -8,6 +8,3 @@ pub mod refusal;
 pub use dirty::Dirty;
 pub use pointed::{POINTS, PointedStore};
 pub use refusal::{MarkError, NoSuchPoint, RewindError};
-
-#[cfg(test)]
-mod tests;

@@ -8,6 +8,3 @@ mod whole;
 pub use loan::Loan;
 pub use view::{RowView, Strayed};
 pub use whole::Whole;
-
-#[cfg(test)]
-mod tests;

@@ -1,0 +1,67 @@
+//! Values that the format and worked examples give, each as a public call answers it, a line each. The wanted lines were
+//! worked out by hand, or by another program. Where memory is refused the rest of a part is left out, and the status is 1.
+#![tactic(auto)]
+
+mod batches;
+mod cards;
+mod chosen_rows;
+mod columns;
+mod compared;
+mod cuts;
+mod database;
+mod desks;
+mod dice;
+mod executions;
+mod footprints;
+mod format;
+mod gates;
+mod granules;
+mod levels;
+mod loans;
+mod orders;
+mod points;
+mod printing;
+mod random;
+mod replies;
+mod roots;
+mod row_bytes;
+mod rows;
+mod second_levels;
+mod second_root;
+mod spelling;
+mod stores;
+mod tokens;
+mod views;
+mod worlds;
+
+use std::process::ExitCode;
+
+fn main(rt: HostRuntime) -> ExitCode {
+    columns::show(&rt);
+    granules::show_bits(&rt);
+    let parts = [
+        row_bytes::show(&rt, rt.alloc()),
+        cards::show(&rt, rt.alloc()),
+        stores::show(&rt, rt.alloc()),
+        points::show(&rt, rt.alloc()),
+        views::show(&rt, rt.alloc()),
+        granules::show(&rt, rt.alloc()),
+        replies::show(&rt, rt.alloc()),
+        worlds::show(&rt, rt.alloc()),
+        desks::show(&rt, rt.alloc()),
+        footprints::show(&rt, rt.alloc()),
+        executions::show(&rt, rt.alloc()),
+        levels::show(&rt, rt.alloc()),
+        roots::show(&rt, rt.alloc()),
+        tokens::show(&rt, rt.alloc()),
+        cuts::show(&rt, rt.alloc()),
+        compared::show(&rt, rt.alloc()),
+        orders::show(&rt, rt.alloc()),
+        loans::show(&rt, rt.alloc()),
+    ];
+    if parts.iter().all(Option::is_some) {
+        ExitCode::SUCCESS
+    } else {
+        ExitCode::FAILURE
+    }
+}
