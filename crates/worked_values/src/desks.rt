@@ -20,6 +20,9 @@ fn show_raised(rt: &impl Print, alloc: Global) -> Option<()> {
     let (desk, mut seats) = Desk::new(alloc, 3, 2).ok()?;
     let place = desk.draw(&mut seats[0]);
     let other = desk.draw(&mut seats[1]);
+    if place != 0 {
+        return None;
+    }
     desk.raise(&mut seats[0], place);
     let _ = println!(rt;
         "drawn: {place} {other}, seen by the second: {}",
@@ -36,8 +39,17 @@ fn show_raised(rt: &impl Print, alloc: Global) -> Option<()> {
 fn show_past_the_end(rt: &impl Print, alloc: Global) -> Option<()> {
     let (desk, mut seats) = Desk::new(alloc, 2, 1).ok()?;
     let first = desk.draw(&mut seats[0]);
+    if first != 0 {
+        return None;
+    }
     let is_raised = desk.look(&mut seats[0]);
+    if is_raised {
+        return None;
+    }
     let second = desk.draw(&mut seats[0]);
+    if second != 1 {
+        return None;
+    }
     let is_past = 2 <= desk.draw(&mut seats[0]);
     let _ = println!(rt;
         "drawn: {first} {second}, past the end: {is_past}, raised: {is_raised}, in the end: {:?}",

@@ -4,33 +4,20 @@
 
 mod batches;
 mod cards;
-mod chosen_rows;
 mod columns;
-mod compared;
-mod cuts;
 mod database;
 mod desks;
-mod dice;
 mod executions;
 mod footprints;
-mod format;
 mod gates;
 mod granules;
 mod levels;
-mod loans;
-mod orders;
 mod points;
 mod printing;
-mod random;
 mod replies;
-mod roots;
 mod row_bytes;
 mod rows;
-mod second_levels;
-mod second_root;
-mod spelling;
 mod stores;
-mod tokens;
 mod views;
 mod worlds;
 
@@ -52,12 +39,6 @@ fn main(rt: HostRuntime) -> ExitCode {
         footprints::show(&rt, rt.alloc()),
         executions::show(&rt, rt.alloc()),
         levels::show(&rt, rt.alloc()),
-        roots::show(&rt, rt.alloc()),
-        tokens::show(&rt, rt.alloc()),
-        cuts::show(&rt, rt.alloc()),
-        compared::show(&rt, rt.alloc()),
-        orders::show(&rt, rt.alloc()),
-        loans::show(&rt, rt.alloc()),
     ];
     if parts.iter().all(Option::is_some) {
         ExitCode::SUCCESS

@@ -1,8 +1,9 @@
 //! Rows of each kind as bytes, and changes of rows.
 use crate::printing::print_bytes;
 use crate::rows::{
-    Pair, customer, district, history, new_order, order, order_line, stock, warehouse,
+    Pair, customer, district, history, new_order, order, order_line, put_pointed, stock, warehouse,
 };
+use rollback::PointedStore;
 use std::alloc::Global;
 use tpcc_rows::codes::leaf;
 use tpcc_rows::delta::Delta;
@@ -114,8 +115,8 @@ fn push_changes(delta: &mut Delta) -> Option<()> {
     delta.remove(warehouse_key(1)?).ok()
 }
 
-fn show_changes(rt: &impl Print, store: &mut RowStore, delta: &mut Delta) -> Option<()> {
-    put(store, warehouse(1, 5))?;
+fn show_changes(rt: &impl Print, store: &mut PointedStore, delta: &mut Delta) -> Option<()> {
+    put_pointed(store, warehouse(1, 5))?;
     push_changes(delta)?;
     store.apply(delta).ok()?;
     let is_gone = store.get(&warehouse_key(1)?).is_none();
@@ -166,6 +167,7 @@ fn show_books(rt: &impl Print, store: &mut RowStore) -> Option<()> {
 
 pub fn show(rt: &impl Print, alloc: Global) -> Option<()> {
     show_rows(rt, alloc);
-    show_changes(rt, &mut RowStore::new(alloc), &mut Delta::new(alloc))?;
+    let mut store = PointedStore::new(alloc, pages::RowStore::new(alloc).ok()?);
+    show_changes(rt, &mut store, &mut Delta::new(alloc))?;
     show_books(rt, &mut RowStore::new(alloc))
 }
