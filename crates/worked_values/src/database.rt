@@ -3,7 +3,6 @@ ghost use Rattle.tpcc_rows.specs.Limits.{IsBetween};
 
 use catalog::Catalog;
 use loader::make;
-use mixer::{Cut, mix};
 use profiles::declare;
 use requests::reply::Reply;
 use requests::request::Batch;
@@ -11,20 +10,14 @@ use requests::{BatchReader, write_reply};
 use rollback::PointedStore;
 use std::alloc::Global;
 use tpcc_rows::delta::Delta;
-use tpcc_rows::encoding::encode_row;
 use tpcc_rows::footprint::Footprint;
 use tpcc_rows::id::RequestNumber;
 use tpcc_rows::memory::Memory;
-use tpcc_rows::plain;
-use tpcc_rows::row_buf::RowBuf;
 use transactions::{ExecError, execute};
 use worker_rows::{RowView, Whole};
 
 /// The most bytes that batches may have.
 const MOST_BATCH_BYTES: usize = 1_073_741_824;
-
-/// The most requests that a batch may have.
-const MOST_REQUESTS: usize = 1_024;
 
 /// The batch of these requests, at moment 100, each of them a record on a line of its own.
 pub fn batch_of(alloc: Global, requests: &str) -> Option<Batch> {
@@ -35,14 +28,6 @@ pub fn batch_of(alloc: Global, requests: &str) -> Option<Batch> {
     }
     let mut reader = BatchReader::new(alloc, text.as_bytes()).ok()?;
     reader.next_batch(alloc).ok()?
-}
-
-/// The cut of a batch by what its requests are declared to touch.
-pub fn cut_of(alloc: Global, footprints: &[Footprint]) -> Option<Cut> {
-    if footprints.len() > MOST_REQUESTS {
-        return None;
-    }
-    mix(alloc, footprints).ok()
 }
 
 /// A database, and the number of the next request.
@@ -117,24 +102,6 @@ impl Database {
         }
         Ok(footprints)
     }
-
-    /// The bytes of all rows, leaf by leaf.
-    pub fn rows(&self, alloc: Global) -> Result<Vec<u8>, Memory> {
-        let mut bytes = Vec::new(alloc);
-        for leaf in 0..4096 {
-            push_page(self.store.page(leaf), &mut bytes)?;
-        }
-        Ok(bytes)
-    }
-}
-
-fn push_page(page: &plain::RowStore, bytes: &mut Vec<u8>) -> Result<(), Memory> {
-    let mut buffer = RowBuf::new();
-    for (key, row) in page.iter() {
-        encode_row(key, row, &mut buffer);
-        bytes.extend_from_slice(buffer.as_slice())?;
-    }
-    Ok(())
 }
 
 /// The made database of so many warehouses after these requests.

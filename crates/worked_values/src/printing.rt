@@ -1,11 +1,6 @@
 //! Lines of a program's output. That printing fails is of no account: the output is compared as a whole.
 use mixer::Cut;
 
-/// Of how many cases two computations agree.
-pub fn print_agreeing(rt: &impl Print, name: &str, agreeing: u64, count: u64) {
-    let _ = println!(rt; "{name}: {agreeing} of {count} agree");
-}
-
 /// A name, and bytes in hexadecimal digits.
 pub fn print_bytes(rt: &impl Print, name: &str, bytes: &[u8]) {
     let _ = print!(rt; "{name}: ");
