@@ -15,6 +15,3 @@ pub use card::{
     WarehouseCard,
 };
 pub use cards::Catalog;
-
-#[cfg(test)]
-mod tests;

@@ -8,6 +8,3 @@ mod reply_book;
 
 pub use merging::merge;
 pub use reply_book::{FileError, Incomplete, ReplyBook};
-
-#[cfg(test)]
-mod tests;

@@ -5,7 +5,5 @@
 mod cut;
 mod levels;
 mod signing;
-#[cfg(test)]
-mod tests;
 
 pub use cut::{Cut, mix};

@@ -9,6 +9,3 @@ mod profile;
 mod stock_level;
 
 pub use profile::declare;
-
-#[cfg(test)]
-mod tests;

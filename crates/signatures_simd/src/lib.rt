@@ -5,8 +5,6 @@
 
 mod bit;
 mod signature;
-#[cfg(test)]
-mod tests;
 
 pub use bit::granule_bit;
 pub use signature::{Signature, highest_meeting};

@@ -9,8 +9,6 @@ pub mod laws;
 mod rule;
 mod seat;
 mod size;
-#[cfg(test)]
-mod tests;
 mod worker;
 mod workers;
 mod world;

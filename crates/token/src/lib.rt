@@ -7,6 +7,3 @@ pub mod token;
 
 pub use replies::reply_digest;
 pub use token::TokenParts;
-
-#[cfg(test)]
-mod tests;

@@ -16,14 +16,3 @@ mod transaction;
 
 pub use exec_error::ExecError;
 pub use transaction::execute;
-
-#[cfg(test)]
-mod choice_tests;
-#[cfg(test)]
-mod delivery_tests;
-#[cfg(test)]
-mod order_status_tests;
-#[cfg(test)]
-mod stock_level_tests;
-#[cfg(test)]
-mod tests;

@@ -1,4 +1,4 @@
-//! Rows of every kind: chosen ones, and ones that look random.
+//! Rows of every kind.
 use pages::RowStore;
 use rollback::PointedStore;
 use std::alloc::Global;

@@ -14,6 +14,3 @@ pub use level::{LevelEnd, run_level};
 pub use part::{Outcome, run_seat};
 pub use placed_request::PlaceOutcome;
 pub use tickets::Workers;
-
-#[cfg(test)]
-mod tests;

@@ -1,11 +1,12 @@
 //! Gates that count, and gates that wait.
-use crate::Gate;
+
 use std::hint::spin_loop;
 use std::sync::atomic::{AtomicBool, AtomicU64, Ordering};
+use workers::Gate;
 
 /// Counts the calls for each of three places.
 #[derive(Drop)]
-pub(super) struct CountingGate {
+pub struct CountingGate {
     entered: [AtomicU64; 3],
     left: [AtomicU64; 3],
 }
@@ -34,7 +35,7 @@ fn values(counts: &[AtomicU64; 3]) -> [u64; 3] {
 }
 
 impl CountingGate {
-    pub(super) fn new() -> CountingGate {
+    pub fn new() -> CountingGate {
         CountingGate {
             entered: none(),
             left: none(),
@@ -42,7 +43,7 @@ impl CountingGate {
     }
 
     /// How often each place was entered, and how often it was left.
-    pub(super) fn counts(&self) -> ([u64; 3], [u64; 3]) {
+    pub fn counts(&self) -> ([u64; 3], [u64; 3]) {
         (values(&self.entered), values(&self.left))
     }
 }
@@ -52,7 +53,7 @@ const TURNS: u64 = 50_000_000;
 
 /// Holds place 0 until place 1 is entered.
 #[derive(Drop)]
-pub(super) struct MeetingGate {
+pub struct MeetingGate {
     entered: AtomicBool,
     missed: AtomicBool,
 }
@@ -76,7 +77,7 @@ impl Gate for MeetingGate {
 }
 
 impl MeetingGate {
-    pub(super) fn new() -> MeetingGate {
+    pub fn new() -> MeetingGate {
         MeetingGate {
             entered: AtomicBool::new(false),
             missed: AtomicBool::new(false),
@@ -84,7 +85,7 @@ impl MeetingGate {
     }
 
     /// Both places were executed at the same time.
-    pub(super) fn has_met(&self) -> bool {
+    pub fn has_met(&self) -> bool {
         self.entered.load(Ordering::SeqCst) && !self.missed.load(Ordering::SeqCst)
     }
 }

@@ -1,0 +1,125 @@
+//! What requests are declared to touch on made databases of 45 customers in each district and 100 items. A granule is
+//! spelled as a letter and its numbers, as in `D1.3`.
+use crate::batches::SEVEN_ORDERS;
+use crate::database::{Database, batch_of, database_after};
+use crate::rows::{district, new_order, order, order_line, put_pointed};
+use std::alloc::Global;
+use tpcc_rows::granule::Granule;
+
+fn print_granule(rt: &impl Print, granule: &Granule) {
+    let _ = match *granule {
+        Granule::Warehouse { warehouse: w } => print!(rt; " W{}", w.number()),
+        Granule::District {
+            warehouse: w,
+            district: d,
+        } => print!(rt; " D{}.{}", w.number(), d.number()),
+        Granule::Customer {
+            warehouse: w,
+            district: d,
+            customer: c,
+        } => print!(rt; " C{}.{}.{}", w.number(), d.number(), c.number()),
+        Granule::Stock {
+            warehouse: w,
+            item: i,
+        } => print!(rt; " S{}.{}", w.number(), i.number()),
+        Granule::Book {
+            warehouse: w,
+            district: d,
+        } => print!(rt; " B{}.{}", w.number(), d.number()),
+    };
+}
+
+fn print_granules(rt: &impl Print, what: &str, granules: &[Granule]) {
+    let _ = print!(rt; "{what}");
+    for granule in granules {
+        print_granule(rt, granule);
+    }
+    let _ = println!(rt; "");
+}
+
+/// What each request, a line each, reads and writes.
+fn show_each(rt: &impl Print, alloc: Global, database: &Database, requests: &str) -> Option<()> {
+    for request in requests.lines() {
+        let batch = batch_of(alloc, request)?;
+        for touch in &database.declare(alloc, &batch).ok()? {
+            let _ = println!(rt; "{request}");
+            print_granules(rt, "reads", touch.reads());
+            print_granules(rt, "writes", touch.writes());
+        }
+    }
+    Some(())
+}
+
+/// The stocks stand in the order of the lines, a stock of two lines twice. Of the customers of the last names NAME1 and
+/// NAME5 those in the middle are 31 and 35: by first name and number they are 41, 21, 31, 1, 11 and 45, 25, 35, 5, 15.
+const KNOWN: &str = "\
+N,1,1,1,1,1,1,2,1,1,3,1,1,4,1,1,5,1,1
+N,2,10,22,20,2,1,7,1,1,20,1,1,7,1,1,3,2,1
+P,1,2,1,2,I,8,100
+P,1,2,2,9,I,22,100
+P,2,10,1,3,L,NAME1,100
+P,2,10,2,10,L,NAME5,100
+O,2,4,I,9
+O,1,7,L,NAME1
+D,1,5
+S,1,1,10
+";
+
+/// A warehouse, a customer, an item, a stock and a last name that are no one's. Nothing is touched.
+const UNKNOWN: &str = "\
+N,3,1,1,1,1,1,2,1,1,3,1,1,4,1,1,5,1,1
+N,1,1,46,1,1,1,2,1,1,3,1,1,4,1,1,5,1,1
+N,1,1,1,1,1,1,2,1,1,3,1,1,4,1,1,101,1,1
+N,1,1,1,1,3,1,2,1,1,3,1,1,4,1,1,5,1,1
+P,3,1,1,1,I,1,100
+P,1,1,3,1,I,1,100
+P,1,1,1,1,I,46,100
+P,1,1,1,1,L,NAME10,100
+O,1,1,I,46
+O,3,1,L,NAME1
+D,3,5
+S,3,1,10
+";
+
+/// District 3 has two new orders, district 4 an order that isn't new, and that of district 9 has no order.
+fn put_orders(database: &mut Database) -> Option<()> {
+    let store = &mut database.store;
+    put_pointed(store, order((1, 3), 4, 7, 1, 0, 5))?;
+    put_pointed(store, new_order((1, 3), 4))?;
+    put_pointed(store, order((1, 3), 5, 8, 1, 0, 5))?;
+    put_pointed(store, new_order((1, 3), 5))?;
+    put_pointed(store, order((1, 4), 4, 9, 1, 0, 5))?;
+    put_pointed(store, new_order((1, 9), 1))
+}
+
+/// The last twenty orders are 2 to 21, and item 101 has no card.
+fn put_lines(database: &mut Database) -> Option<()> {
+    let store = &mut database.store;
+    put_pointed(store, district((1, 1), 0, 22))?;
+    let lines = [
+        ((1, 1), 3),
+        ((2, 15), 4),
+        ((21, 1), 5),
+        ((21, 2), 101),
+        ((21, 3), 4),
+        ((22, 1), 6),
+    ];
+    for (line, item) in lines {
+        put_pointed(
+            store,
+            order_line((1, 1), line, (item, 2), None, (1, 100), b""),
+        )?;
+    }
+    Some(())
+}
+
+pub fn show(rt: &impl Print, alloc: Global) -> Option<()> {
+    let mut database = Database::make(alloc, 2).ok()?;
+    show_each(rt, alloc, &database, KNOWN)?;
+    show_each(rt, alloc, &database, UNKNOWN)?;
+    put_orders(&mut database)?;
+    show_each(rt, alloc, &database, "D,1,5\nD,2,5")?;
+    put_lines(&mut database)?;
+    show_each(rt, alloc, &database, "S,1,1,10\nS,1,2,10")?;
+    show_each(rt, alloc, &database_after(alloc, 1, SEVEN_ORDERS)?, "D,1,5")
+}

@@ -1,0 +1,366 @@
+//! Replies: their digests and a token, replies that come out of order, and changes that come together.
+use crate::printing::print_hash;
+use crate::rows::warehouse;
+use gather::{ReplyBook, merge};
+use hex::FromHex;
+use requests::{
+    Brand, DeliveryReply, LineReplies, LineReply, NewOrderReply, OrderStatusReply, PaymentReply,
+    Reply, RequestKind, RequestRefusal, ShownCredit, ShownLine, ShownLines, ShownOrder,
+    StockLevelReply,
+};
+use std::alloc::Global;
+use token::{TokenParts, reply_digest};
+use tpcc_rows::delta::Delta;
+use tpcc_rows::id::{CustomerId, ItemId, OrderId, RequestNumber, WarehouseId};
+use tpcc_rows::key::RowKey;
+use tpcc_rows::number::{Amount, Carrier, Cents, LineQuantity, Moment, StockQuantity};
+use tpcc_rows::row::{Row, fits};
+use tpcc_rows::text::Text;
+
+// ---- digests
+
+/// The digest of one reply, with the number of its request.
+fn show_digest(rt: &impl Print, name: &str, number: RequestNumber, reply: Option<Reply>) {
+    if let Some(reply) = reply {
+        print_hash(rt, name, &reply_digest(number.number(), &[reply]));
+    }
+}
+
+fn line_reply(stock: i16, brand: Brand, cents: u32) -> Option<LineReply> {
+    Some(LineReply {
+        stock: StockQuantity::new(stock)?,
+        brand,
+        amount: Amount::new(cents)?,
+    })
+}
+
+fn new_order() -> Option<Reply> {
+    let (order, total) = (OrderId::new(7)?, Cents::new(1_553)?);
+    let one = line_reply(10, Brand::Generic, 100)?;
+    let two = line_reply(-9_999, Brand::Brand, 300)?;
+    let mut lines = LineReplies::new();
+    lines.push(one);
+    if lines.as_slice().len() < 15 {
+        lines.push(two);
+    }
+    Some(Reply::NewOrder(NewOrderReply {
+        order,
+        total,
+        lines,
+    }))
+}
+
+fn payment(customer: u16, credit: ShownCredit) -> Option<Reply> {
+    Some(Reply::Payment(PaymentReply {
+        customer: CustomerId::new(customer)?,
+        balance: Cents::new(-2_000)?,
+        credit,
+    }))
+}
+
+fn payment_of_bad_credit() -> Option<Reply> {
+    let data = Text::parse(b"10 1 1 1 1 1000|xxx")?;
+    payment(10, ShownCredit::Bad { data })
+}
+
+fn delivery() -> Reply {
+    Reply::Delivery(DeliveryReply {
+        orders: [
+            OrderId::new(1),
+            OrderId::new(2),
+            OrderId::new(3),
+            OrderId::new(4),
+            OrderId::new(5),
+            OrderId::new(6),
+            OrderId::new(7),
+            None,
+            None,
+            OrderId::new(2_101),
+        ],
+    })
+}
+
+fn order_status(order: Option<ShownOrder>) -> Option<Reply> {
+    Some(Reply::OrderStatus(OrderStatusReply {
+        customer: CustomerId::new(2)?,
+        first: Text::parse(b"F9")?,
+        middle: Text::parse(b"OE")?,
+        last: Text::parse(b"NAME2")?,
+        balance: Cents::new(-1_000)?,
+        order,
+    }))
+}
+
+/// An item out of a warehouse: so many for so many cents.
+fn line(item: (u32, u8), sold: (u8, u32), delivery: Option<Moment>) -> Option<ShownLine> {
+    Some(ShownLine {
+        item: ItemId::new(item.0)?,
+        supply: WarehouseId::new(item.1)?,
+        quantity: LineQuantity::new(sold.0)?,
+        amount: Amount::new(sold.1)?,
+        delivery,
+    })
+}
+
+fn shown_order(entry: u64, carrier: Option<Carrier>, lines: ShownLines) -> Option<ShownOrder> {
+    Some(ShownOrder {
+        order: OrderId::new(12)?,
+        entry: Moment::new(entry)?,
+        carrier,
+        lines,
+    })
+}
+
+/// Five of item 1 out of warehouse 80, and 99 of item 26 out of warehouse 2, which were delivered at moment 0.
+fn order_without_carrier() -> Option<Reply> {
+    let one = line((1, 80), (5, 100), None)?;
+    let two = line((26, 2), (99, 963), Moment::new(0))?;
+    let mut lines = ShownLines::new();
+    lines.push(one);
+    if lines.as_slice().len() < 15 {
+        lines.push(two);
+    }
+    let order = shown_order(999_999_999_999, None, lines)?;
+    order_status(Some(order))
+}
+
+fn delivered_order() -> Option<Reply> {
+    let one = line((1, 80), (5, 100), Moment::new(86_400))?;
+    let mut lines = ShownLines::new();
+    lines.push(one);
+    let order = shown_order(7, Carrier::new(10), lines)?;
+    order_status(Some(order))
+}
+
+fn refused(kind: RequestKind, refusal: RequestRefusal) -> Reply {
+    Reply::Refused { kind, refusal }
+}
+
+fn stock_level(low_stock: u32) -> Reply {
+    Reply::StockLevel(StockLevelReply { low_stock })
+}
+
+fn show_queries(rt: &impl Print, two: RequestNumber, three: RequestNumber, four: RequestNumber) {
+    show_digest(
+        rt,
+        "digest of a customer without orders",
+        three,
+        order_status(None),
+    );
+    show_digest(
+        rt,
+        "digest of an order without carrier",
+        three,
+        order_without_carrier(),
+    );
+    show_digest(rt, "digest of a delivered order", four, delivered_order());
+    show_digest(rt, "digest of a stock level", two, Some(stock_level(17)));
+}
+
+fn show_refusals(rt: &impl Print, number: RequestNumber) {
+    let cases = [
+        (
+            "new order, item",
+            RequestKind::NewOrder,
+            RequestRefusal::ItemNotValid,
+        ),
+        (
+            "payment, limit",
+            RequestKind::Payment,
+            RequestRefusal::LimitReached,
+        ),
+        (
+            "order status, key",
+            RequestKind::OrderStatus,
+            RequestRefusal::UnknownKey,
+        ),
+        (
+            "delivery, limit",
+            RequestKind::Delivery,
+            RequestRefusal::LimitReached,
+        ),
+        (
+            "stock level, key",
+            RequestKind::StockLevel,
+            RequestRefusal::UnknownKey,
+        ),
+    ];
+    for (name, kind, refusal) in cases {
+        show_digest(rt, name, number, Some(refused(kind, refusal)));
+    }
+}
+
+fn show_digests(rt: &impl Print) -> Option<()> {
+    let one = RequestNumber::new(1)?;
+    show_digest(
+        rt,
+        "digest of a new order",
+        RequestNumber::new(12)?,
+        new_order(),
+    );
+    show_digest(
+        rt,
+        "digest of a payment of good credit",
+        one,
+        payment(37, ShownCredit::Good),
+    );
+    show_digest(
+        rt,
+        "digest of a payment of bad credit",
+        one,
+        payment_of_bad_credit(),
+    );
+    show_digest(
+        rt,
+        "digest of a delivery",
+        RequestNumber::new(8)?,
+        Some(delivery()),
+    );
+    show_queries(
+        rt,
+        RequestNumber::new(2)?,
+        RequestNumber::new(3)?,
+        RequestNumber::new(4)?,
+    );
+    show_refusals(rt, one);
+    print_hash(rt, "digest of no reply", &reply_digest(1, &[]));
+    let several = [
+        stock_level(17),
+        refused(RequestKind::Payment, RequestRefusal::LimitReached),
+        refused(RequestKind::Delivery, RequestRefusal::UnknownKey),
+    ];
+    print_hash(rt, "digest of several replies", &reply_digest(7, &several));
+    Some(())
+}
+
+/// The 32 bytes that are written in hexadecimal digits.
+fn bytes(text: &str) -> Option<[u8; 32]> {
+    <[u8; 32] as FromHex>::from_hex(text).ok()
+}
+
+/// An empty batch on the made database of one warehouse, 45 customers a district and 100 items.
+fn show_token(rt: &impl Print) -> Option<()> {
+    let parts = TokenParts {
+        sequence: 1,
+        prior: bytes("7f94b79fd0f486dd899754f1d08b86126f282e7cb6f911a8337604206827df75")?,
+        catalog: bytes("54ecfbe4a6e72975f6529391ce6485c721516ecd3c71d163425e89470bf4ee20")?,
+        root: bytes("a976ef9c6903dba14a186ca3bd6d158387132f2eefb4c1ca046d479d8495f54c")?,
+        replies: bytes("e3b0c44298fc1c149afbf4c8996fb92427ae41e4649b934ca495991b7852b855")?,
+    };
+    print_hash(rt, "token of an empty batch", &parts.token());
+    Some(())
+}
+
+// ---- books
+
+/// The numbers of replies that are filed, each a count that is ten times as great, and how the filing ended.
+fn file_each(rt: &impl Print, book: &mut ReplyBook, numbers: &[(u64, u32)]) -> Option<()> {
+    for (number, count) in numbers {
+        let ended = book.file(RequestNumber::new(*number)?, stock_level(*count));
+        let _ = println!(rt; "reply {number} of {count} is filed: {ended:?}");
+    }
+    Some(())
+}
+
+fn show_in_order(rt: &impl Print, book: ReplyBook) {
+    match book.in_order() {
+        Ok(replies) => {
+            let _ = print!(rt; "replies:");
+            for reply in &replies {
+                if let Reply::StockLevel(reply) = reply {
+                    let _ = print!(rt; " {}", reply.low_stock);
+                }
+            }
+            let _ = println!(rt; "");
+        }
+        Err(error) => {
+            let _ = println!(rt; "{error}");
+        }
+    }
+}
+
+/// Replies that are filed in a book of so many, the first with this number.
+fn show_book(
+    rt: &impl Print,
+    alloc: Global,
+    first: u64,
+    count: usize,
+    numbers: &[(u64, u32)],
+) -> Option<()> {
+    let first = RequestNumber::new(first)?;
+    let mut book = ReplyBook::new(alloc, first, count).ok()?;
+    file_each(rt, &mut book, numbers)?;
+    show_in_order(rt, book);
+    Some(())
+}
+
+/// Replies out of order; strangers and twins, which change nothing; a reply that is missing; a book of none; and a book
+/// whose second request has no number.
+fn show_books(rt: &impl Print, alloc: Global) -> Option<()> {
+    show_book(rt, alloc, 7, 3, &[(9, 90), (7, 70), (8, 80)])?;
+    let numbers = [(8, 80), (6, 60), (9, 90), (8, 81), (7, 70), (7, 71)];
+    show_book(rt, alloc, 7, 2, &numbers)?;
+    show_book(rt, alloc, 1, 3, &[(1, 10), (3, 30)])?;
+    show_book(rt, alloc, 1, 0, &[(1, 10)])?;
+    let last = 999_999_999_999_999;
+    show_book(rt, alloc, last, 2, &[(last, 10), (last, 11), (1, 12)])
+}
+
+// ---- changes
+
+/// Each warehouse gets a row with so many cents, or none.
+fn push_changes(delta: &mut Delta, changes: &[(u8, Option<i64>)]) -> Option<()> {
+    for (number, cents) in changes {
+        let (key, row) = warehouse(*number, cents.unwrap_or(0))?;
+        if cents.is_none() {
+            delta.remove(key).ok()?;
+        } else if fits(&key, &row) {
+            delta.put(key, row).ok()?;
+        }
+    }
+    Some(())
+}
+
+fn show_merged(rt: &impl Print, alloc: Global, lists: &[&[(u8, Option<i64>)]]) -> Option<()> {
+    let mut deltas = Vec::new(alloc);
+    for list in lists {
+        let mut delta = Delta::new(alloc);
+        push_changes(&mut delta, *list)?;
+        deltas.push(delta).ok()?;
+    }
+    let merged = merge(alloc, deltas).ok()?;
+    let _ = print!(rt; "merged:");
+    for (key, change) in merged.iter() {
+        if let RowKey::Warehouse { warehouse } = key {
+            let cents = change
+                .as_ref()
+                .and_then(Row::as_warehouse)
+                .map(|row| row.ytd.amount());
+            let _ = print!(rt; " {} {cents:?}", warehouse.number());
+        }
+    }
+    let _ = println!(rt; "");
+    Some(())
+}
+
+/// None; one; and three, of which the second removes a row of the first, and the third changes the other one again.
+fn show_changes(rt: &impl Print, alloc: Global) -> Option<()> {
+    show_merged(rt, alloc, &[])?;
+    show_merged(rt, alloc, &[&[(1, Some(100)), (2, None)]])?;
+    show_merged(
+        rt,
+        alloc,
+        &[
+            &[(1, Some(100)), (2, Some(200))],
+            &[(2, None), (3, Some(300))],
+            &[(1, Some(101))],
+        ],
+    )
+}
+
+pub fn show(rt: &impl Print, alloc: Global) -> Option<()> {
+    show_digests(rt)?;
+    show_token(rt)?;
+    show_books(rt, alloc)?;
+    show_changes(rt, alloc)
+}
