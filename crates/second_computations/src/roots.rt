@@ -79,14 +79,14 @@ fn show_random<R: Threads + Sync + Print>(rt: &R, alloc: Global) -> Option<()> {
     let mut agreeing = 0u64;
     for seed in 1..4 {
         pairs.clear();
-        push_random(alloc, &mut pairs, seed, 100)?;
+        push_random(alloc, &mut pairs, seed, 400)?;
         agreeing = agreeing.saturating_add(u64::from(
-            50 < pairs.len() && agree(rt, alloc, &pairs)?,
+            200 < pairs.len() && agree(rt, alloc, &pairs)?,
         ));
     }
     print_agreeing(
         rt,
-        "roots of more than 50 rows that look random",
+        "roots of more than 200 rows that look random",
         agreeing,
         3,
     );
