@@ -1,13 +1,9 @@
-//! A root computed from scratch, by recursion from the root down.
+//! Roots and tokens computed a second time, from scratch: by recursion from the root down.
 use crate::format::{bytes, code};
+use crate::rows::Pairs;
 use sha2::{Digest, Sha256};
 use std::alloc::Global;
-use tpcc_rows::key::RowKey;
 use tpcc_rows::memory::Memory;
-use tpcc_rows::row::Row;
-
-/// Rows of any keys.
-pub type Pairs = Vec<(RowKey, Row)>;
 
 /// A row as it is hashed.
 #[derive(Drop)]

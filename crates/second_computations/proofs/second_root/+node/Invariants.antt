@@ -1,4 +1,4 @@
-use Rattle.root_tests.proofs.second.+node.Given as goal
+use Rattle.second_computations.proofs.second_root.+node.Given as goal
 
 abbrev pub decreases-node : goal.decreases-node
 decreases-node l = l.height
