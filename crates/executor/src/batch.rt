@@ -52,7 +52,7 @@ fn rewind(alloc: Global, store: &mut PointedStore, point: usize) -> Result<(), M
     }
 }
 
-/// The replies to a batch on the rows of the newest point, and how it was executed: level by level on so many workers, where
+/// The replies to a batch on the rows of the newest point, and how it was executed: level by level on N workers, where
 /// there are any, unless a request strays or the verdict asks for a rerun; else one request after the other.
 fn replies_of<R: Threads + Sync, G: Gate>(
     rt: &R,

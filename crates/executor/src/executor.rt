@@ -199,7 +199,7 @@ impl Executor {
         Ok(record)
     }
 
-    /// Executes a batch on so many workers. Its requests run level by level, cut by what they declare; where one strays, or
+    /// Executes a batch on N workers. Its requests run level by level, cut by what they declare; where one strays, or
     /// where the verdict asks for it, the rows go back and the requests run once more, one after the other. The gate is told
     /// of each execution.
     pub fn execute<R: Threads + Sync, G: Gate>(

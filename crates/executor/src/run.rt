@@ -21,7 +21,7 @@ pub struct RunEnd {
 }
 
 impl Executor {
-    /// Executes each batch on so many workers, and commits it and all that weren't, until one is refused. Room for all records
+    /// Executes each batch on N workers, and commits it and all that weren't, until one is refused. Room for all records
     /// is made first.
     pub fn run<R: Threads + Sync, G: Gate>(
         &mut self,
