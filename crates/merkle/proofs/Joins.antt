@@ -1,9 +1,10 @@
 -- Joins in a list of nodes, and the node that each place holds.
-use Rattle.std.proofs.Common.{◌≡◌, ◌≢◌, inl, inr, ℕ, zero, suc, ◌+◌, ◌*◌, ◌<◌, ◌≤◌, List, [], ◌∷◌, ◌++◌, length, get_or, set, drop, refl, sym, ap, subst, ◌∙◌, arith}
-use Rattle.std.proofs.lemmas.List.{get_or-set_same, get_or-set_other}
-use Rattle.std.proofs.lemmas.Bool.Decides.{eqb_tells}
+use Rattle.std.proofs.Common.{◌≡◌, ◌≢◌, inl, inr, ℕ, zero, suc, ◌+◌, ◌-◌, ◌*◌, ◌<◌, ◌≤◌, Bool, true, false, cond, List, [], ◌∷◌, ◌++◌, length, get_or, set, drop, replicate, refl, sym, ap, subst, ◌∙◌, arith}
+use Rattle.std.proofs.lemmas.List.{get_or-set_same, get_or-set_other, get_or-append_right, get_or-replicate}
+use Rattle.std.proofs.lemmas.Bool.Decides.{eqb_tells, leb_tells}
+use Rattle.rollback.specs.Marks.{is_dirty}
 use Rattle.std.proofs.Math.Seq.{drop-append_seam}
-use Rattle.merkle.specs.Nodes.{at, IsJoin, IsTree, IsOf}
+use Rattle.merkle.specs.Nodes.{at, rehashed, IsJoin, IsNearlyTree, IsTree, IsOf}
 use Rattle.tpcc_model.specs.Roots.{joined, leaf_hash, node, root}
 use Rattle.tpcc_rows.specs.RowMap.{Rows}
 
@@ -24,6 +25,15 @@ module _ (nodes : List (List ℕ)) (i : ℕ) (x : List ℕ) (positive : 1 ≤ i)
     | inl t ↦ subst (λ k. IsJoin (set nodes i x) k) (sym t.1) (same e)
     | inr t ↦ let ne : j ≢ i = t.1 in other j ne (λ e. omega arith) (λ e. omega arith) (h j (omega arith) high)
   ]
+
+  -- a mark at i leaves the joins of nodes that don't touch i
+  pub joins-left : (marks : List Bool) → length marks ≡ 8192 → ((j : ℕ) → 1 ≤ j → j < i + 1 → is_dirty marks (2 * j) ≡ false → is_dirty marks (2 * j + 1) ≡ false → IsJoin nodes j)
+      → (j : ℕ) → 1 ≤ j → j < i → is_dirty (set marks i true) (2 * j) ≡ false → is_dirty (set marks i true) (2 * j + 1) ≡ false → IsJoin (set nodes i x) j
+  joins-left marks wide h j low high a b =
+      let here : i < length marks = omega arith in
+      let clash : (k : ℕ) → is_dirty (set marks i true) k ≡ false → k ≢ i = λ k f e. let t = sym (get_or-set_same marks i true false here) ∙ ap (is_dirty (set marks i true)) (sym e) ∙ f in cc in
+      other j (λ e. omega arith) (clash (2 * j) a) (clash (2 * j + 1) b)
+      (h j low (omega arith) (sym (get_or-set_other marks i (2 * j) true false (clash (2 * j) a)) ∙ a) (sym (get_or-set_other marks i (2 * j + 1) true false (clash (2 * j + 1) b)) ∙ b))
 
 -- ---- heights
 -- a level of b nodes at this height has 4,096 leaves below
@@ -77,3 +87,43 @@ pub at-default : (nodes : List (List ℕ)) (i : ℕ) (d : List ℕ) → i < leng
 at-default [] i d h = absurd (omega arith)
 at-default (x ∷ nodes) zero d h = refl
 at-default (x ∷ nodes) (suc i) d h = at-default nodes i d (omega arith)
+
+-- ---- leaves hashed again below old nodes
+at-front : {A : Type 0} (d : A) (f l : List A) (i : ℕ) → i < length f → get_or (f ++ l) i d ≡ get_or f i d
+at-front d [] l i h = absurd (omega arith)
+at-front d (x ∷ f) l zero h = refl
+at-front d (x ∷ f) l (suc i) h = at-front d f l i (omega arith)
+
+at-back : {A : Type 0} (d : A) (f l : List A) (n i : ℕ) → length f ≡ n → get_or (f ++ l) (n + i) d ≡ get_or l i d
+at-back d f l n i e = get_or-append_right f l n (n + i) d e (omega arith) ∙ (let k : n + i - n ≡ i = omega arith in ap (λ j. get_or l j d) k)
+
+-- leaves that were hashed again where they are dirty
+pub record AreRehashed (dirty : List Bool) (rows : Rows) (old new : List (List ℕ)) : Type 0 where
+  pub each : (k : ℕ) → k < 4096 → at new k ≡ rehashed dirty rows (at old k) k
+
+module _ (front old new : List (List ℕ)) (before dirty : List Bool) (rows : Rows) (f : length front ≡ 4096) (g : length before ≡ 4096) (h : AreRehashed dirty rows old new) where
+  unchanged : (j : ℕ) → j < 8192 → is_dirty (before ++ dirty) j ≡ false → at (front ++ new) j ≡ at (front ++ old) j
+  unchanged j small e = elim (leb_tells 4096 j) [
+    | inr t ↦ at-front [] front new j (omega arith) ∙ sym (at-front [] front old j (omega arith))
+    | inl t ↦
+        let k : ℕ = j - 4096 in
+        let is : 4096 + k ≡ j = omega arith in
+        let clean : is_dirty dirty k ≡ false = sym (at-back false before dirty 4096 k g) ∙ ap (is_dirty (before ++ dirty)) is ∙ e in
+        ap (at (front ++ new)) (sym is) ∙ at-back [] front new 4096 k f ∙ h.each k (omega arith) ∙ ap (λ b. cond b (leaf_hash rows k) (at old k)) clean ∙ sym (at-back [] front old 4096 k f) ∙ ap (at (front ++ old)) is
+  ]
+
+  pub nearly : IsTree (front ++ old) → IsNearlyTree (front ++ new) (before ++ dirty)
+  nearly tree = record {
+    joins = λ i low high a b. record {
+      join = at-front [] front new i (omega arith) ∙ sym (at-front [] front old i (omega arith)) ∙ (tree.joins i low high).join
+          ∙ ap (λ y. joined y (at (front ++ old) (2 * i + 1))) (sym (unchanged (2 * i) (omega arith) a))
+          ∙ ap (joined (at (front ++ new) (2 * i))) (sym (unchanged (2 * i + 1) (omega arith) b));
+    };
+  }
+
+  pub rehashed-leaf : (n : ℕ) → n < 4096 → at (front ++ new) (4096 + n) ≡ rehashed dirty rows (at (front ++ old) (4096 + n)) n
+  rehashed-leaf n small = at-back [] front new 4096 n f ∙ h.each n small ∙ ap (λ old. rehashed dirty rows old n) (sym (at-back [] front old 4096 n f))
+
+-- where all are marked, no node need be joined
+pub all-nearly : (nodes : List (List ℕ)) → IsNearlyTree nodes (replicate 8192 true)
+all-nearly nodes = record { joins = λ i low high a b. let t = get_or-replicate 8192 (2 * i) true false (omega arith) in cc }

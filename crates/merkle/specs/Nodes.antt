@@ -1,5 +1,6 @@
 -- All nodes of a tree in one list, in heap order: the root at 1, the children of i at 2 i and 2 i + 1, leaf n at LEAVES + n.
-use Rattle.std.specs.Prelude.{◌≡◌, ℕ, ◌+◌, ◌*◌, ◌<◌, ◌≤◌, List, [], length, get_or}
+use Rattle.std.specs.Prelude.{◌≡◌, ℕ, ◌+◌, ◌*◌, ◌<◌, ◌≤◌, Bool, false, cond, List, [], length, get_or}
+use Rattle.rollback.specs.Marks.{is_dirty}
 use Rattle.tpcc_model.specs.Roots.{joined, leaf_hash}
 use Rattle.tpcc_rows.specs.RowMap.{Rows}
 use Rattle.tpcc_rows.specs.declared.codes.TheConstants.{LEAVES}
@@ -20,3 +21,15 @@ pub record IsTree (nodes : List (List ℕ)) : Type 0 where
 -- each leaf hash is that of the rows
 pub record IsOf (leaves : List (List ℕ)) (rows : Rows) : Type 0 where
   pub each : (n : ℕ) → n < LEAVES → at leaves n ≡ leaf_hash rows n
+
+-- the hash of a leaf anew where it is dirty, and else as it was
+abbrev pub rehashed : List Bool → Rows → List ℕ → ℕ → List ℕ
+rehashed dirty rows old n = cond (is_dirty dirty n) (leaf_hash rows n) old
+
+-- the hash of each clean leaf is that of the rows
+pub record IsOfClean (leaves : List (List ℕ)) (dirty : List Bool) (rows : Rows) : Type 0 where
+  pub each : (n : ℕ) → n < LEAVES → is_dirty dirty n ≡ false → at leaves n ≡ leaf_hash rows n
+
+-- each inner node of whose children none is marked is their hash
+pub record IsNearlyTree (nodes : List (List ℕ)) (marks : List Bool) : Type 0 where
+  pub joins : (i : ℕ) → 1 ≤ i → i < LEAVES → is_dirty marks (2 * i) ≡ false → is_dirty marks (2 * i + 1) ≡ false → IsJoin nodes i

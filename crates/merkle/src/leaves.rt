@@ -1,13 +1,13 @@
 //! The hashes of all leaves.
-ghost use Rattle.std.specs.Prelude.{◌≡◌, ◌<◌, length, IfOk};
-ghost use Rattle.merkle.specs.Nodes.{IsOf};
+ghost use Rattle.std.specs.Prelude.{◌≡◌, ◌<◌, ◌≤◌, ◌+◌, ℕ, length, IfOk};
+ghost use Rattle.merkle.specs.Nodes.{IsOf, at, rehashed};
 ghost use Rattle.tpcc_model.specs.Roots.{leaf_hash};
 
 use crate::hashing::{hash_with_room, prefetch_first_row};
 use rayon::prelude::*;
-use rollback::PointedStore;
+use rollback::{Dirty, PointedStore};
 use std::alloc::{AllocError, Global};
-use std::thread::Threads;
+use std::thread::{self, Threads};
 use tpcc_rows::codes::LEAVES;
 
 /// How many leaves one thread takes at least: few enough that all threads have work to the end.
@@ -62,4 +62,37 @@ pub(crate) fn leaf_hashes<R: Threads + Sync>(
             { nth_hash(store, n) },
         )
         .collect(rt, alloc)
+}
+
+/// Hashes again each dirty leaf of those that begin at this one.
+fn rehash(leaves: &mut [[u8; 32]], start: usize, store: &PointedStore, dirty: &Dirty)
+    requires { start + length leaves.old ≤ LEAVES }
+    ensures { (k : ℕ) → k < length leaves.old → at leaves.new k ≡ rehashed dirty.now store.now.rows (at leaves.old k) (start + k) }
+{
+    for k in 0..leaves.len() {
+        if dirty.has(start + k) {
+            leaves[k] = nth_hash(store, start + k);
+        }
+    }
+}
+
+/// Hashes again each dirty leaf, on so many threads at most. A leaf's place is a hash of its keys' codes, so that the dirty
+/// ones lie evenly among all.
+pub(crate) fn rehash_on<R: Threads + Sync>(
+    rt: &R,
+    leaves: &mut [[u8; 32]],
+    store: &PointedStore,
+    dirty: &Dirty,
+    threads: usize,
+)
+    requires { length leaves.old ≡ LEAVES }
+    ensures { (k : ℕ) → k < LEAVES → at leaves.new k ≡ rehashed dirty.now store.now.rows (at leaves.old k) k }
+{
+    let useful = (dirty.count() / LEAVES_AT_ONCE).clamp(1, threads.max(1));
+    thread::for_each_chunk_mut(
+        rt,
+        leaves,
+        LEAVES.div_ceil(useful),
+        &|start, part| rehash(part, start, store, dirty),
+    );
 }

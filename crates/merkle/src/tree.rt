@@ -1,27 +1,31 @@
 //! All nodes of the tree.
-ghost use Rattle.std.specs.Prelude.{◌≡◌, ◌<◌, ◌≤◌, ◌*◌, ℕ, drop, length, IfOk};
-ghost use Rattle.merkle.specs.Nodes.{IsJoin, IsOf, IsTree};
+ghost use Rattle.std.specs.Prelude.{◌≡◌, ◌<◌, ◌≤◌, ◌+◌, ◌*◌, ℕ, drop, length, IfOk};
+ghost use Rattle.merkle.specs.Nodes.{IsJoin, IsNearlyTree, IsOf, IsOfClean, IsTree, at, rehashed};
 ghost use Rattle.tpcc_model.specs.Roots.{root};
 ghost use Rattle.tpcc_rows.specs.RowMap.{Rows};
 
 use crate::hashing::join;
-use crate::leaves::leaf_hashes;
-use rollback::PointedStore;
+use crate::leaves::{leaf_hashes, rehash_on};
+use rollback::{Dirty, PointedStore};
 use std::alloc::Global;
 use std::marker::Model;
 use std::thread::Threads;
 use tpcc_rows::codes::LEAVES;
 use tpcc_rows::memory::Memory;
 
-/// Joins the inner nodes, from the lowest up.
-fn join_all(nodes: &mut [[u8; 32]])
-    requires { length nodes.old ≡ 2 * LEAVES }
-    ensures full { length nodes.new ≡ 2 * LEAVES }
-    ensures joins { (i : ℕ) → 1 ≤ i → i < LEAVES → IsJoin nodes.new i }
+/// Joins again each inner node above a mark, from the lowest up.
+fn rejoin(nodes: &mut [[u8; 32]], marks: &mut [bool])
+    requires full { length nodes.old ≡ 2 * LEAVES }
+    requires marks { length marks.old ≡ 2 * LEAVES }
+    requires nearly { IsNearlyTree nodes.old marks.old }
+    ensures tree { IsTree nodes.new }
     ensures leaves { drop LEAVES nodes.new ≡ drop LEAVES nodes.old }
 {
     for i in (1..LEAVES).rev() {
-        nodes[i] = join(&nodes[2 * i], &nodes[2 * i + 1]);
+        if marks[2 * i] || marks[2 * i + 1] {
+            nodes[i] = join(&nodes[2 * i], &nodes[2 * i + 1]);
+            marks[i] = true;
+        }
     }
 }
 
@@ -35,7 +39,27 @@ fn place_leaves(nodes: &mut [[u8; 32]], leaves: &[[u8; 32]])
 {
     let (_, places) = nodes.split_at_mut(LEAVES);
     places.copy_from_slice(leaves);
-    join_all(nodes);
+    rejoin(nodes, &mut [true; 2 * LEAVES]);
+}
+
+/// Hashes the dirty leaves again, and each node above one.
+fn refresh_nodes<R: Threads + Sync>(
+    rt: &R,
+    nodes: &mut [[u8; 32]],
+    store: &PointedStore,
+    dirty: &Dirty,
+    threads: usize,
+)
+    requires { IsTree nodes.old }
+    ensures tree { IsTree nodes.new }
+    ensures leaves { (n : ℕ) → n < LEAVES → at nodes.new (LEAVES + n) ≡ rehashed dirty.now store.now.rows (at nodes.old (LEAVES + n)) n }
+{
+    let (_, leaves) = nodes.split_at_mut(LEAVES);
+    rehash_on(rt, leaves, store, dirty, threads);
+    let mut marks = [false; 2 * LEAVES];
+    let (_, below) = marks.split_at_mut(LEAVES);
+    below.copy_from_slice(dirty.marks());
+    rejoin(nodes, &mut marks);
 }
 
 /// The hashes of all leaves and of all nodes above them, in heap order: the root at 1, the children of the node at i
@@ -77,5 +101,18 @@ impl Tree {
         let mut nodes = vec![in alloc; [0u8; 32]; 2 * LEAVES]?;
         place_leaves(&mut nodes, &leaves);
         Ok(Tree { nodes })
+    }
+    /// Hashes the dirty leaves again, and each node above one, on so many threads at most. It takes no memory.
+    pub fn refresh<R: Threads + Sync>(
+        &mut self,
+        rt: &R,
+        store: &PointedStore,
+        dirty: &Dirty,
+        threads: usize,
+    )
+        ensures leaves { (n : ℕ) → n < LEAVES → at self.new n ≡ rehashed dirty.now store.now.rows (at self.old n) n }
+        ensures rows { IsOfClean self.old dirty.now store.now.rows → IsOf self.new store.now.rows }
+    {
+        refresh_nodes(rt, &mut self.nodes, store, dirty, threads);
     }
 }

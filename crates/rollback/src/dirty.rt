@@ -1,5 +1,5 @@
 //! Sets of leaves.
-ghost use Rattle.std.specs.Prelude.{◌≡◌, ◌<◌};
+ghost use Rattle.std.specs.Prelude.{count_by, ◌≡◌, ◌<◌};
 ghost use Rattle.rollback.specs.Marks.{AreClean, HasAlso, HasAlsoAll, is_dirty};
 
 use std::marker::Model;
@@ -36,6 +36,20 @@ impl Dirty {
         ensures { result ≡ is_dirty self.now leaf }
     {
         self.marks[leaf]
+    }
+
+    /// A mark for each leaf: whether it is in the set.
+    pub fn marks(&self) -> &[bool; LEAVES]
+        ensures { result.now ≡ self.now }
+    {
+        &self.marks
+    }
+
+    /// How many leaves are in the set.
+    pub fn count(&self) -> usize
+        ensures { result ≡ count_by (λ mark. mark) self.now }
+    {
+        self.marks.iter().filter(|mark| **mark).count()
     }
 
     pub(crate) fn add(&mut self, leaf: usize)
