@@ -2,6 +2,7 @@
 //! its oldest new order, and the book of a district without new orders is read.
 ghost use Rattle.std.specs.Prelude.{◌≡◌, map, option_copied, IfOk, OnOk};
 ghost use Rattle.serializability.specs.Footprints.{joined, joined_all};
+ghost use Rattle.tpcc_model.specs.Database.{database};
 ghost use Rattle.tpcc_model.specs.Touches.{credited_touch, delivery_touch, district_touch};
 ghost use Rattle.tpcc_rows.specs.Limits.{ten};
 ghost use Rattle.tpcc_rows.specs.Rows.{order_row};
@@ -96,7 +97,7 @@ pub(crate) fn declare(
     p: &Delivery,
     store: &PointedStore,
 ) -> Result<Footprint, Memory>
-    ensures { IfOk result (λ footprint. footprint ≡ delivery_touch (record { cards = catalog.now; rows = store.now.rows }) p.now) }
+    ensures { IfOk result (λ footprint. footprint ≡ delivery_touch (database catalog.now store.now.rows) p.now) }
 {
     let mut footprint = Footprint::new(alloc);
     if catalog.warehouse(p.warehouse).is_some() {

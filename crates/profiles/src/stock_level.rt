@@ -2,6 +2,7 @@
 //! items in the lines of its last twenty orders.
 ghost use Rattle.std.specs.Prelude.{◌≡◌, ◌-◌, option_copied, IfOk, OnOk};
 ghost use Rattle.serializability.specs.Footprints.{joined};
+ghost use Rattle.tpcc_model.specs.Database.{database};
 ghost use Rattle.tpcc_model.specs.StockLevels.{first_recent};
 ghost use Rattle.tpcc_model.specs.Touches.{line_touch, lines_touch, orders_touch, stock_level_touch};
 ghost use Rattle.tpcc_rows.specs.Rows.{order_line_row};
@@ -63,7 +64,7 @@ fn touch_lines(
     order: OrderId,
     footprint: &mut Footprint,
 ) -> Result<(), Memory>
-    ensures { OnOk result (footprint.new ≡ joined footprint.old (lines_touch (record { cards = catalog.now; rows = store.now.rows }) p.now order 15)) }
+    ensures { OnOk result (footprint.new ≡ joined footprint.old (lines_touch (database catalog.now store.now.rows) p.now order 15)) }
 {
     for index in 0..15 {
         let line = order_line(store, p, order, line_number(index + 1));
@@ -80,7 +81,7 @@ fn touch_recent(
     next: OrderId,
     footprint: &mut Footprint,
 ) -> Result<(), Memory>
-    ensures { OnOk result (footprint.new ≡ joined footprint.old (orders_touch (record { cards = catalog.now; rows = store.now.rows }) p.now (first_recent next) (next - first_recent next))) }
+    ensures { OnOk result (footprint.new ≡ joined footprint.old (orders_touch (database catalog.now store.now.rows) p.now (first_recent next) (next - first_recent next))) }
 {
     let first = next.number().saturating_sub(20).max(1);
     for order in first..next.number() {
@@ -96,7 +97,7 @@ pub(crate) fn declare(
     p: &StockLevel,
     store: &PointedStore,
 ) -> Result<Footprint, Memory>
-    ensures { IfOk result (λ footprint. footprint ≡ stock_level_touch (record { cards = catalog.now; rows = store.now.rows }) p.now) }
+    ensures { IfOk result (λ footprint. footprint ≡ stock_level_touch (database catalog.now store.now.rows) p.now) }
 {
     let mut footprint = Footprint::new(alloc);
     let (warehouse, district) = (p.warehouse, p.district);

@@ -2,7 +2,8 @@
 //! delivered in turn, on the rows as the earlier districts leave them. All of it is one transaction.
 ghost use Rattle.std.specs.Prelude.{◌≡◌, ◌≤◌, is_ok, map, option_copied, IfOk, OnOk};
 ghost use Rattle.std.specs.List.{list_all};
-ghost use Rattle.tpcc_model.specs.Database.{Database};
+ghost use Rattle.requests.specs.declared.request.RequestKind.TheVariants as kind;
+ghost use Rattle.tpcc_model.specs.Database.{database};
 ghost use Rattle.tpcc_model.specs.Deliveries.{amount_of, carried, credited, delivery, districts_delivered, line_dated, lines_amount, lines_dated, oldest_delivered, order_delivered};
 ghost use Rattle.tpcc_model.specs.Steps.{delivery_outcome};
 ghost use Rattle.tpcc_model.specs.Touches.{credited_touch, delivery_touch, district_touch, oldest_touch};
@@ -14,16 +15,15 @@ ghost use Rattle.tpcc_rows.specs.declared.key.RowKey.TheVariants as key;
 ghost use Rattle.transactions.specs.DeliveryParts.{delivered_of};
 ghost use Rattle.transactions.specs.Faults.{AnswersBy, AnswersWithin};
 ghost use Rattle.transactions.specs.Lending.{lent};
-ghost use Rattle.transactions.specs.Outcomes.{Executes};
+ghost use Rattle.transactions.specs.Outcomes.{Executes, concluded};
 ghost use Rattle.worker_rows.specs.Views.{covers};
 
-use crate::exec_error::ExecError;
 use crate::fault::Fault;
 use crate::lent;
 use crate::seen::{customer_seen, order_line_seen, order_seen};
 use catalog::Catalog;
 use requests::reply::{DeliveryReply, Reply, RequestRefusal};
-use requests::request::{Delivery, RequestKind};
+use requests::request::Delivery;
 use std::alloc::Global;
 use tpcc_model::number::line_number;
 use tpcc_rows::delta::Delta;
@@ -304,7 +304,7 @@ fn delivery<V: RowView>(
     moment: Moment,
     view: &V,
 ) -> Result<(DeliveryReply, Delta), Fault>
-    ensures { let db : Database = record { cards = catalog.now; rows = lent (V.sees view.now) } in AnswersWithin delivered_of (covers (V.sees view.now) (delivery_touch db p.now)) (delivery db p.now moment) result }
+    ensures { let db = database catalog.now (lent (V.sees view.now)) in AnswersWithin delivered_of (covers (V.sees view.now) (delivery_touch db p.now)) (delivery db p.now moment) result }
 {
     catalog
         .warehouse(p.warehouse)
@@ -322,19 +322,9 @@ pub(crate) fn execute<V: RowView>(
     p: &Delivery,
     moment: Moment,
     view: &V,
-) -> Result<(Reply, Delta), ExecError>
-    ensures { let db : Database = record { cards = catalog.now; rows = lent (V.sees view.now) } in Executes (covers (V.sees view.now) (delivery_touch db p.now)) (delivery_outcome (delivery db p.now moment)) result }
+) -> Result<(Reply, Delta), Fault>
+    ensures { let db = database catalog.now (lent (V.sees view.now)) in Executes (covers (V.sees view.now) (delivery_touch db p.now)) (delivery_outcome (delivery db p.now moment)) (concluded kind.Delivery result) }
 {
-    match delivery(alloc, catalog, p, moment, view) {
-        Ok((reply, changes)) => Ok((Reply::Delivery(reply), changes)),
-        Err(Fault::Refused(refusal)) => Ok((
-            Reply::Refused {
-                kind: RequestKind::Delivery,
-                refusal,
-            },
-            Delta::new(alloc),
-        )),
-        Err(Fault::Strayed) => Err(ExecError::Strayed),
-        Err(Fault::Memory) => Err(ExecError::Memory),
-    }
+    let (reply, changes) = delivery(alloc, catalog, p, moment, view)?;
+    Ok((Reply::Delivery(reply), changes))
 }
