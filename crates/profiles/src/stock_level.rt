@@ -5,7 +5,6 @@ ghost use Rattle.serializability.specs.Footprints.{joined};
 ghost use Rattle.tpcc_model.specs.Database.{database};
 ghost use Rattle.tpcc_model.specs.StockLevels.{first_recent};
 ghost use Rattle.tpcc_model.specs.Touches.{line_touch, lines_touch, orders_touch, stock_level_touch};
-ghost use Rattle.tpcc_rows.specs.Rows.{order_line_row};
 
 use catalog::Catalog;
 use requests::request::StockLevel;
@@ -14,27 +13,10 @@ use std::alloc::Global;
 use tpcc_model::number::{line_number, order_id};
 use tpcc_rows::footprint::Footprint;
 use tpcc_rows::granule::Granule;
-use tpcc_rows::id::{LineNumber, OrderId};
-use tpcc_rows::key::RowKey;
+use tpcc_rows::id::OrderId;
 use tpcc_rows::memory::Memory;
 use tpcc_rows::row::OrderLineRow;
-
-fn order_line<'a>(
-    store: &'a PointedStore,
-    p: &StockLevel,
-    order: OrderId,
-    number: LineNumber,
-) -> Option<&'a OrderLineRow>
-    ensures { option_copied result ≡ order_line_row store.now.rows p.now.warehouse p.now.district order number }
-{
-    let key = RowKey::OrderLine {
-        warehouse: p.warehouse,
-        district: p.district,
-        order,
-        number,
-    };
-    store.get(&key)?.as_order_line()
-}
+use worker_rows::order_line_row;
 
 /// The stock of the line's item, where it has a card.
 fn touch_line(
@@ -67,7 +49,8 @@ fn touch_lines(
     ensures { OnOk result (footprint.new ≡ joined footprint.old (lines_touch (database catalog.now store.now.rows) p.now order 15)) }
 {
     for index in 0..15 {
-        let line = order_line(store, p, order, line_number(index + 1));
+        let number = line_number(index + 1);
+        let line = order_line_row(store, p.warehouse, p.district, order, number);
         touch_line(catalog, p, line, footprint)?;
     }
     Ok(())

@@ -15,11 +15,10 @@ ghost use Rattle.transactions.specs.Outcomes.{Executes, concluded};
 ghost use Rattle.worker_rows.specs.Views.{covers};
 
 use crate::fault::Fault;
-use crate::lent;
+use crate::lent::{self, Lent, Seen};
 use crate::order_line::{
     LineCards, brand_of, found_lines, line_amount, order_line_of, ordered_stock,
 };
-use crate::seen::stock_seen;
 use catalog::{Catalog, CustomerCard, DistrictCard, WarehouseCard};
 use requests::reply::{LineReplies, LineReply, NewOrderReply, Reply, RequestRefusal};
 use requests::request::{NewOrder, OrderedLine};
@@ -33,7 +32,7 @@ use tpcc_rows::memory::Memory;
 use tpcc_rows::number::{Cents, Moment};
 use tpcc_rows::row::{DistrictRow, OrderRow, Row, StockRow};
 use tpcc_rows::total::total_cents;
-use worker_rows::RowView;
+use worker_rows::{RowView, district_row, stock_row};
 
 #[tactic(auto, unfolding(tpcc_model::specs::NewOrders::raised_district))]
 fn raised_district(old: &DistrictRow) -> Result<DistrictRow, RequestRefusal>
@@ -122,7 +121,11 @@ fn lines_done<V: RowView>(
 {
     for (index, line) in lines.iter().enumerate() {
         let OrderedLine { item, supply, .. } = *line.ordered;
-        let row = stock_seen(view, &so_far.changes, supply, item);
+        let rows = Seen {
+            lent: Lent { view },
+            changes: &so_far.changes,
+        };
+        let row = stock_row(&rows, supply, item);
         let old = *row.ok_or(RequestRefusal::UnknownKey)?;
         line_done(p, order, line_number(index + 1), line, &old, so_far)?;
     }
@@ -251,7 +254,8 @@ fn new_order<V: RowView>(
     if !may_place(view, p) {
         return Err(Fault::Strayed);
     }
-    let old = lent::district(view, p.warehouse, p.district).ok_or(RequestRefusal::UnknownKey)?;
+    let rows = Lent { view };
+    let old = district_row(&rows, p.warehouse, p.district).ok_or(RequestRefusal::UnknownKey)?;
     let order = old.next_order;
     let mut so_far = opened(alloc, p, moment, order, raised_district(old)?)?;
     lines_done(view, p, order, &lines, &mut so_far)?;

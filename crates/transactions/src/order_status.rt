@@ -13,7 +13,7 @@ ghost use Rattle.transactions.specs.Outcomes.{Executes, concluded};
 ghost use Rattle.worker_rows.specs.Views.{covers};
 
 use crate::fault::Fault;
-use crate::lent;
+use crate::lent::{self, Lent};
 use catalog::{Catalog, CustomerCard};
 use requests::reply::{OrderStatusReply, Reply, RequestRefusal, ShownLine, ShownLines, ShownOrder};
 use requests::request::OrderStatus;
@@ -23,7 +23,7 @@ use tpcc_model::number::line_number;
 use tpcc_rows::delta::Delta;
 use tpcc_rows::id::{CustomerId, LineNumber, OrderId};
 use tpcc_rows::row::{CustomerRow, OrderLineRow, OrderRow};
-use worker_rows::RowView;
+use worker_rows::{RowView, order_line_row, order_row};
 
 #[tactic(auto, unfolding(tpcc_model::specs::OrderStatuses::shown_line))]
 fn shown_line(line: &OrderLineRow) -> ShownLine
@@ -48,10 +48,11 @@ fn shown_lines<V: RowView>(
 ) -> ShownLines
     ensures { result ≡ shown_lines (lent (V.sees view.now)) p.now order count }
 {
+    let rows = Lent { view };
     let mut lines = ShownLines::new();
     for index in 0..usize::from(count.number()) {
         let number = line_number(index + 1);
-        if let Some(line) = lent::order_line(view, p.warehouse, p.district, order, number) {
+        if let Some(line) = order_line_row(&rows, p.warehouse, p.district, order, number) {
             lines.push(shown_line(line));
         }
     }
@@ -87,7 +88,8 @@ fn last_order<V: RowView>(
     ensures { result ≡ last_order (lent (V.sees view.now)) p.now customer }
 {
     let number = last?;
-    let order = lent::order(view, p.warehouse, p.district, number)?;
+    let rows = Lent { view };
+    let order = order_row(&rows, p.warehouse, p.district, number)?;
     Some(shown_order(view, p, number, order))
 }
 

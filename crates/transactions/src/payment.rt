@@ -13,7 +13,7 @@ ghost use Rattle.transactions.specs.Outcomes.{Executes, concluded, paid_of};
 ghost use Rattle.worker_rows.specs.Views.{covers};
 
 use crate::fault::Fault;
-use crate::lent;
+use crate::lent::{self, Lent};
 use catalog::{Catalog, Credit};
 use requests::number::PaymentAmount;
 use requests::reply::{PaymentReply, Reply, RequestRefusal, ShownCredit};
@@ -28,7 +28,7 @@ use tpcc_rows::memory::Memory;
 use tpcc_rows::number::{Amount, Moment};
 use tpcc_rows::row::{CustomerRow, DistrictRow, HistoryRow, Row, WarehouseRow};
 use tpcc_rows::text::Text;
-use worker_rows::RowView;
+use worker_rows::{RowView, customer_row, district_row, warehouse_row};
 
 /// What a payment makes: the new rows, and who paid.
 #[derive(Drop)]
@@ -209,10 +209,11 @@ fn payment<V: RowView>(
     if !may_pay(view, p, customer_id) {
         return Err(Fault::Strayed);
     }
-    let warehouse = lent::warehouse(view, p.warehouse).ok_or(RequestRefusal::UnknownKey)?;
-    let district = lent::district(view, p.warehouse, p.district).ok_or(RequestRefusal::UnknownKey)?;
+    let rows = Lent { view };
+    let warehouse = warehouse_row(&rows, p.warehouse).ok_or(RequestRefusal::UnknownKey)?;
+    let district = district_row(&rows, p.warehouse, p.district).ok_or(RequestRefusal::UnknownKey)?;
     let (of_warehouse, of_district) = (p.customer_warehouse, p.customer_district);
-    let customer = lent::customer(view, of_warehouse, of_district, customer_id);
+    let customer = customer_row(&rows, of_warehouse, of_district, customer_id);
     let customer = customer.ok_or(RequestRefusal::UnknownKey)?;
     let amount = p.amount.cents();
     Ok(NewRows {

@@ -15,7 +15,7 @@ ghost use Rattle.transactions.specs.Outcomes.{Executes, concluded};
 ghost use Rattle.worker_rows.specs.Views.{covers};
 
 use crate::fault::Fault;
-use crate::lent;
+use crate::lent::{self, Lent};
 use catalog::Catalog;
 use requests::reply::{Reply, RequestRefusal, StockLevelReply};
 use requests::request::StockLevel;
@@ -25,7 +25,7 @@ use tpcc_model::number::{line_number, order_id};
 use tpcc_rows::delta::Delta;
 use tpcc_rows::id::{ItemId, OrderId};
 use tpcc_rows::row::OrderLineRow;
-use worker_rows::{RowView, Strayed};
+use worker_rows::{RowView, Strayed, order_line_row};
 
 /// Whether the item's stock in the warehouse is low. One without a card is not looked at.
 #[tactic(auto, using(crate::proofs::LentTouches::covers_reading), unfolding(tpcc_model::specs::StockLevels::is_low))]
@@ -88,9 +88,10 @@ fn hold_lines<V: RowView>(
     ensures held { (xs : List ℕ) → IsHeld items.old xs → OnOk result (IsHeld items.new (with_lines (database catalog.now (lent (V.sees view.now))) p.now order 15 xs)) }
     ensures len { length items.new.keys ≤ length items.old.keys + 15 }
 {
+    let rows = Lent { view };
     for index in 0..15 {
         let number = line_number(index + 1);
-        let line = lent::order_line(view, p.warehouse, p.district, order, number);
+        let line = order_line_row(&rows, p.warehouse, p.district, order, number);
         hold_line(catalog, view, p, line, items)?;
     }
     Ok(())
