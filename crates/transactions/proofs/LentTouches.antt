@@ -80,8 +80,8 @@ module _ (test : ℕ → Bool) (i d : ℕ) (ds : List ℕ) (is : ds ≡ ten) (be
   at_place = ap (list_all test) (drop-cons ten i d below)
       ∙ ap₂ (λ (e k : ℕ). test e && list_all test (drop k ten)) (ap (λ xs. get_or xs i d) (sym is)) (sym (add-one i))
 
-  pub district_passes : (whole : Bool) → list_all test (drop i ten) ≡ whole → test (get_or ds i d) ≡ true → list_all test (drop (i + 1) ten) ≡ whole
-  district_passes whole left may = sym (at_place ∙ ap (λ b. b && list_all test (drop (i + 1) ten)) may) ∙ left
+  pub district_passes : (whole : Bool) → list_all test (drop i ten) ≡ whole → true ≡ test (get_or ds i d) → list_all test (drop (i + 1) ten) ≡ whole
+  district_passes whole left may = ap (λ b. b && list_all test (drop (i + 1) ten)) may ∙ sym at_place ∙ left
 
 -- ---- one line and one order after the other
 both : (a b : Bool) → a ≡ true → b ≡ true → (a && b) ≡ true

@@ -65,8 +65,10 @@ pub(crate) fn read_district<V: RowView>(
         warehouse,
         district,
     };
-    let row = view.read(&key)?;
-    Ok(row.and_then(|row| row.as_district()))
+    match view.read(&key)? {
+        Some(row) => Ok(row.as_district()),
+        None => Ok(None),
+    }
 }
 
 #[tactic(auto, using(crate::proofs::Lending::lent_row))]
@@ -84,8 +86,10 @@ pub(crate) fn read_customer<V: RowView>(
         district,
         customer,
     };
-    let row = view.read(&key)?;
-    Ok(row.and_then(|row| row.as_customer()))
+    match view.read(&key)? {
+        Some(row) => Ok(row.as_customer()),
+        None => Ok(None),
+    }
 }
 
 #[tactic(auto, using(crate::proofs::Lending::lent_row))]
@@ -97,8 +101,10 @@ pub(crate) fn read_stock<V: RowView>(
     ensures strays { is_ok result ≡ may_read (V.sees view.now) (Granule.Stock warehouse item) }
     ensures row { IfOk result (λ row. option_copied row ≡ stock_row (lent (V.sees view.now)) warehouse item) }
 {
-    let row = view.read(&RowKey::Stock { warehouse, item })?;
-    Ok(row.and_then(|row| row.as_stock()))
+    match view.read(&RowKey::Stock { warehouse, item })? {
+        Some(row) => Ok(row.as_stock()),
+        None => Ok(None),
+    }
 }
 
 /// Strays where the district's order book may not be read, as reading any key of it does, whether there is a row or not.
