@@ -16,7 +16,7 @@ use tpcc_rows::granule::Granule;
 use tpcc_rows::id::OrderId;
 use tpcc_rows::memory::Memory;
 use tpcc_rows::row::OrderLineRow;
-use worker_rows::order_line_row;
+use worker_rows::{district_row, order_line_row};
 
 /// The stock of the line's item, where it has a card.
 fn touch_line(
@@ -95,7 +95,7 @@ pub(crate) fn declare(
         warehouse,
         district,
     })?;
-    if let Some(row) = store.district(warehouse, district) {
+    if let Some(row) = district_row(store, warehouse, district) {
         touch_recent(catalog, p, store, row.next_order, &mut footprint)?;
     }
     Ok(footprint)
