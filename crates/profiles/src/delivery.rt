@@ -2,9 +2,9 @@
 //! its oldest new order, and the book of a district without new orders is read.
 ghost use Rattle.std.specs.Prelude.{◌≡◌, map, option_copied, IfOk, OnOk};
 ghost use Rattle.serializability.specs.Footprints.{joined, joined_all};
+ghost use Rattle.tpcc_model.specs.Database.{database};
 ghost use Rattle.tpcc_model.specs.Touches.{credited_touch, delivery_touch, district_touch};
 ghost use Rattle.tpcc_rows.specs.Limits.{ten};
-ghost use Rattle.tpcc_rows.specs.Rows.{order_row};
 
 use catalog::Catalog;
 use requests::request::Delivery;
@@ -12,26 +12,10 @@ use rollback::PointedStore;
 use std::alloc::Global;
 use tpcc_rows::footprint::Footprint;
 use tpcc_rows::granule::Granule;
-use tpcc_rows::id::{DistrictId, OrderId, WarehouseId};
-use tpcc_rows::key::RowKey;
+use tpcc_rows::id::DistrictId;
 use tpcc_rows::memory::Memory;
 use tpcc_rows::row::OrderRow;
-
-fn order_of(
-    store: &PointedStore,
-    warehouse: WarehouseId,
-    district: DistrictId,
-    order: OrderId,
-) -> Option<&OrderRow>
-    ensures { option_copied result ≡ order_row store.now.rows warehouse district order }
-{
-    let key = RowKey::Order {
-        warehouse,
-        district,
-        order,
-    };
-    store.get(&key)?.as_order()
-}
+use worker_rows::order_row;
 
 /// The customer of the order, where it is there.
 fn touch_customer(
@@ -69,7 +53,7 @@ fn touch_district(
     match store.oldest_new(warehouse, district) {
         Some(order) => {
             footprint.write(book)?;
-            let order = order_of(store, warehouse, district, order);
+            let order = order_row(store, warehouse, district, order);
             touch_customer(p, district, order, footprint)
         }
         None => footprint.read(book),
@@ -96,7 +80,7 @@ pub(crate) fn declare(
     p: &Delivery,
     store: &PointedStore,
 ) -> Result<Footprint, Memory>
-    ensures { IfOk result (λ footprint. footprint ≡ delivery_touch (record { cards = catalog.now; rows = store.now.rows }) p.now) }
+    ensures { IfOk result (λ footprint. footprint ≡ delivery_touch (database catalog.now store.now.rows) p.now) }
 {
     let mut footprint = Footprint::new(alloc);
     if catalog.warehouse(p.warehouse).is_some() {

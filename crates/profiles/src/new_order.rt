@@ -4,6 +4,7 @@ ghost use Rattle.std.specs.Prelude.{◌≡◌, is_ok, map, IfOk, OnOk};
 ghost use Rattle.std.specs.List.{list_all};
 ghost use Rattle.serializability.specs.Footprints.{joined, joined_all};
 ghost use Rattle.profiles.specs.Found.{has_cards};
+ghost use Rattle.tpcc_model.specs.Database.{database};
 ghost use Rattle.tpcc_model.specs.NewOrders.{found_cards};
 ghost use Rattle.tpcc_model.specs.Touches.{new_order_touch, ordered_touch};
 ghost use Rattle.tpcc_rows.specs.RowMap.{Rows};
@@ -57,7 +58,7 @@ fn touch_stocks(lines: &[OrderedLine], footprint: &mut Footprint) -> Result<(), 
 /// What a new order touches, whatever the rows are.
 #[tactic(auto, unfolding(tpcc_model::specs::Touches::new_order_touch))]
 pub(crate) fn declare(alloc: Global, catalog: &Catalog, p: &NewOrder) -> Result<Footprint, Memory>
-    ensures { (rows : Rows) → IfOk result (λ footprint. footprint ≡ new_order_touch (record { cards = catalog.now; rows = rows }) p.now) }
+    ensures { (rows : Rows) → IfOk result (λ footprint. footprint ≡ new_order_touch (database catalog.now rows) p.now) }
 {
     let mut footprint = Footprint::new(alloc);
     if !has_cards(catalog, p) {

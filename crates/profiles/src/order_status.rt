@@ -1,5 +1,6 @@
 //! Order-Status (TPC-C clause 2.6): where the customer has a card, the customer and the district's book are read.
 ghost use Rattle.std.specs.Prelude.{◌≡◌, IfOk};
+ghost use Rattle.tpcc_model.specs.Database.{database};
 ghost use Rattle.tpcc_model.specs.Touches.{asked_customer, order_status_touch};
 ghost use Rattle.tpcc_rows.specs.RowMap.{Rows};
 
@@ -33,7 +34,7 @@ pub(crate) fn declare(
     catalog: &Catalog,
     p: &OrderStatus,
 ) -> Result<Footprint, Memory>
-    ensures { (rows : Rows) → IfOk result (λ footprint. footprint ≡ order_status_touch (record { cards = catalog.now; rows = rows }) p.now) }
+    ensures { (rows : Rows) → IfOk result (λ footprint. footprint ≡ order_status_touch (database catalog.now rows) p.now) }
 {
     let mut footprint = Footprint::new(alloc);
     let Ok(customer) = asked_customer(catalog, p) else {

@@ -2,6 +2,7 @@
 //! be of another district, are written.
 ghost use Rattle.std.specs.Prelude.{◌≡◌, IfOk};
 ghost use Rattle.profiles.specs.Found.{paying_customer};
+ghost use Rattle.tpcc_model.specs.Database.{database};
 ghost use Rattle.tpcc_model.specs.Touches.{payment_touch};
 ghost use Rattle.tpcc_rows.specs.RowMap.{Rows};
 
@@ -38,7 +39,7 @@ fn paying_customer(catalog: &Catalog, p: &Payment) -> Result<CustomerId, Request
 /// What a payment touches, whatever the rows are.
 #[tactic(auto, unfolding(tpcc_model::specs::Touches::payment_touch))]
 pub(crate) fn declare(alloc: Global, catalog: &Catalog, p: &Payment) -> Result<Footprint, Memory>
-    ensures { (rows : Rows) → IfOk result (λ footprint. footprint ≡ payment_touch (record { cards = catalog.now; rows = rows }) p.now) }
+    ensures { (rows : Rows) → IfOk result (λ footprint. footprint ≡ payment_touch (database catalog.now rows) p.now) }
 {
     let mut footprint = Footprint::new(alloc);
     let Ok(customer) = paying_customer(catalog, p) else {

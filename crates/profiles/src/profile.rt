@@ -1,5 +1,6 @@
 //! The choice of the transaction.
 ghost use Rattle.std.specs.Prelude.{◌≡◌, IfOk};
+ghost use Rattle.tpcc_model.specs.Database.{database};
 ghost use Rattle.tpcc_model.specs.Touches.{touch};
 
 use crate::{delivery, new_order, order_status, payment, stock_level};
@@ -18,7 +19,7 @@ pub fn declare(
     request: &Request,
     store: &PointedStore,
 ) -> Result<Footprint, Memory>
-    ensures { IfOk result (λ footprint. footprint ≡ touch (record { cards = catalog.now; rows = store.now.rows }) request.now) }
+    ensures { IfOk result (λ footprint. footprint ≡ touch (database catalog.now store.now.rows) request.now) }
 {
     match request {
         Request::NewOrder(p) => new_order::declare(alloc, catalog, p),

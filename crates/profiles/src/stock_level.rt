@@ -2,9 +2,9 @@
 //! items in the lines of its last twenty orders.
 ghost use Rattle.std.specs.Prelude.{◌≡◌, ◌-◌, option_copied, IfOk, OnOk};
 ghost use Rattle.serializability.specs.Footprints.{joined};
+ghost use Rattle.tpcc_model.specs.Database.{database};
 ghost use Rattle.tpcc_model.specs.StockLevels.{first_recent};
 ghost use Rattle.tpcc_model.specs.Touches.{line_touch, lines_touch, orders_touch, stock_level_touch};
-ghost use Rattle.tpcc_rows.specs.Rows.{order_line_row};
 
 use catalog::Catalog;
 use requests::request::StockLevel;
@@ -13,27 +13,10 @@ use std::alloc::Global;
 use tpcc_model::number::{line_number, order_id};
 use tpcc_rows::footprint::Footprint;
 use tpcc_rows::granule::Granule;
-use tpcc_rows::id::{LineNumber, OrderId};
-use tpcc_rows::key::RowKey;
+use tpcc_rows::id::OrderId;
 use tpcc_rows::memory::Memory;
 use tpcc_rows::row::OrderLineRow;
-
-fn order_line<'a>(
-    store: &'a PointedStore,
-    p: &StockLevel,
-    order: OrderId,
-    number: LineNumber,
-) -> Option<&'a OrderLineRow>
-    ensures { option_copied result ≡ order_line_row store.now.rows p.now.warehouse p.now.district order number }
-{
-    let key = RowKey::OrderLine {
-        warehouse: p.warehouse,
-        district: p.district,
-        order,
-        number,
-    };
-    store.get(&key)?.as_order_line()
-}
+use worker_rows::{district_row, order_line_row};
 
 /// The stock of the line's item, where it has a card.
 fn touch_line(
@@ -63,10 +46,11 @@ fn touch_lines(
     order: OrderId,
     footprint: &mut Footprint,
 ) -> Result<(), Memory>
-    ensures { OnOk result (footprint.new ≡ joined footprint.old (lines_touch (record { cards = catalog.now; rows = store.now.rows }) p.now order 15)) }
+    ensures { OnOk result (footprint.new ≡ joined footprint.old (lines_touch (database catalog.now store.now.rows) p.now order 15)) }
 {
     for index in 0..15 {
-        let line = order_line(store, p, order, line_number(index + 1));
+        let number = line_number(index + 1);
+        let line = order_line_row(store, p.warehouse, p.district, order, number);
         touch_line(catalog, p, line, footprint)?;
     }
     Ok(())
@@ -80,7 +64,7 @@ fn touch_recent(
     next: OrderId,
     footprint: &mut Footprint,
 ) -> Result<(), Memory>
-    ensures { OnOk result (footprint.new ≡ joined footprint.old (orders_touch (record { cards = catalog.now; rows = store.now.rows }) p.now (first_recent next) (next - first_recent next))) }
+    ensures { OnOk result (footprint.new ≡ joined footprint.old (orders_touch (database catalog.now store.now.rows) p.now (first_recent next) (next - first_recent next))) }
 {
     let first = next.number().saturating_sub(20).max(1);
     for order in first..next.number() {
@@ -96,7 +80,7 @@ pub(crate) fn declare(
     p: &StockLevel,
     store: &PointedStore,
 ) -> Result<Footprint, Memory>
-    ensures { IfOk result (λ footprint. footprint ≡ stock_level_touch (record { cards = catalog.now; rows = store.now.rows }) p.now) }
+    ensures { IfOk result (λ footprint. footprint ≡ stock_level_touch (database catalog.now store.now.rows) p.now) }
 {
     let mut footprint = Footprint::new(alloc);
     let (warehouse, district) = (p.warehouse, p.district);
@@ -111,7 +95,7 @@ pub(crate) fn declare(
         warehouse,
         district,
     })?;
-    if let Some(row) = store.district(warehouse, district) {
+    if let Some(row) = district_row(store, warehouse, district) {
         touch_recent(catalog, p, store, row.next_order, &mut footprint)?;
     }
     Ok(footprint)

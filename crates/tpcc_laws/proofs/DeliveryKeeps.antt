@@ -27,7 +27,7 @@ use Rattle.tpcc_rows.proofs.RowKindFacts.{order-there}
 use Rattle.tpcc_rows.proofs.Singles as single
 use Rattle.tpcc_rows.proofs.Totals.{no_share, total-remove, total-same}
 use Rattle.tpcc_model.specs.Conditions.{Condition1, HasNewOrder, IsConsistent, IsLeast, district_share, line_share, new_order_share, promised_share}
-use Rattle.tpcc_model.specs.Database.{Database}
+use Rattle.tpcc_model.specs.Database.{Database, database}
 use Rattle.tpcc_model.specs.Deliveries.{Delivered, carried, credited, delivery, districts_delivered, lines_amount, lines_dated, oldest_delivered, order_delivered}
 use Rattle.tpcc_model.specs.Soundness.{IsCustomerRow, IsEntry, IsSound}
 use Rattle.tpcc_model.specs.Staging.{known}
@@ -61,12 +61,12 @@ alike_payments v _ r s = refl
 
 -- after a delivery in district d of warehouse w: the history is the same, and so are the new orders of the others
 pub record IsDeliveredIn (cards : Cards) (w d : ℕ) (m n : Rows) : Type 0 where
-  pub sound : IsSound (record { cards = cards; rows = n })
+  pub sound : IsSound (database cards n)
   pub history : (i : ℕ) → get n (key.History i) ≡ get m (key.History i)
   pub others : (e x : ℕ) → (e ≡ d → ⊥) → get n (key.NewOrder w e x) ≡ get m (key.NewOrder w e x)
 
 -- ---- one district
-module _ (cards : Cards) (rows : Rows) (p : Delivery) (moment d o : ℕ) (changes : Changes) (fits : IsBetween 1 10 p.carrier) (timed : IsBetween 0 999999999999 moment) (sound : IsSound (record { cards = cards; rows = after rows changes }))
+module _ (cards : Cards) (rows : Rows) (p : Delivery) (moment d o : ℕ) (changes : Changes) (fits : IsBetween 1 10 p.carrier) (timed : IsBetween 0 999999999999 moment) (sound : IsSound (database cards (after rows changes)))
     (least : IsLeast (HasNewOrder (after rows changes) p.warehouse d) o)
     (order : OrderRow) (has_order : get (after rows changes) (key.Order p.warehouse d o) ≡ Some (row.Order order))
     (old new : CustomerRow) (has_old : get (after rows changes) (key.Customer p.warehouse d order.customer) ≡ Some (row.Customer old)) (new_fits : IsCustomerRow new) where
@@ -237,7 +237,7 @@ module _ (cards : Cards) (rows : Rows) (p : Delivery) (moment d o : ℕ) (change
 
 -- ---- the districts in turn
 module _ (cards : Cards) (rows : Rows) (p : Delivery) (moment : ℕ) (fits : IsBetween 1 10 p.carrier) (timed : IsBetween 0 999999999999 moment) where
-  order_keeps : (d o : ℕ) (changes more : Changes) → IsSound (record { cards = cards; rows = after rows changes }) → IsLeast (HasNewOrder (after rows changes) p.warehouse d) o → order_delivered rows p moment d o changes ≡ Ok more
+  order_keeps : (d o : ℕ) (changes more : Changes) → IsSound (database cards (after rows changes)) → IsLeast (HasNewOrder (after rows changes) p.warehouse d) o → order_delivered rows p moment d o changes ≡ Ok more
       → IsDeliveredIn cards p.warehouse d (after rows changes) (after rows more)
   unfolding order_delivered
   order_keeps d o changes more sound least h =
@@ -251,7 +251,7 @@ module _ (cards : Cards) (rows : Rows) (p : Delivery) (moment : ℕ) (fits : IsB
       let is : insert (lines_dated rows p moment d o order.line_count (carried p d o order changes)) (key.Customer p.warehouse d order.customer) (Some (row.Customer new)) ≡ more = cc in
       subst (λ (c : Changes). IsDeliveredIn cards p.warehouse d m (after rows c)) is (in_district cards rows p moment d o changes fits timed sound least order has_order old new has_old new_fits)
 
-  district_keeps : (d : ℕ) (changes more : Changes) (o : Option ℕ) → oldest rows p.warehouse d ≡ o → IsSound (record { cards = cards; rows = after rows changes })
+  district_keeps : (d : ℕ) (changes more : Changes) (o : Option ℕ) → oldest rows p.warehouse d ≡ o → IsSound (database cards (after rows changes))
       → ((x : ℕ) → get (after rows changes) (key.NewOrder p.warehouse d x) ≡ get rows (key.NewOrder p.warehouse d x)) → oldest_delivered rows p moment d o changes ≡ Ok more
       → IsDeliveredIn cards p.warehouse d (after rows changes) (after rows more)
   district_keeps d changes more None is sound same h =
@@ -270,12 +270,12 @@ module _ (cards : Cards) (rows : Rows) (p : Delivery) (moment : ℕ) (fits : IsB
   abbrev IsUntouched : ℕ → Changes → Type 0
   IsUntouched low changes = (d x : ℕ) → low ≤ d → get (after rows changes) (key.NewOrder p.warehouse d x) ≡ get rows (key.NewOrder p.warehouse d x)
 
-  districts_keep : (low : ℕ) (ds : List ℕ) (changes last : Changes) → RisesFrom low ds → IsUntouched low changes → IsSound (record { cards = cards; rows = after rows changes }) → districts_delivered rows p moment ds changes ≡ Ok last
-      → IsSound (record { cards = cards; rows = after rows last }) × ((i : ℕ) → get (after rows last) (key.History i) ≡ get (after rows changes) (key.History i))
+  districts_keep : (low : ℕ) (ds : List ℕ) (changes last : Changes) → RisesFrom low ds → IsUntouched low changes → IsSound (database cards (after rows changes)) → districts_delivered rows p moment ds changes ≡ Ok last
+      → IsSound (database cards (after rows last)) × ((i : ℕ) → get (after rows last) (key.History i) ≡ get (after rows changes) (key.History i))
   unfolding districts_delivered
   districts_keep low [] changes last rises same sound h =
       let e : changes ≡ last = cc in
-      subst (λ (c : Changes). IsSound (record { cards = cards; rows = after rows c }) × ((i : ℕ) → get (after rows c) (key.History i) ≡ get (after rows changes) (key.History i))) e (sound, λ i. refl)
+      subst (λ (c : Changes). IsSound (database cards (after rows c)) × ((i : ℕ) → get (after rows c) (key.History i) ≡ get (after rows changes) (key.History i))) e (sound, λ i. refl)
   districts_keep low (d ∷ ds) changes last rises same sound h =
       ok-by (oldest_delivered rows p moment d (oldest rows p.warehouse d) changes) _ _ h λ more e1 h1.
       let from : low ≤ d = rises.0 in
@@ -286,10 +286,10 @@ module _ (cards : Cards) (rows : Rows) (p : Delivery) (moment : ℕ) (fits : IsB
   ten_rise : RisesFrom 1 ten
   ten_rise = (omega arith, (omega arith, (omega arith, (omega arith, (omega arith, (omega arith, (omega arith, (omega arith, (omega arith, (omega arith, tt))))))))))
 
-  pub all_keep : (last : Changes) → IsSound (record { cards = cards; rows = rows }) → districts_delivered rows p moment ten empty ≡ Ok last → IsSound (record { cards = cards; rows = after rows last }) × ((i : ℕ) → get (after rows last) (key.History i) ≡ get rows (key.History i))
+  pub all_keep : (last : Changes) → IsSound (database cards rows) → districts_delivered rows p moment ten empty ≡ Ok last → IsSound (database cards (after rows last)) × ((i : ℕ) → get (after rows last) (key.History i) ≡ get rows (key.History i))
   all_keep last sound h =
       let start : after rows empty ≡ rows = after-empty rows in
-      let kept = districts_keep 1 ten empty last ten_rise (λ d x above. ap (λ (z : Rows). get z (key.NewOrder p.warehouse d x)) start) (subst (λ (z : Rows). IsSound (record { cards = cards; rows = z })) (sym start) sound) h in
+      let kept = districts_keep 1 ten empty last ten_rise (λ d x above. ap (λ (z : Rows). get z (key.NewOrder p.warehouse d x)) start) (subst (λ (z : Rows). IsSound (database cards z)) (sym start) sound) h in
       (kept.0, λ i. kept.1 i ∙ ap (λ (z : Rows). get z (key.History i)) start)
 
 pub delivery_keeps : (db : Database) (p : Delivery) (number moment : ℕ) (made : Delivered) → IsSound db → IsBetween 1 10 p.carrier → IsBetween 0 999999999999 moment → delivery db p moment ≡ Ok made → IsKeptSound db (after db.rows made.changes) number

@@ -13,7 +13,7 @@ use Rattle.tpcc_rows.specs.declared.row.Row.{Row}
 use Rattle.tpcc_rows.proofs.Footprints.{same_granule-Decides}
 use Rattle.tpcc_rows.proofs.Keys.{row_key_cmp_total, exact_keys}
 use Rattle.tpcc_rows.proofs.Singles.{found_later, second}
-use Rattle.tpcc_model.specs.Database.{Database}
+use Rattle.tpcc_model.specs.Database.{database}
 use Rattle.tpcc_model.specs.Steps.{step}
 use Rattle.tpcc_model.specs.Touches.{ArePlaced, IsPlaced, touch}
 use Rattle.tpcc_laws.specs.Laws.{IsFramedMachine, StepFrames, StepKeeps}
@@ -37,11 +37,11 @@ framed keeps frames cards moment timed = record {
   exact_granules = same_granule-Decides;
   own_alone = λ n. refl;
   own_distinct = λ m n e. cc;
-  read_too = λ rows q g h. frames.read_too (record { cards = cards; rows = rows }) q g h;
-  keeps = λ rows n q sound fits. (keeps (record { cards = cards; rows = rows }) q n moment sound fits.1 fits.0 timed).sound;
+  read_too = λ rows q g h. frames.read_too (database cards rows) q g h;
+  keeps = λ rows n q sound fits. (keeps (database cards rows) q n moment sound fits.1 fits.0 timed).sound;
   same_touch = λ s t n q sound other fits agree. frames.same_touch cards s t q agree;
   same_step = λ s t n q sound other fits agree. ap (λ o. record { reply = o.reply; changes = entries o.changes }) (frames.same_step cards s t q n moment agree);
   placed = λ rows n q sound fits. (
-      let db : Database = record { cards = cards; rows = rows } in
+      let db = database cards rows in
       each_placed n (touch db q).writes (step db q n moment).changes (frames.placed db q n moment));
 }

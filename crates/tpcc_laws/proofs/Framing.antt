@@ -8,7 +8,7 @@ use Rattle.requests.specs.declared.reply.RequestRefusal.{RequestRefusal}
 use Rattle.requests.specs.declared.reply.StockLevelReply.{StockLevelReply}
 use Rattle.tpcc_rows.specs.RowMap.{Rows}
 use Rattle.tpcc_rows.specs.declared.granule.Granule.{Granule}
-use Rattle.tpcc_model.specs.Database.{Database}
+use Rattle.tpcc_model.specs.Database.{Database, database}
 use Rattle.tpcc_model.specs.OrderStatuses.{order_status}
 use Rattle.tpcc_model.specs.StockLevels.{stock_level}
 use Rattle.tpcc_model.specs.Steps.{delivery_outcome, new_order_outcome, order_status_outcome, payment_outcome, step, stock_level_outcome}
@@ -22,7 +22,7 @@ use Rattle.tpcc_model.proofs.Touching.{read_too}
 use Rattle.tpcc_laws.specs.Laws.{StepFrames}
 
 -- cards alone decide what three of the five touch
-same_touch : (cards : Cards) (s t : Rows) (q : Request) → Agree s t (touch (record { cards = cards; rows = s }) q).reads → touch (record { cards = cards; rows = t }) q ≡ touch (record { cards = cards; rows = s }) q
+same_touch : (cards : Cards) (s t : Rows) (q : Request) → Agree s t (touch (database cards s) q).reads → touch (database cards t) q ≡ touch (database cards s) q
 unfolding touch new_order_touch payment_touch order_status_touch
 same_touch cards s t (request.NewOrder p) agree = refl
 same_touch cards s t (request.Payment p) agree = refl
@@ -30,8 +30,8 @@ same_touch cards s t (request.OrderStatus p) agree = refl
 same_touch cards s t (request.Delivery p) agree = same_delivery_touch cards s t p agree
 same_touch cards s t (request.StockLevel p) agree = same_stock_level_touch cards s t p agree
 
-same_step : (cards : Cards) (s t : Rows) (q : Request) (number moment : ℕ) → Agree s t (touch (record { cards = cards; rows = s }) q).reads
-    → step (record { cards = cards; rows = t }) q number moment ≡ step (record { cards = cards; rows = s }) q number moment
+same_step : (cards : Cards) (s t : Rows) (q : Request) (number moment : ℕ) → Agree s t (touch (database cards s) q).reads
+    → step (database cards t) q number moment ≡ step (database cards s) q number moment
 unfolding step touch
 same_step cards s t (request.NewOrder p) number moment agree = ap new_order_outcome (same_new_order cards s t p moment agree)
 same_step cards s t (request.Payment p) number moment agree = ap (payment_outcome p number) (same_payment cards s t p moment agree)

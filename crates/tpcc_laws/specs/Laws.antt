@@ -5,7 +5,7 @@ use Rattle.serializability.specs.Footprints.{Has}
 use Rattle.serializability.specs.Framed.{IsFramed}
 use Rattle.catalog.specs.CardMap.{Cards}
 use Rattle.requests.specs.declared.request.Request.{Request}
-use Rattle.tpcc_model.specs.Database.{Database}
+use Rattle.tpcc_model.specs.Database.{Database, database}
 use Rattle.tpcc_model.specs.Machine.{tpcc}
 use Rattle.tpcc_model.specs.Soundness.{IsSound}
 use Rattle.tpcc_model.specs.Steps.{step}
@@ -34,11 +34,11 @@ pub record StepFrames : Type 0 where
   -- what is written is read too
   pub read_too : (db : Database) (request : Request) (g : Granule) → Has (touch db request).writes g → Has (touch db request).reads g
   -- where rows agree on what is read, the same is touched
-  pub same_touch : (cards : Cards) (s t : Rows) (request : Request) → Agree s t (touch (record { cards = cards; rows = s }) request).reads
-      → touch (record { cards = cards; rows = t }) request ≡ touch (record { cards = cards; rows = s }) request
+  pub same_touch : (cards : Cards) (s t : Rows) (request : Request) → Agree s t (touch (database cards s) request).reads
+      → touch (database cards t) request ≡ touch (database cards s) request
   -- and the same is replied and changed
-  pub same_step : (cards : Cards) (s t : Rows) (request : Request) (number moment : ℕ) → Agree s t (touch (record { cards = cards; rows = s }) request).reads
-      → step (record { cards = cards; rows = t }) request number moment ≡ step (record { cards = cards; rows = s }) request number moment
+  pub same_step : (cards : Cards) (s t : Rows) (request : Request) (number moment : ℕ) → Agree s t (touch (database cards s) request).reads
+      → step (database cards t) request number moment ≡ step (database cards s) request number moment
   -- each changed key is in a written granule, or is that of the request's own row of HISTORY
   pub placed : (db : Database) (request : Request) (number moment : ℕ) → ArePlaced number (touch db request).writes (step db request number moment).changes
 
@@ -48,4 +48,4 @@ Fits number request = IsBetween 1 999999999999999 number × IsRequest request
 
 -- the transactions are such a machine as the theory of levels asks for, at each moment within its limits
 abbrev pub IsFramedMachine : Type 0
-IsFramedMachine = (cards : Cards) (moment : ℕ) → IsBetween 0 999999999999 moment → IsFramed (tpcc cards moment) (λ rows. IsSound (record { cards = cards; rows = rows })) Fits
+IsFramedMachine = (cards : Cards) (moment : ℕ) → IsBetween 0 999999999999 moment → IsFramed (tpcc cards moment) (λ rows. IsSound (database cards rows)) Fits

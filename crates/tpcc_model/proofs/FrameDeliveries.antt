@@ -27,7 +27,7 @@ use Rattle.tpcc_rows.proofs.Changes.{chosen, get-after}
 use Rattle.tpcc_rows.proofs.Keys.{row_key_cmp_total, exact_keys}
 use Rattle.tpcc_rows.proofs.RowKindFacts.{order-there}
 use Rattle.tpcc_rows.proofs.Singles.{entry_of}
-use Rattle.tpcc_model.specs.Database.{Database}
+use Rattle.tpcc_model.specs.Database.{Database, database}
 use Rattle.tpcc_model.specs.Deliveries.{Delivered, amount_of, carried, credited, delivery, districts_delivered, line_dated, lines_amount, lines_dated, oldest_delivered, order_delivered}
 use Rattle.tpcc_model.specs.Staging.{◌>>=◌, known}
 use Rattle.tpcc_model.specs.Steps.{delivery_outcome}
@@ -35,9 +35,6 @@ use Rattle.tpcc_model.specs.Touches.{Agree, ArePlaced, IsPlaced, credited_touch,
 use Rattle.tpcc_model.proofs.Agreeing.{agree-after, agree-part, same_customer, same_oldest, same_order, same_order_line}
 use Rattle.tpcc_model.proofs.Placing.{in_granule, placed-insert, placed-none}
 use Rattle.tpcc_model.proofs.Stages.{after-stage, same-stage}
-
-some_new : {A : Type 0} (x y : A) → Some (Some x) ≡ Some (Some y) → x ≡ y
-some_new x y h = cc
 
 known-there : {A : Type 0} (o : Option A) (x : A) → known o ≡ Ok x → o ≡ Some x
 known-there None x h = cc
@@ -259,11 +256,11 @@ placed_delivery rows p number moment (Some card) =
     (subst (λ (r : Result Changes RequestRefusal). IfOk r (AreBounded rows p number moment gs)) e
     (bounded_districts rows p number moment gs ten (λ g h. h) empty (bounded_none rows p number moment gs))).placed
 
-pub same_delivery_touch : (cards : Cards) (s t : Rows) (p : Delivery) → Agree s t (delivery_touch (record { cards = cards; rows = s }) p).reads → delivery_touch (record { cards = cards; rows = t }) p ≡ delivery_touch (record { cards = cards; rows = s }) p
+pub same_delivery_touch : (cards : Cards) (s t : Rows) (p : Delivery) → Agree s t (delivery_touch (database cards s) p).reads → delivery_touch (database cards t) p ≡ delivery_touch (database cards s) p
 unfolding delivery_touch
 same_delivery_touch cards s t p agree = same_touched s t p (warehouse_card cards p.warehouse) agree
 
-pub same_delivery : (cards : Cards) (s t : Rows) (p : Delivery) (moment : ℕ) → Agree s t (delivery_touch (record { cards = cards; rows = s }) p).reads → delivery (record { cards = cards; rows = t }) p moment ≡ delivery (record { cards = cards; rows = s }) p moment
+pub same_delivery : (cards : Cards) (s t : Rows) (p : Delivery) (moment : ℕ) → Agree s t (delivery_touch (database cards s) p).reads → delivery (database cards t) p moment ≡ delivery (database cards s) p moment
 unfolding delivery delivery_touch
 same_delivery cards s t p moment agree = same_delivered s t p moment (warehouse_card cards p.warehouse) agree
 

@@ -19,7 +19,7 @@ use Rattle.tpcc_rows.specs.declared.granule.Granule.TheVariants as part
 use Rattle.tpcc_rows.specs.declared.key.RowKey.TheVariants as key
 use Rattle.tpcc_rows.specs.declared.row.DistrictRow.{DistrictRow}
 use Rattle.tpcc_rows.specs.declared.row.StockRow.{StockRow}
-use Rattle.tpcc_model.specs.Database.{Database}
+use Rattle.tpcc_model.specs.Database.{Database, database}
 use Rattle.tpcc_model.specs.NewOrders.{LineCards, LineItem, NewOrderCards, OrderSoFar, PlacedOrder, found_cards, found_item, found_lines, found_stock, line_amount, line_done, lines_done, new_order, new_order_reply, opened, ordered_stock, raised_district}
 use Rattle.tpcc_model.specs.Staging.{◌>>=◌, for_each, known}
 use Rattle.tpcc_model.specs.Steps.{new_order_outcome}
@@ -148,8 +148,8 @@ module _ (p : NewOrder) (moment : ℕ) where
         (λ g h. inr (inr (subst (λ hs. Has hs g) (sym (stocks-written p.lines)) (subst (λ (ls : List OrderedLine). Has (joined_all (map ordered_touch ls)).reads g) found h))))
         (placed_opened old.next_order district))
 
-pub same_new_order : (cards : Cards) (s t : Rows) (p : NewOrder) (moment : ℕ) → Agree s t (new_order_touch (record { cards = cards; rows = s }) p).reads
-    → new_order (record { cards = cards; rows = t }) p moment ≡ new_order (record { cards = cards; rows = s }) p moment
+pub same_new_order : (cards : Cards) (s t : Rows) (p : NewOrder) (moment : ℕ) → Agree s t (new_order_touch (database cards s) p).reads
+    → new_order (database cards t) p moment ≡ new_order (database cards s) p moment
 unfolding new_order new_order_touch
 same_new_order cards s t p moment agree = same_ordered p moment s t (found_cards cards p) (cards_found cards p) agree
 

@@ -6,7 +6,7 @@ use Rattle.requests.specs.declared.reply.RequestRefusal.{RequestRefusal}
 use Rattle.tpcc_rows.specs.RowMap.{Rows}
 use Rattle.tpcc_rows.specs.declared.granule.Granule.TheVariants as part
 use Rattle.tpcc_rows.specs.declared.key.RowKey.TheVariants as key
-use Rattle.tpcc_model.specs.Database.{Database}
+use Rattle.tpcc_model.specs.Database.{Database, database}
 use Rattle.tpcc_model.specs.Payments.{Paid, PaymentCards, found_cards, found_rows, paid_customer, paid_district, paid_rows, paid_warehouse, payment, payment_changes}
 use Rattle.tpcc_model.specs.Staging.{◌>>=◌, known}
 use Rattle.tpcc_model.specs.Steps.{payment_outcome}
@@ -50,7 +50,7 @@ module _ (p : Payment) (moment : ℕ) where
       (placed-insert number gs _ (key.Warehouse p.warehouse) _ (in_granule number gs _ (part.Warehouse p.warehouse) refl (inl refl))
       (placed-none number gs))))
 
-pub same_payment : (cards : Cards) (s t : Rows) (p : Payment) (moment : ℕ) → Agree s t (payment_touch (record { cards = cards; rows = s }) p).reads → payment (record { cards = cards; rows = t }) p moment ≡ payment (record { cards = cards; rows = s }) p moment
+pub same_payment : (cards : Cards) (s t : Rows) (p : Payment) (moment : ℕ) → Agree s t (payment_touch (database cards s) p).reads → payment (database cards t) p moment ≡ payment (database cards s) p moment
 unfolding payment payment_touch
 same_payment cards s t p moment agree = same_paid p moment s t (found_cards cards p) agree
 

@@ -26,7 +26,7 @@ use Rattle.tpcc_rows.specs.declared.row.DistrictRow.{DistrictRow}
 use Rattle.tpcc_rows.specs.declared.row.OrderRow.{OrderRow}
 use Rattle.tpcc_rows.specs.declared.row.OrderLineRow.{OrderLineRow}
 use Rattle.tpcc_model.specs.Choices.{chosen_customer}
-use Rattle.tpcc_model.specs.Database.{Database}
+use Rattle.tpcc_model.specs.Database.{Database, database}
 use Rattle.tpcc_model.specs.OrderStatuses.{last_order, order_status, order_status_reply, shown_line, shown_lines, shown_order}
 use Rattle.tpcc_model.specs.Staging.{◌>>=◌, known}
 use Rattle.tpcc_model.specs.StockLevels.{first_recent, is_below, is_low, low_items, stock_level, with_line, with_lines}
@@ -77,14 +77,14 @@ module _ (s t : Rows) (p : OrderStatus) where
   same_asked cards None agree = refl
   same_asked cards (Some c) agree = same_shown_by c (customer_card cards p.warehouse p.district c) agree
 
-pub same_order_status : (cards : Cards) (s t : Rows) (p : OrderStatus) → Agree s t (order_status_touch (record { cards = cards; rows = s }) p).reads → order_status (record { cards = cards; rows = t }) p ≡ order_status (record { cards = cards; rows = s }) p
+pub same_order_status : (cards : Cards) (s t : Rows) (p : OrderStatus) → Agree s t (order_status_touch (database cards s) p).reads → order_status (database cards t) p ≡ order_status (database cards s) p
 unfolding order_status order_status_touch asked_customer
 same_order_status cards s t p agree = same_asked s t p cards (chosen_customer cards p.warehouse p.district p.customer) agree
 
 -- ---- the stock level
 module _ (cards : Cards) (s t : Rows) (p : StockLevel) where
   abbrev on : Rows → Database
-  on rows = record { cards = cards; rows = rows }
+  on rows = database cards rows
 
   abbrev counted_by : Rows → Option DistrictRow → Result StockLevelReply RequestRefusal
   counted_by rows district = known district >>= λ r. Ok (record { low_stock = distinct_count nat_eq (low_items (on rows) p (first_recent r.next_order) (r.next_order - first_recent r.next_order)) })
@@ -153,10 +153,10 @@ module _ (cards : Cards) (s t : Rows) (p : StockLevel) where
       ap (counted_by t) (same_district s t gs agree p.warehouse p.district (inl refl))
       ∙ same_counted gs agree (inr (inl refl)) district (λ g h. inr (inr (Has-append (recent_touch (on s) p district).reads [] g h)))
 
-pub same_stock_level_touch : (cards : Cards) (s t : Rows) (p : StockLevel) → Agree s t (stock_level_touch (record { cards = cards; rows = s }) p).reads → stock_level_touch (record { cards = cards; rows = t }) p ≡ stock_level_touch (record { cards = cards; rows = s }) p
+pub same_stock_level_touch : (cards : Cards) (s t : Rows) (p : StockLevel) → Agree s t (stock_level_touch (database cards s) p).reads → stock_level_touch (database cards t) p ≡ stock_level_touch (database cards s) p
 unfolding stock_level_touch
 same_stock_level_touch cards s t p agree = same_touched cards s t p (district_card cards p.warehouse p.district) agree
 
-pub same_stock_level : (cards : Cards) (s t : Rows) (p : StockLevel) → Agree s t (stock_level_touch (record { cards = cards; rows = s }) p).reads → stock_level (record { cards = cards; rows = t }) p ≡ stock_level (record { cards = cards; rows = s }) p
+pub same_stock_level : (cards : Cards) (s t : Rows) (p : StockLevel) → Agree s t (stock_level_touch (database cards s) p).reads → stock_level (database cards t) p ≡ stock_level (database cards s) p
 unfolding stock_level stock_level_touch
 same_stock_level cards s t p agree = same_level cards s t p (district_card cards p.warehouse p.district) agree

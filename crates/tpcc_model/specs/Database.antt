@@ -5,3 +5,7 @@ use Rattle.tpcc_rows.specs.RowMap.{Rows}
 pub record Database : Type 0 where
   pub cards : Cards
   pub rows : Rows
+
+-- the database of these cards and rows
+abbrev pub database : Cards → Rows → Database
+database cards rows = record { cards = cards; rows = rows }

@@ -9,6 +9,7 @@ use Rattle.tpcc_rows.specs.declared.row.Row.{Row}
 use Rattle.catalog.specs.CardMap.{Cards}
 use Rattle.requests.specs.declared.reply.Reply.{Reply}
 use Rattle.requests.specs.declared.request.Request.{Request}
+use Rattle.tpcc_model.specs.Database.{database}
 use Rattle.tpcc_model.specs.Steps.{steps_at}
 use Rattle.tpcc_model.specs.Touches.{touch}
 
@@ -18,6 +19,6 @@ tpcc cards moment = record {
   granule = granule;
   same = same_granule;
   own = λ number. key.History number;
-  touch = λ rows request. touch (record { cards = cards; rows = rows }) request;
+  touch = λ rows. touch (database cards rows);
   step = steps_at cards moment;
 }

@@ -8,6 +8,7 @@ use Rattle.tpcc_rows.specs.RowMap.{Rows}
 use Rattle.tpcc_rows.specs.declared.key.RowKey.{RowKey}
 use Rattle.tpcc_rows.specs.declared.key.RowKey.TheVariants as key
 use Rattle.tpcc_rows.specs.declared.row.Row.{Row}
+use Rattle.tpcc_model.specs.Database.{database}
 use Rattle.tpcc_model.specs.Steps.{replies, rows_after}
 use Rattle.tpcc_model.specs.Tokens.{batch_token, no_token}
 
@@ -38,11 +39,11 @@ opening cards rows = record {
 
 -- what the requests of a batch reply
 abbrev pub batch_replies : Cards → State → Batch → List Reply
-batch_replies cards state batch = replies (record { cards = cards; rows = state.rows }) batch.moment state.next batch.requests
+batch_replies cards state batch = replies (database cards state.rows) batch.moment state.next batch.requests
 
 -- the rows that the requests of a batch leave
 abbrev pub batch_rows : Cards → State → Batch → Rows
-batch_rows cards state batch = rows_after (record { cards = cards; rows = state.rows }) batch.moment state.next batch.requests
+batch_rows cards state batch = rows_after (database cards state.rows) batch.moment state.next batch.requests
 
 -- the state after a batch
 abbrev pub after_batch : Cards → State → Batch → State

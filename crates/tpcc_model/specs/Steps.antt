@@ -15,7 +15,7 @@ use Rattle.requests.specs.declared.reply.Reply.{Reply}
 use Rattle.requests.specs.declared.reply.Reply.TheVariants as reply
 use Rattle.requests.specs.declared.reply.OrderStatusReply.{OrderStatusReply}
 use Rattle.requests.specs.declared.reply.StockLevelReply.{StockLevelReply}
-use Rattle.tpcc_model.specs.Database.{Database}
+use Rattle.tpcc_model.specs.Database.{Database, database}
 use Rattle.tpcc_model.specs.Deliveries.{Delivered, delivery}
 use Rattle.tpcc_model.specs.NewOrders.{PlacedOrder, new_order}
 use Rattle.tpcc_model.specs.OrderStatuses.{order_status}
@@ -31,25 +31,25 @@ pub record StepOutcome : Type 0 where
 abbrev pub refused : RequestKind → RequestRefusal → StepOutcome
 refused k why = record { reply = reply.Refused k why; changes = map.empty }
 
-abbrev pub payment_outcome : Payment → ℕ → Result Paid RequestRefusal → StepOutcome
-payment_outcome p number (Ok paid) = record { reply = reply.Payment (payment_reply paid); changes = payment_changes p number paid }
-payment_outcome p number (Err why) = refused kind.Payment why
+-- what a request of a kind comes to, where what it makes has an outcome
+abbrev pub outcome_of : {A : Type 0} → RequestKind → (A → StepOutcome) → Result A RequestRefusal → StepOutcome
+outcome_of k made (Ok x) = made x
+outcome_of k made (Err why) = refused k why
 
 abbrev pub new_order_outcome : Result PlacedOrder RequestRefusal → StepOutcome
-new_order_outcome (Ok placed) = record { reply = reply.NewOrder placed.reply; changes = placed.changes }
-new_order_outcome (Err why) = refused kind.NewOrder why
+new_order_outcome = outcome_of kind.NewOrder λ placed. record { reply = reply.NewOrder placed.reply; changes = placed.changes }
+
+abbrev pub payment_outcome : Payment → ℕ → Result Paid RequestRefusal → StepOutcome
+payment_outcome p number = outcome_of kind.Payment λ paid. record { reply = reply.Payment (payment_reply paid); changes = payment_changes p number paid }
 
 abbrev pub order_status_outcome : Result OrderStatusReply RequestRefusal → StepOutcome
-order_status_outcome (Ok shown) = record { reply = reply.OrderStatus shown; changes = map.empty }
-order_status_outcome (Err why) = refused kind.OrderStatus why
+order_status_outcome = outcome_of kind.OrderStatus λ shown. record { reply = reply.OrderStatus shown; changes = map.empty }
 
 abbrev pub delivery_outcome : Result Delivered RequestRefusal → StepOutcome
-delivery_outcome (Ok made) = record { reply = reply.Delivery made.reply; changes = made.changes }
-delivery_outcome (Err why) = refused kind.Delivery why
+delivery_outcome = outcome_of kind.Delivery λ made. record { reply = reply.Delivery made.reply; changes = made.changes }
 
 abbrev pub stock_level_outcome : Result StockLevelReply RequestRefusal → StepOutcome
-stock_level_outcome (Ok counted) = record { reply = reply.StockLevel counted; changes = map.empty }
-stock_level_outcome (Err why) = refused kind.StockLevel why
+stock_level_outcome = outcome_of kind.StockLevel λ counted. record { reply = reply.StockLevel counted; changes = map.empty }
 
 -- the step of a request with its number, at a moment
 unfoldable pub step : Database → Request → ℕ → ℕ → StepOutcome
@@ -62,7 +62,7 @@ step db (request.StockLevel p) number moment = stock_level_outcome (stock_level 
 -- the steps on the rows of these cards, all at one moment
 abbrev pub steps_at : Cards → ℕ → Step row_key_cmp Row Request Reply
 steps_at cards moment rows number request =
-    let outcome = step (record { cards = cards; rows = rows }) request number moment in
+    let outcome = step (database cards rows) request number moment in
     record { reply = outcome.reply; changes = map.entries outcome.changes }
 
 -- requests one after the other, the first with this number: what they reply, and the rows that they leave

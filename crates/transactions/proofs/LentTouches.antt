@@ -1,7 +1,6 @@
 -- When the touches of the transactions, and of their parts, are within a view.
 use Rattle.std.proofs.Common.{◌≡◌, ◌≤◌, ◌<◌, ◌+◌, ◌-◌, ◌&&◌, ℕ, zero, suc, Bool, true, false, List, [], ◌∷◌, map, drop, get_or, Option, Some, Result, Ok, Err, refl, sym, ap, ap₂, subst, ◌∙◌, add-one, arith}
 use Rattle.std.proofs.Math.Seq.{drop-cons}
-use Rattle.std.proofs.lemmas.List.{drop_all}
 use Rattle.std.specs.List.{list_all}
 use Rattle.std.specs.Result.{IsErrAnd}
 use Rattle.serializability.specs.Footprints.{joined, joined_all, reading, writing}
@@ -81,14 +80,8 @@ module _ (test : ℕ → Bool) (i d : ℕ) (ds : List ℕ) (is : ds ≡ ten) (be
   at_place = ap (list_all test) (drop-cons ten i d below)
       ∙ ap₂ (λ (e k : ℕ). test e && list_all test (drop k ten)) (ap (λ xs. get_or xs i d) (sym is)) (sym (add-one i))
 
-  pub district_passes : (whole : Bool) → list_all test (drop i ten) ≡ whole → test (get_or ds i d) ≡ true → list_all test (drop (i + 1) ten) ≡ whole
-  district_passes whole left may = sym (at_place ∙ ap (λ b. b && list_all test (drop (i + 1) ten)) may) ∙ left
-
-  pub district_strays : (whole : Bool) → list_all test (drop i ten) ≡ whole → test (get_or ds i d) ≡ false → whole ≡ false
-  district_strays whole left may = sym left ∙ at_place ∙ ap (λ b. b && list_all test (drop (i + 1) ten)) may
-
-pub districts_pass : (test : ℕ → Bool) (i : ℕ) (whole : Bool) → 10 ≤ i → list_all test (drop i ten) ≡ whole → whole ≡ true
-districts_pass test i whole past left = sym left ∙ ap (list_all test) (drop_all i ten past)
+  pub district_passes : (whole : Bool) → list_all test (drop i ten) ≡ whole → true ≡ test (get_or ds i d) → list_all test (drop (i + 1) ten) ≡ whole
+  district_passes whole left may = ap (λ b. b && list_all test (drop (i + 1) ten)) may ∙ sym at_place ∙ left
 
 -- ---- one line and one order after the other
 both : (a b : Bool) → a ≡ true → b ≡ true → (a && b) ≡ true

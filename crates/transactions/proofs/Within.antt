@@ -4,7 +4,7 @@ use Rattle.catalog.specs.CardMap.{Cards}
 use Rattle.requests.specs.declared.reply.Reply.{Reply}
 use Rattle.requests.specs.declared.request.Request.{Request}
 use Rattle.tpcc_rows.specs.RowMap.{Changes}
-use Rattle.tpcc_model.specs.Database.{Database}
+use Rattle.tpcc_model.specs.Database.{Database, database}
 use Rattle.tpcc_model.specs.Steps.{StepOutcome, step}
 use Rattle.tpcc_model.specs.Touches.{Agree, touch}
 use Rattle.worker_rows.specs.Views.{View, covers}
@@ -18,10 +18,10 @@ use Rattle.transactions.proofs.Lending.{lent_agree}
 
 module _ (view : View) (cards : Cards) (q : Request) where
   abbrev whole : Database
-  whole = record { cards = cards; rows = view.rows }
+  whole = database cards view.rows
 
   abbrev part : Database
-  part = record { cards = cards; rows = lent view }
+  part = database cards (lent view)
 
   agrees : covers view (touch part q) ≡ true → Agree (lent view) view.rows (touch part q).reads
   agrees within = lent_agree view (touch part q).reads (covered_reads view (touch part q) within)

@@ -1,11 +1,16 @@
 -- What the code's types stand for.
 use Rattle.std.specs.Prelude.{◌≡◌, Bool, true, false, Result, Ok, Err, MatchResult}
+use Rattle.std.specs.FinMap as map
 use Rattle.requests.specs.declared.reply.Reply.{Reply}
+use Rattle.requests.specs.declared.reply.Reply.TheVariants as reply
 use Rattle.requests.specs.declared.reply.RequestRefusal.{RequestRefusal}
+use Rattle.requests.specs.declared.request.RequestKind.{RequestKind}
 use Rattle.tpcc_model.specs.Payments.{Paid}
 use Rattle.tpcc_model.specs.Steps.{StepOutcome}
 use Rattle.tpcc_rows.specs.RowMap.{Changes}
 use Rattle.transactions.specs.declared.payment.NewRows.{NewRows}
+use Rattle.transactions.specs.declared.fault.Fault.{Fault}
+use Rattle.transactions.specs.declared.fault.Fault.TheVariants as fault
 use Rattle.transactions.specs.declared.exec_error.ExecError.{ExecError}
 use Rattle.transactions.specs.declared.exec_error.ExecError.TheVariants as exec_error
 
@@ -22,6 +27,13 @@ IsErrorWithin within exec_error.Memory = Unit {0}
 -- the outcome where the touch is within the view
 abbrev pub Executes : Bool → StepOutcome → Result (Reply × Changes) ExecError → Type 0
 Executes within outcome result = MatchResult result (λ pair. (within ≡ true) × IsOutcome outcome pair) (IsErrorWithin within)
+
+-- an answer to a request of a kind: what is refused gets a reply, and changes nothing
+abbrev pub concluded : RequestKind → Result (Reply × Changes) Fault → Result (Reply × Changes) ExecError
+concluded k (Ok outcome) = Ok outcome
+concluded k (Err (fault.Refused why)) = Ok (reply.Refused k why, map.empty)
+concluded k (Err fault.Strayed) = Err exec_error.Strayed
+concluded k (Err fault.Memory) = Err exec_error.Memory
 
 -- an answer of the code, as the definitions have it
 abbrev pub viewed : {A B : Type 0} → (A → B) → Result A RequestRefusal → Result B RequestRefusal

@@ -2,7 +2,8 @@
 //! delivered in turn, on the rows as the earlier districts leave them. All of it is one transaction.
 ghost use Rattle.std.specs.Prelude.{◌≡◌, ◌≤◌, is_ok, map, option_copied, IfOk, OnOk};
 ghost use Rattle.std.specs.List.{list_all};
-ghost use Rattle.tpcc_model.specs.Database.{Database};
+ghost use Rattle.requests.specs.declared.request.RequestKind.TheVariants as kind;
+ghost use Rattle.tpcc_model.specs.Database.{database};
 ghost use Rattle.tpcc_model.specs.Deliveries.{amount_of, carried, credited, delivery, districts_delivered, line_dated, lines_amount, lines_dated, oldest_delivered, order_delivered};
 ghost use Rattle.tpcc_model.specs.Steps.{delivery_outcome};
 ghost use Rattle.tpcc_model.specs.Touches.{credited_touch, delivery_touch, district_touch, oldest_touch};
@@ -14,16 +15,14 @@ ghost use Rattle.tpcc_rows.specs.declared.key.RowKey.TheVariants as key;
 ghost use Rattle.transactions.specs.DeliveryParts.{delivered_of};
 ghost use Rattle.transactions.specs.Faults.{AnswersBy, AnswersWithin};
 ghost use Rattle.transactions.specs.Lending.{lent};
-ghost use Rattle.transactions.specs.Outcomes.{Executes};
+ghost use Rattle.transactions.specs.Outcomes.{Executes, concluded};
 ghost use Rattle.worker_rows.specs.Views.{covers};
 
-use crate::exec_error::ExecError;
 use crate::fault::Fault;
-use crate::lent;
-use crate::seen::{customer_seen, order_line_seen, order_seen};
+use crate::lent::{self, Lent, Seen};
 use catalog::Catalog;
 use requests::reply::{DeliveryReply, Reply, RequestRefusal};
-use requests::request::{Delivery, RequestKind};
+use requests::request::Delivery;
 use std::alloc::Global;
 use tpcc_model::number::line_number;
 use tpcc_rows::delta::Delta;
@@ -33,7 +32,7 @@ use tpcc_rows::key::RowKey;
 use tpcc_rows::memory::Memory;
 use tpcc_rows::number::Moment;
 use tpcc_rows::row::{CustomerRow, OrderLineRow, OrderRow, Row};
-use worker_rows::{RowView, Strayed};
+use worker_rows::{RowView, Strayed, customer_row, order_line_row, order_row};
 
 fn amount_of(line: Option<&OrderLineRow>) -> u32
     ensures value { result ≡ amount_of (option_copied line.entry) }
@@ -56,10 +55,14 @@ fn lines_amount<V: RowView>(
 ) -> u32
     ensures { result ≡ lines_amount (after (lent (V.sees view.now)) changes.now) p.now district order count }
 {
+    let rows = Seen {
+        lent: Lent { view },
+        changes,
+    };
     let mut amount = 0;
     for index in 0..usize::from(count.number()) {
         let number = line_number(index + 1);
-        let line = order_line_seen(view, changes, p.warehouse, district, order, number);
+        let line = order_line_row(&rows, p.warehouse, district, order, number);
         amount += amount_of(line);
     }
     amount
@@ -98,7 +101,11 @@ fn line_dated<V: RowView>(
 ) -> Result<(), Memory>
     ensures { OnOk result (changes.new ≡ line_dated moment (key.OrderLine p.now.warehouse district order number) (order_line_row (after (lent (V.sees view.now)) changes.old) p.now.warehouse district order number) changes.old) }
 {
-    let line = order_line_seen(view, changes, p.warehouse, district, order, number);
+    let rows = Seen {
+        lent: Lent { view },
+        changes: &*changes,
+    };
+    let line = order_line_row(&rows, p.warehouse, district, order, number);
     if let Some(line) = line {
         let mut dated = line.copied();
         dated.delivery = Some(moment);
@@ -174,9 +181,13 @@ fn order_delivered<V: RowView>(
 ) -> Result<(), Fault>
     ensures { AnswersBy (λ done. changes.new) (order_delivered (lent (V.sees view.now)) p.now moment district order changes.old) result }
 {
-    let row = order_seen(view, changes, p.warehouse, district, order);
+    let rows = Seen {
+        lent: Lent { view },
+        changes: &*changes,
+    };
+    let row = order_row(&rows, p.warehouse, district, order);
     let row = *row.ok_or(RequestRefusal::UnknownKey)?;
-    let old = customer_seen(view, changes, p.warehouse, district, row.customer);
+    let old = customer_row(&rows, p.warehouse, district, row.customer);
     let old = old.ok_or(RequestRefusal::UnknownKey)?;
     let amount = lines_amount(view, changes, p, district, order, row.line_count);
     let new = credited(old, amount)?;
@@ -245,7 +256,7 @@ fn may_deliver<V: RowView>(view: &V, p: &Delivery, district: DistrictId, order: 
             view,
             p,
             district,
-            lent::order(view, p.warehouse, district, order),
+            order_row(&Lent { view }, p.warehouse, district, order),
         )
 }
 
@@ -304,7 +315,7 @@ fn delivery<V: RowView>(
     moment: Moment,
     view: &V,
 ) -> Result<(DeliveryReply, Delta), Fault>
-    ensures { let db : Database = record { cards = catalog.now; rows = lent (V.sees view.now) } in AnswersWithin delivered_of (covers (V.sees view.now) (delivery_touch db p.now)) (delivery db p.now moment) result }
+    ensures { let db = database catalog.now (lent (V.sees view.now)) in AnswersWithin delivered_of (covers (V.sees view.now) (delivery_touch db p.now)) (delivery db p.now moment) result }
 {
     catalog
         .warehouse(p.warehouse)
@@ -322,19 +333,9 @@ pub(crate) fn execute<V: RowView>(
     p: &Delivery,
     moment: Moment,
     view: &V,
-) -> Result<(Reply, Delta), ExecError>
-    ensures { let db : Database = record { cards = catalog.now; rows = lent (V.sees view.now) } in Executes (covers (V.sees view.now) (delivery_touch db p.now)) (delivery_outcome (delivery db p.now moment)) result }
+) -> Result<(Reply, Delta), Fault>
+    ensures { let db = database catalog.now (lent (V.sees view.now)) in Executes (covers (V.sees view.now) (delivery_touch db p.now)) (delivery_outcome (delivery db p.now moment)) (concluded kind.Delivery result) }
 {
-    match delivery(alloc, catalog, p, moment, view) {
-        Ok((reply, changes)) => Ok((Reply::Delivery(reply), changes)),
-        Err(Fault::Refused(refusal)) => Ok((
-            Reply::Refused {
-                kind: RequestKind::Delivery,
-                refusal,
-            },
-            Delta::new(alloc),
-        )),
-        Err(Fault::Strayed) => Err(ExecError::Strayed),
-        Err(Fault::Memory) => Err(ExecError::Memory),
-    }
+    let (reply, changes) = delivery(alloc, catalog, p, moment, view)?;
+    Ok((Reply::Delivery(reply), changes))
 }

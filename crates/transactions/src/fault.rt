@@ -4,7 +4,7 @@ use std::alloc::{AllocError, AllocFailed};
 use tpcc_rows::memory::Memory;
 use worker_rows::Strayed;
 
-#[derive(Clone, Copy, Debug, PartialEq, Eq)]
+#[derive(Clone, Copy)]
 pub(crate) enum Fault {
     Refused(RequestRefusal),
     Strayed,

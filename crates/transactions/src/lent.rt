@@ -1,99 +1,55 @@
-//! What a view lends: rows that may be read, and granules that may be written.
+//! What a view lends: rows that may be read, also as the changes of a step leave them, and granules that may be written.
 ghost use Rattle.std.specs.Prelude.{◌≡◌, is_ok, option_copied, IfOk};
 ghost use Rattle.std.specs.FinMap as map;
 ghost use Rattle.serializability.specs.Footprints.{writing};
+ghost use Rattle.tpcc_rows.specs.Changing.{after};
 ghost use Rattle.tpcc_rows.specs.Picks.{latest, oldest};
-ghost use Rattle.tpcc_rows.specs.Rows.{customer_row, district_row, order_line_row, order_row, stock_row, warehouse_row};
+ghost use Rattle.tpcc_rows.specs.Rows.{customer_row, district_row, stock_row};
 ghost use Rattle.transactions.specs.Lending.{lent};
 ghost use Rattle.worker_rows.specs.Views.{covers, may_read};
 
+use tpcc_rows::delta::Delta;
 use tpcc_rows::granule::Granule;
-use tpcc_rows::id::{CustomerId, DistrictId, ItemId, LineNumber, OrderId, WarehouseId};
+use tpcc_rows::id::{CustomerId, DistrictId, ItemId, OrderId, WarehouseId};
 use tpcc_rows::key::RowKey;
-use tpcc_rows::row::{
-    CustomerRow, DistrictRow, OrderLineRow, OrderRow, Row, StockRow, WarehouseRow,
-};
-use worker_rows::{RowView, Strayed};
+use tpcc_rows::row::{CustomerRow, DistrictRow, Row, StockRow};
+use worker_rows::{KeyedRows, RowView, Strayed};
 
-/// The row of a key. One that may not be read looks as if it weren't there.
-#[tactic(auto, using(crate::proofs::Lending::lent_row, crate::proofs::Lending::no_row_lent))]
-pub(crate) fn row<'a, V: RowView>(view: &'a V, key: &RowKey) -> Option<&'a Row>
-    ensures { option_copied result ≡ map.get (lent (V.sees view.now)) key.now }
-{
-    match view.read(key) {
-        Ok(row) => row,
-        Err(Strayed) => None,
+/// The rows that a view lends. One that may not be read looks as if it weren't there.
+#[derive(Drop)]
+pub(crate) struct Lent<'a, V> {
+    pub view: &'a V,
+}
+
+impl<V: RowView> KeyedRows for Lent<'_, V> {
+    ghost rows = { λ l. lent (V.sees l.view.now) };
+
+    #[tactic(auto, using(crate::proofs::Lending::lent_row, crate::proofs::Lending::no_row_lent))]
+    fn row(&self, key: &RowKey) -> Option<&Row> {
+        match self.view.read(key) {
+            Ok(row) => row,
+            Err(Strayed) => None,
+        }
     }
 }
 
-pub(crate) fn warehouse<V: RowView>(view: &V, warehouse: WarehouseId) -> Option<&WarehouseRow>
-    ensures { option_copied result ≡ warehouse_row (lent (V.sees view.now)) warehouse }
-{
-    row(view, &RowKey::Warehouse { warehouse })?.as_warehouse()
+/// Rows as the changes of a step leave them so far.
+#[derive(Drop)]
+pub(crate) struct Seen<'a, V> {
+    pub lent: Lent<'a, V>,
+    pub changes: &'a Delta,
 }
 
-pub(crate) fn district<V: RowView>(
-    view: &V,
-    warehouse: WarehouseId,
-    district: DistrictId,
-) -> Option<&DistrictRow>
-    ensures { option_copied result ≡ district_row (lent (V.sees view.now)) warehouse district }
-{
-    let key = RowKey::District {
-        warehouse,
-        district,
-    };
-    row(view, &key)?.as_district()
-}
+impl<V: RowView> KeyedRows for Seen<'_, V> {
+    ghost rows = { λ s. after (lent (V.sees s.lent.view.now)) s.changes.now };
 
-pub(crate) fn customer<V: RowView>(
-    view: &V,
-    warehouse: WarehouseId,
-    district: DistrictId,
-    customer: CustomerId,
-) -> Option<&CustomerRow>
-    ensures { option_copied result ≡ customer_row (lent (V.sees view.now)) warehouse district customer }
-{
-    let key = RowKey::Customer {
-        warehouse,
-        district,
-        customer,
-    };
-    row(view, &key)?.as_customer()
-}
-
-pub(crate) fn order<V: RowView>(
-    view: &V,
-    warehouse: WarehouseId,
-    district: DistrictId,
-    order: OrderId,
-) -> Option<&OrderRow>
-    ensures { option_copied result ≡ order_row (lent (V.sees view.now)) warehouse district order }
-{
-    let key = RowKey::Order {
-        warehouse,
-        district,
-        order,
-    };
-    row(view, &key)?.as_order()
-}
-
-pub(crate) fn order_line<V: RowView>(
-    view: &V,
-    warehouse: WarehouseId,
-    district: DistrictId,
-    order: OrderId,
-    number: LineNumber,
-) -> Option<&OrderLineRow>
-    ensures { option_copied result ≡ order_line_row (lent (V.sees view.now)) warehouse district order number }
-{
-    let key = RowKey::OrderLine {
-        warehouse,
-        district,
-        order,
-        number,
-    };
-    row(view, &key)?.as_order_line()
+    #[tactic(auto, using(tpcc_rows::proofs::Changes::seen))]
+    fn row(&self, key: &RowKey) -> Option<&Row> {
+        match self.changes.get(key) {
+            Some(change) => change.as_ref(),
+            None => self.lent.row(key),
+        }
+    }
 }
 
 #[tactic(auto, using(crate::proofs::Lending::lent_row))]
@@ -109,8 +65,10 @@ pub(crate) fn read_district<V: RowView>(
         warehouse,
         district,
     };
-    let row = view.read(&key)?;
-    Ok(row.and_then(|row| row.as_district()))
+    match view.read(&key)? {
+        Some(row) => Ok(row.as_district()),
+        None => Ok(None),
+    }
 }
 
 #[tactic(auto, using(crate::proofs::Lending::lent_row))]
@@ -128,8 +86,10 @@ pub(crate) fn read_customer<V: RowView>(
         district,
         customer,
     };
-    let row = view.read(&key)?;
-    Ok(row.and_then(|row| row.as_customer()))
+    match view.read(&key)? {
+        Some(row) => Ok(row.as_customer()),
+        None => Ok(None),
+    }
 }
 
 #[tactic(auto, using(crate::proofs::Lending::lent_row))]
@@ -141,8 +101,10 @@ pub(crate) fn read_stock<V: RowView>(
     ensures strays { is_ok result ≡ may_read (V.sees view.now) (Granule.Stock warehouse item) }
     ensures row { IfOk result (λ row. option_copied row ≡ stock_row (lent (V.sees view.now)) warehouse item) }
 {
-    let row = view.read(&RowKey::Stock { warehouse, item })?;
-    Ok(row.and_then(|row| row.as_stock()))
+    match view.read(&RowKey::Stock { warehouse, item })? {
+        Some(row) => Ok(row.as_stock()),
+        None => Ok(None),
+    }
 }
 
 /// Strays where the district's order book may not be read, as reading any key of it does, whether there is a row or not.

@@ -10,7 +10,6 @@ mod new_order;
 mod order_line;
 mod order_status;
 mod payment;
-mod seen;
 mod stock_level;
 mod transaction;
 

@@ -2,7 +2,8 @@
 //! in order, each on the rows as the earlier ones leave them.
 ghost use Rattle.std.specs.Prelude.{◌≡◌, ◌<◌, ◌≤◌, ◌+◌, pos, [], length, map, IfOk, OnOk};
 ghost use Rattle.std.specs.List.{list_all, sum_by};
-ghost use Rattle.tpcc_model.specs.Database.{Database};
+ghost use Rattle.requests.specs.declared.request.RequestKind.TheVariants as kind;
+ghost use Rattle.tpcc_model.specs.Database.{database};
 ghost use Rattle.tpcc_model.specs.NewOrders.{all_local, line_done, lines_done, new_order, opened, order_of, raised_district};
 ghost use Rattle.tpcc_model.specs.Steps.{new_order_outcome};
 ghost use Rattle.tpcc_model.specs.Touches.{new_order_touch, ordered_touch, placed_touch};
@@ -10,19 +11,17 @@ ghost use Rattle.tpcc_rows.specs.Prices.{total_cents};
 ghost use Rattle.transactions.specs.Faults.{AnswersBy, AnswersWithin};
 ghost use Rattle.transactions.specs.Lending.{lent};
 ghost use Rattle.transactions.specs.NewOrderParts.{line_cards_of, placed_order_of, so_far_of};
-ghost use Rattle.transactions.specs.Outcomes.{Executes};
+ghost use Rattle.transactions.specs.Outcomes.{Executes, concluded};
 ghost use Rattle.worker_rows.specs.Views.{covers};
 
-use crate::exec_error::ExecError;
 use crate::fault::Fault;
-use crate::lent;
+use crate::lent::{self, Lent, Seen};
 use crate::order_line::{
     LineCards, brand_of, found_lines, line_amount, order_line_of, ordered_stock,
 };
-use crate::seen::stock_seen;
 use catalog::{Catalog, CustomerCard, DistrictCard, WarehouseCard};
 use requests::reply::{LineReplies, LineReply, NewOrderReply, Reply, RequestRefusal};
-use requests::request::{NewOrder, OrderedLine, RequestKind};
+use requests::request::{NewOrder, OrderedLine};
 use std::alloc::Global;
 use tpcc_model::number::line_number;
 use tpcc_rows::delta::Delta;
@@ -33,7 +32,7 @@ use tpcc_rows::memory::Memory;
 use tpcc_rows::number::{Cents, Moment};
 use tpcc_rows::row::{DistrictRow, OrderRow, Row, StockRow};
 use tpcc_rows::total::total_cents;
-use worker_rows::RowView;
+use worker_rows::{RowView, district_row, stock_row};
 
 #[tactic(auto, unfolding(tpcc_model::specs::NewOrders::raised_district))]
 fn raised_district(old: &DistrictRow) -> Result<DistrictRow, RequestRefusal>
@@ -122,7 +121,11 @@ fn lines_done<V: RowView>(
 {
     for (index, line) in lines.iter().enumerate() {
         let OrderedLine { item, supply, .. } = *line.ordered;
-        let row = stock_seen(view, &so_far.changes, supply, item);
+        let rows = Seen {
+            lent: Lent { view },
+            changes: &so_far.changes,
+        };
+        let row = stock_row(&rows, supply, item);
         let old = *row.ok_or(RequestRefusal::UnknownKey)?;
         line_done(p, order, line_number(index + 1), line, &old, so_far)?;
     }
@@ -236,7 +239,7 @@ fn new_order<V: RowView>(
     moment: Moment,
     view: &V,
 ) -> Result<(NewOrderReply, Delta), Fault>
-    ensures { let db : Database = record { cards = catalog.now; rows = lent (V.sees view.now) } in AnswersWithin placed_order_of (covers (V.sees view.now) (new_order_touch db p.now)) (new_order db p.now moment) result }
+    ensures { let db = database catalog.now (lent (V.sees view.now)) in AnswersWithin placed_order_of (covers (V.sees view.now) (new_order_touch db p.now)) (new_order db p.now moment) result }
 {
     let warehouse = catalog
         .warehouse(p.warehouse)
@@ -251,7 +254,8 @@ fn new_order<V: RowView>(
     if !may_place(view, p) {
         return Err(Fault::Strayed);
     }
-    let old = lent::district(view, p.warehouse, p.district).ok_or(RequestRefusal::UnknownKey)?;
+    let rows = Lent { view };
+    let old = district_row(&rows, p.warehouse, p.district).ok_or(RequestRefusal::UnknownKey)?;
     let order = old.next_order;
     let mut so_far = opened(alloc, p, moment, order, raised_district(old)?)?;
     lines_done(view, p, order, &lines, &mut so_far)?;
@@ -274,19 +278,9 @@ pub(crate) fn execute<V: RowView>(
     p: &NewOrder,
     moment: Moment,
     view: &V,
-) -> Result<(Reply, Delta), ExecError>
-    ensures { let db : Database = record { cards = catalog.now; rows = lent (V.sees view.now) } in Executes (covers (V.sees view.now) (new_order_touch db p.now)) (new_order_outcome (new_order db p.now moment)) result }
+) -> Result<(Reply, Delta), Fault>
+    ensures { let db = database catalog.now (lent (V.sees view.now)) in Executes (covers (V.sees view.now) (new_order_touch db p.now)) (new_order_outcome (new_order db p.now moment)) (concluded kind.NewOrder result) }
 {
-    match new_order(alloc, catalog, p, moment, view) {
-        Ok((reply, changes)) => Ok((Reply::NewOrder(reply), changes)),
-        Err(Fault::Refused(refusal)) => Ok((
-            Reply::Refused {
-                kind: RequestKind::NewOrder,
-                refusal,
-            },
-            Delta::new(alloc),
-        )),
-        Err(Fault::Strayed) => Err(ExecError::Strayed),
-        Err(Fault::Memory) => Err(ExecError::Memory),
-    }
+    let (reply, changes) = new_order(alloc, catalog, p, moment, view)?;
+    Ok((Reply::NewOrder(reply), changes))
 }

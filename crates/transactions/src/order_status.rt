@@ -1,29 +1,29 @@
 //! Order-Status (TPC-C clause 2.6): the card of the customer is found, then its row, then its latest order is shown with
 //! its lines. It changes nothing.
 ghost use Rattle.std.specs.Prelude.{◌≡◌};
-ghost use Rattle.tpcc_model.specs.Database.{Database};
+ghost use Rattle.requests.specs.declared.request.RequestKind.TheVariants as kind;
+ghost use Rattle.tpcc_model.specs.Database.{database};
 ghost use Rattle.tpcc_model.specs.OrderStatuses.{last_order, order_status, order_status_reply, shown_line, shown_lines, shown_order};
 ghost use Rattle.tpcc_model.specs.Steps.{order_status_outcome};
 ghost use Rattle.tpcc_model.specs.Touches.{order_status_touch};
 ghost use Rattle.tpcc_rows.specs.Picks.{latest};
 ghost use Rattle.transactions.specs.Faults.{AnswersWithin};
 ghost use Rattle.transactions.specs.Lending.{lent};
-ghost use Rattle.transactions.specs.Outcomes.{Executes};
+ghost use Rattle.transactions.specs.Outcomes.{Executes, concluded};
 ghost use Rattle.worker_rows.specs.Views.{covers};
 
-use crate::exec_error::ExecError;
 use crate::fault::Fault;
-use crate::lent;
+use crate::lent::{self, Lent};
 use catalog::{Catalog, CustomerCard};
 use requests::reply::{OrderStatusReply, Reply, RequestRefusal, ShownLine, ShownLines, ShownOrder};
-use requests::request::{OrderStatus, RequestKind};
+use requests::request::OrderStatus;
 use std::alloc::Global;
 use tpcc_model::choice::chosen_customer;
 use tpcc_model::number::line_number;
 use tpcc_rows::delta::Delta;
 use tpcc_rows::id::{CustomerId, LineNumber, OrderId};
 use tpcc_rows::row::{CustomerRow, OrderLineRow, OrderRow};
-use worker_rows::RowView;
+use worker_rows::{RowView, order_line_row, order_row};
 
 #[tactic(auto, unfolding(tpcc_model::specs::OrderStatuses::shown_line))]
 fn shown_line(line: &OrderLineRow) -> ShownLine
@@ -48,10 +48,11 @@ fn shown_lines<V: RowView>(
 ) -> ShownLines
     ensures { result ≡ shown_lines (lent (V.sees view.now)) p.now order count }
 {
+    let rows = Lent { view };
     let mut lines = ShownLines::new();
     for index in 0..usize::from(count.number()) {
         let number = line_number(index + 1);
-        if let Some(line) = lent::order_line(view, p.warehouse, p.district, order, number) {
+        if let Some(line) = order_line_row(&rows, p.warehouse, p.district, order, number) {
             lines.push(shown_line(line));
         }
     }
@@ -87,7 +88,8 @@ fn last_order<V: RowView>(
     ensures { result ≡ last_order (lent (V.sees view.now)) p.now customer }
 {
     let number = last?;
-    let order = lent::order(view, p.warehouse, p.district, number)?;
+    let rows = Lent { view };
+    let order = order_row(&rows, p.warehouse, p.district, number)?;
     Some(shown_order(view, p, number, order))
 }
 
@@ -120,7 +122,7 @@ fn order_status<V: RowView>(
     p: &OrderStatus,
     view: &V,
 ) -> Result<OrderStatusReply, Fault>
-    ensures { let db : Database = record { cards = catalog.now; rows = lent (V.sees view.now) } in AnswersWithin (λ shown. shown) (covers (V.sees view.now) (order_status_touch db p.now)) (order_status db p.now) result }
+    ensures { let db = database catalog.now (lent (V.sees view.now)) in AnswersWithin (λ shown. shown) (covers (V.sees view.now) (order_status_touch db p.now)) (order_status db p.now) result }
 {
     let customer = chosen_customer(catalog, p.warehouse, p.district, &p.customer).ok_or(
         RequestRefusal::UnknownKey,
@@ -140,19 +142,9 @@ pub(crate) fn execute<V: RowView>(
     catalog: &Catalog,
     p: &OrderStatus,
     view: &V,
-) -> Result<(Reply, Delta), ExecError>
-    ensures { let db : Database = record { cards = catalog.now; rows = lent (V.sees view.now) } in Executes (covers (V.sees view.now) (order_status_touch db p.now)) (order_status_outcome (order_status db p.now)) result }
+) -> Result<(Reply, Delta), Fault>
+    ensures { let db = database catalog.now (lent (V.sees view.now)) in Executes (covers (V.sees view.now) (order_status_touch db p.now)) (order_status_outcome (order_status db p.now)) (concluded kind.OrderStatus result) }
 {
-    match order_status(catalog, p, view) {
-        Ok(reply) => Ok((Reply::OrderStatus(reply), Delta::new(alloc))),
-        Err(Fault::Refused(refusal)) => Ok((
-            Reply::Refused {
-                kind: RequestKind::OrderStatus,
-                refusal,
-            },
-            Delta::new(alloc),
-        )),
-        Err(Fault::Strayed) => Err(ExecError::Strayed),
-        Err(Fault::Memory) => Err(ExecError::Memory),
-    }
+    let reply = order_status(catalog, p, view)?;
+    Ok((Reply::OrderStatus(reply), Delta::new(alloc)))
 }

@@ -1,23 +1,23 @@
 //! Payment (TPC-C clause 2.5): the cards of its keys are found, then their rows, then the new rows are made. What can
 //! fail for want of memory comes last.
 ghost use Rattle.std.specs.Prelude.{◌≡◌, ◌++◌, IfOk};
-ghost use Rattle.tpcc_model.specs.Database.{Database};
+ghost use Rattle.requests.specs.declared.request.RequestKind.TheVariants as kind;
+ghost use Rattle.tpcc_model.specs.Database.{database};
 ghost use Rattle.tpcc_model.specs.Payments.{field, found_cards, history_of, paid_customer, paid_data, paid_district, paid_warehouse, payment, payment_changes, payment_note, payment_reply};
 ghost use Rattle.tpcc_model.specs.Steps.{payment_outcome};
 ghost use Rattle.tpcc_model.specs.Touches.{paid_touch, payment_touch};
 ghost use Rattle.tpcc_rows.specs.Texts.{IsPrintable, clip};
 ghost use Rattle.transactions.specs.Faults.{AnswersWithin};
 ghost use Rattle.transactions.specs.Lending.{lent};
-ghost use Rattle.transactions.specs.Outcomes.{Executes, paid_of};
+ghost use Rattle.transactions.specs.Outcomes.{Executes, concluded, paid_of};
 ghost use Rattle.worker_rows.specs.Views.{covers};
 
-use crate::exec_error::ExecError;
 use crate::fault::Fault;
-use crate::lent;
+use crate::lent::{self, Lent};
 use catalog::{Catalog, Credit};
 use requests::number::PaymentAmount;
 use requests::reply::{PaymentReply, Reply, RequestRefusal, ShownCredit};
-use requests::request::{Payment, RequestKind};
+use requests::request::Payment;
 use std::alloc::Global;
 use tpcc_model::choice::chosen_customer;
 use tpcc_rows::delta::Delta;
@@ -28,7 +28,7 @@ use tpcc_rows::memory::Memory;
 use tpcc_rows::number::{Amount, Moment};
 use tpcc_rows::row::{CustomerRow, DistrictRow, HistoryRow, Row, WarehouseRow};
 use tpcc_rows::text::Text;
-use worker_rows::RowView;
+use worker_rows::{RowView, customer_row, district_row, warehouse_row};
 
 /// What a payment makes: the new rows, and who paid.
 #[derive(Drop)]
@@ -188,7 +188,7 @@ fn payment<V: RowView>(
     moment: Moment,
     view: &V,
 ) -> Result<NewRows, Fault>
-    ensures { let db : Database = record { cards = catalog.now; rows = lent (V.sees view.now) } in AnswersWithin paid_of (covers (V.sees view.now) (payment_touch db p.now)) (payment db p.now moment) result }
+    ensures { let db = database catalog.now (lent (V.sees view.now)) in AnswersWithin paid_of (covers (V.sees view.now) (payment_touch db p.now)) (payment db p.now moment) result }
 {
     let warehouse_card = catalog
         .warehouse(p.warehouse)
@@ -209,10 +209,11 @@ fn payment<V: RowView>(
     if !may_pay(view, p, customer_id) {
         return Err(Fault::Strayed);
     }
-    let warehouse = lent::warehouse(view, p.warehouse).ok_or(RequestRefusal::UnknownKey)?;
-    let district = lent::district(view, p.warehouse, p.district).ok_or(RequestRefusal::UnknownKey)?;
+    let rows = Lent { view };
+    let warehouse = warehouse_row(&rows, p.warehouse).ok_or(RequestRefusal::UnknownKey)?;
+    let district = district_row(&rows, p.warehouse, p.district).ok_or(RequestRefusal::UnknownKey)?;
     let (of_warehouse, of_district) = (p.customer_warehouse, p.customer_district);
-    let customer = lent::customer(view, of_warehouse, of_district, customer_id);
+    let customer = customer_row(&rows, of_warehouse, of_district, customer_id);
     let customer = customer.ok_or(RequestRefusal::UnknownKey)?;
     let amount = p.amount.cents();
     Ok(NewRows {
@@ -284,23 +285,11 @@ pub(crate) fn execute<V: RowView>(
     number: RequestNumber,
     moment: Moment,
     view: &V,
-) -> Result<(Reply, Delta), ExecError>
-    ensures { let db : Database = record { cards = catalog.now; rows = lent (V.sees view.now) } in Executes (covers (V.sees view.now) (payment_touch db p.now)) (payment_outcome p.now number (payment db p.now moment)) result }
+) -> Result<(Reply, Delta), Fault>
+    ensures { let db = database catalog.now (lent (V.sees view.now)) in Executes (covers (V.sees view.now) (payment_touch db p.now)) (payment_outcome p.now number (payment db p.now moment)) (concluded kind.Payment result) }
 {
-    match payment(catalog, p, moment, view) {
-        Ok(rows) => {
-            let reply = payment_reply(&rows);
-            let delta = payment_changes(alloc, p, number, rows)?;
-            Ok((Reply::Payment(reply), delta))
-        }
-        Err(Fault::Refused(refusal)) => Ok((
-            Reply::Refused {
-                kind: RequestKind::Payment,
-                refusal,
-            },
-            Delta::new(alloc),
-        )),
-        Err(Fault::Strayed) => Err(ExecError::Strayed),
-        Err(Fault::Memory) => Err(ExecError::Memory),
-    }
+    let rows = payment(catalog, p, moment, view)?;
+    let reply = payment_reply(&rows);
+    let changes = payment_changes(alloc, p, number, rows)?;
+    Ok((Reply::Payment(reply), changes))
 }

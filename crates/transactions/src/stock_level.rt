@@ -3,29 +3,29 @@
 ghost use Rattle.std.specs.Prelude.{◌≡◌, ◌+◌, ◌-◌, ◌≤◌, ℕ, nat_eq, ◌∷◌, List, is_ok, length, option_copied, IfOk, OnOk};
 ghost use Rattle.std.specs.Set.{distinct_count};
 ghost use Rattle.catalog.specs.Lookups.{stock_card};
-ghost use Rattle.tpcc_model.specs.Database.{Database};
+ghost use Rattle.requests.specs.declared.request.RequestKind.TheVariants as kind;
+ghost use Rattle.tpcc_model.specs.Database.{database};
 ghost use Rattle.tpcc_model.specs.StockLevels.{first_recent, is_low, low_items, stock_level, with_line, with_lines};
 ghost use Rattle.tpcc_model.specs.Steps.{stock_level_outcome};
 ghost use Rattle.tpcc_model.specs.Touches.{item_touch, line_touch, lines_touch, orders_touch, stock_level_touch};
 ghost use Rattle.transactions.specs.Faults.{AnswersWithin, EndsWithin};
 ghost use Rattle.transactions.specs.Lending.{lent};
 ghost use Rattle.transactions.specs.LowItems.{IsHeld};
-ghost use Rattle.transactions.specs.Outcomes.{Executes};
+ghost use Rattle.transactions.specs.Outcomes.{Executes, concluded};
 ghost use Rattle.worker_rows.specs.Views.{covers};
 
-use crate::exec_error::ExecError;
 use crate::fault::Fault;
-use crate::lent;
+use crate::lent::{self, Lent};
 use catalog::Catalog;
 use requests::reply::{Reply, RequestRefusal, StockLevelReply};
-use requests::request::{RequestKind, StockLevel};
+use requests::request::StockLevel;
 use std::alloc::{AllocError, Global};
 use std::collections::BTreeSet;
 use tpcc_model::number::{line_number, order_id};
 use tpcc_rows::delta::Delta;
 use tpcc_rows::id::{ItemId, OrderId};
 use tpcc_rows::row::OrderLineRow;
-use worker_rows::{RowView, Strayed};
+use worker_rows::{RowView, Strayed, order_line_row};
 
 /// Whether the item's stock in the warehouse is low. One without a card is not looked at.
 #[tactic(auto, using(crate::proofs::LentTouches::covers_reading), unfolding(tpcc_model::specs::StockLevels::is_low))]
@@ -36,7 +36,7 @@ fn is_low<V: RowView>(
     item: ItemId,
 ) -> Result<bool, Strayed>
     ensures strays { is_ok result ≡ covers (V.sees view.now) (item_touch p.now item (stock_card catalog.now p.now.warehouse item)) }
-    ensures low { IfOk result (λ low. low ≡ is_low (record { cards = catalog.now; rows = lent (V.sees view.now) }) p.now item) }
+    ensures low { IfOk result (λ low. low ≡ is_low (database catalog.now (lent (V.sees view.now))) p.now item) }
 {
     if catalog.stock(p.warehouse, item).is_none() {
         return Ok(false);
@@ -65,7 +65,7 @@ fn hold_line<V: RowView>(
     items: &mut BTreeSet<ItemId>,
 ) -> Result<(), Fault>
     ensures within { EndsWithin (covers (V.sees view.now) (line_touch catalog.now p.now (option_copied line.entry))) result }
-    ensures held { (xs : List ℕ) → IsHeld items.old xs → OnOk result (IsHeld items.new (with_line (record { cards = catalog.now; rows = lent (V.sees view.now) }) p.now (option_copied line.entry) xs)) }
+    ensures held { (xs : List ℕ) → IsHeld items.old xs → OnOk result (IsHeld items.new (with_line (database catalog.now (lent (V.sees view.now))) p.now (option_copied line.entry) xs)) }
     ensures len { length items.new.keys ≤ length items.old.keys + 1 }
 {
     if let Some(line) = line {
@@ -84,13 +84,14 @@ fn hold_lines<V: RowView>(
     order: OrderId,
     items: &mut BTreeSet<ItemId>,
 ) -> Result<(), Fault>
-    ensures within { EndsWithin (covers (V.sees view.now) (lines_touch (record { cards = catalog.now; rows = lent (V.sees view.now) }) p.now order 15)) result }
-    ensures held { (xs : List ℕ) → IsHeld items.old xs → OnOk result (IsHeld items.new (with_lines (record { cards = catalog.now; rows = lent (V.sees view.now) }) p.now order 15 xs)) }
+    ensures within { EndsWithin (covers (V.sees view.now) (lines_touch (database catalog.now (lent (V.sees view.now))) p.now order 15)) result }
+    ensures held { (xs : List ℕ) → IsHeld items.old xs → OnOk result (IsHeld items.new (with_lines (database catalog.now (lent (V.sees view.now))) p.now order 15 xs)) }
     ensures len { length items.new.keys ≤ length items.old.keys + 15 }
 {
+    let rows = Lent { view };
     for index in 0..15 {
         let number = line_number(index + 1);
-        let line = lent::order_line(view, p.warehouse, p.district, order, number);
+        let line = order_line_row(&rows, p.warehouse, p.district, order, number);
         hold_line(catalog, view, p, line, items)?;
     }
     Ok(())
@@ -104,8 +105,8 @@ fn low_stock<V: RowView>(
     p: &StockLevel,
     next: OrderId,
 ) -> Result<u32, Fault>
-    ensures within { EndsWithin (covers (V.sees view.now) (orders_touch (record { cards = catalog.now; rows = lent (V.sees view.now) }) p.now (first_recent next) (next - first_recent next))) result }
-    ensures count { IfOk result (λ n. n ≡ distinct_count nat_eq (low_items (record { cards = catalog.now; rows = lent (V.sees view.now) }) p.now (first_recent next) (next - first_recent next))) }
+    ensures within { EndsWithin (covers (V.sees view.now) (orders_touch (database catalog.now (lent (V.sees view.now))) p.now (first_recent next) (next - first_recent next))) result }
+    ensures count { IfOk result (λ n. n ≡ distinct_count nat_eq (low_items (database catalog.now (lent (V.sees view.now))) p.now (first_recent next) (next - first_recent next))) }
 {
     let first = next.number().saturating_sub(20).max(1);
     let mut items = BTreeSet::new(alloc);
@@ -122,7 +123,7 @@ fn stock_level<V: RowView>(
     p: &StockLevel,
     view: &V,
 ) -> Result<StockLevelReply, Fault>
-    ensures { let db : Database = record { cards = catalog.now; rows = lent (V.sees view.now) } in AnswersWithin (λ counted. counted) (covers (V.sees view.now) (stock_level_touch db p.now)) (stock_level db p.now) result }
+    ensures { let db = database catalog.now (lent (V.sees view.now)) in AnswersWithin (λ counted. counted) (covers (V.sees view.now) (stock_level_touch db p.now)) (stock_level db p.now) result }
 {
     catalog
         .district(p.warehouse, p.district)
@@ -141,19 +142,9 @@ pub(crate) fn execute<V: RowView>(
     catalog: &Catalog,
     p: &StockLevel,
     view: &V,
-) -> Result<(Reply, Delta), ExecError>
-    ensures { let db : Database = record { cards = catalog.now; rows = lent (V.sees view.now) } in Executes (covers (V.sees view.now) (stock_level_touch db p.now)) (stock_level_outcome (stock_level db p.now)) result }
+) -> Result<(Reply, Delta), Fault>
+    ensures { let db = database catalog.now (lent (V.sees view.now)) in Executes (covers (V.sees view.now) (stock_level_touch db p.now)) (stock_level_outcome (stock_level db p.now)) (concluded kind.StockLevel result) }
 {
-    match stock_level(alloc, catalog, p, view) {
-        Ok(reply) => Ok((Reply::StockLevel(reply), Delta::new(alloc))),
-        Err(Fault::Refused(refusal)) => Ok((
-            Reply::Refused {
-                kind: RequestKind::StockLevel,
-                refusal,
-            },
-            Delta::new(alloc),
-        )),
-        Err(Fault::Strayed) => Err(ExecError::Strayed),
-        Err(Fault::Memory) => Err(ExecError::Memory),
-    }
+    let reply = stock_level(alloc, catalog, p, view)?;
+    Ok((Reply::StockLevel(reply), Delta::new(alloc)))
 }

@@ -1,16 +1,19 @@
 //! The choice of the transaction.
-ghost use Rattle.tpcc_model.specs.Database.{Database};
+ghost use Rattle.std.specs.Prelude.{◌≡◌};
+ghost use Rattle.requests.specs.Kinds.{kind_of};
+ghost use Rattle.tpcc_model.specs.Database.{database};
 ghost use Rattle.tpcc_model.specs.Steps.{step};
 ghost use Rattle.tpcc_model.specs.Touches.{touch};
 ghost use Rattle.transactions.specs.Lending.{lent};
-ghost use Rattle.transactions.specs.Outcomes.{Executes};
+ghost use Rattle.transactions.specs.Outcomes.{Executes, concluded};
 ghost use Rattle.worker_rows.specs.Views.{covers};
 
 use crate::exec_error::ExecError;
+use crate::fault::Fault;
 use crate::{delivery, new_order, order_status, payment, stock_level};
 use catalog::Catalog;
 use requests::reply::Reply;
-use requests::request::Request;
+use requests::request::{Request, RequestKind};
 use std::alloc::Global;
 use tpcc_rows::delta::Delta;
 use tpcc_rows::id::RequestNumber;
@@ -26,8 +29,8 @@ fn executed<V: RowView>(
     number: RequestNumber,
     moment: Moment,
     view: &V,
-) -> Result<(Reply, Delta), ExecError>
-    ensures { let db : Database = record { cards = catalog.now; rows = lent (V.sees view.now) } in Executes (covers (V.sees view.now) (touch db request.now)) (step db request.now number moment) result }
+) -> Result<(Reply, Delta), Fault>
+    ensures { let db = database catalog.now (lent (V.sees view.now)) in Executes (covers (V.sees view.now) (touch db request.now)) (step db request.now number moment) (concluded (kind_of request.now) result) }
 {
     match request {
         Request::NewOrder(p) => new_order::execute(alloc, catalog, p, moment, view),
@@ -35,6 +38,22 @@ fn executed<V: RowView>(
         Request::OrderStatus(p) => order_status::execute(alloc, catalog, p, view),
         Request::Delivery(p) => delivery::execute(alloc, catalog, p, moment, view),
         Request::StockLevel(p) => stock_level::execute(alloc, catalog, p, view),
+    }
+}
+
+/// An answer to a request of this kind. What is refused gets a reply, and changes nothing.
+fn concluded(
+    alloc: Global,
+    kind: RequestKind,
+    answer: Result<(Reply, Delta), Fault>,
+) -> Result<(Reply, Delta), ExecError>
+    ensures { result ≡ concluded kind answer }
+{
+    match answer {
+        Ok(outcome) => Ok(outcome),
+        Err(Fault::Refused(refusal)) => Ok((Reply::Refused { kind, refusal }, Delta::new(alloc))),
+        Err(Fault::Strayed) => Err(ExecError::Strayed),
+        Err(Fault::Memory) => Err(ExecError::Memory),
     }
 }
 
@@ -49,7 +68,8 @@ pub fn execute<V: RowView>(
     moment: Moment,
     view: &V,
 ) -> Result<(Reply, Delta), ExecError>
-    ensures { let db : Database = record { cards = catalog.now; rows = (V.sees view.now).rows } in Executes (covers (V.sees view.now) (touch db request.now)) (step db request.now number moment) result }
+    ensures { let db = database catalog.now (V.sees view.now).rows in Executes (covers (V.sees view.now) (touch db request.now)) (step db request.now number moment) result }
 {
-    executed(alloc, catalog, request, number, moment, view)
+    let answer = executed(alloc, catalog, request, number, moment, view);
+    concluded(alloc, request.kind(), answer)
 }

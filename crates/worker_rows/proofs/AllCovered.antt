@@ -1,5 +1,5 @@
 -- Without bounds each touch is within the view.
-use Rattle.std.proofs.Common.{◌≡◌, ◌&&◌, Bool, true, List, [], ◌∷◌, None, refl, ap₂}
+use Rattle.std.proofs.Common.{◌≡◌, ◌&&◌, true, List, [], ◌∷◌, None, refl, ap₂}
 use Rattle.std.specs.List.{list_all}
 use Rattle.serializability.specs.Footprints.{Footprint}
 use Rattle.tpcc_rows.specs.RowMap.{Rows}

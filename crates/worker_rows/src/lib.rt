@@ -1,10 +1,14 @@
-//! Views of rows: all of a store's, or those that a footprint lends.
+//! Rows of each table by their keys, and views of rows: all of a store's, or those that a footprint lends.
 #![tactic(auto)]
 
+mod keyed;
 mod loan;
 mod view;
 mod whole;
 
+pub use keyed::{
+    KeyedRows, customer_row, district_row, order_line_row, order_row, stock_row, warehouse_row,
+};
 pub use loan::Loan;
 pub use view::{RowView, Strayed};
 pub use whole::Whole;

@@ -1,4 +1,4 @@
-use Rattle.std.proofs.Common.{◌+◌, ℕ, Option, None, get_or, ap, sym, ◌∙◌, arith}
+use Rattle.std.proofs.Common.{◌+◌, ℕ, Option, None, get_or, ap, ◌∙◌, arith}
 use Rattle.std.proofs.lemmas.List.{length-set}
 use Rattle.std.proofs.lemmas.List.Edits.{fill_by_more}
 use Rattle.std.proofs.lemmas.List.FromFn.{fill_by_all}
@@ -21,7 +21,7 @@ loop-index-preserved g c =
       length-set c.loop-index.orders c.loop-index.index c.in_ok-orders.field-0 ∙ long,
       (λ k more. ap (λ (x : Option ℕ). get_or (slice_set c.loop-index.orders c.loop-index.index x) k None) here
           ∙ fill_by_more f c.loop-index.orders c.loop-index.index None (omega (arith, long, below)) c.loop-index.invariant.1 k more),
-      district_passes (λ d. covers (g.V.RowView.sees c.args.view.now) (district_touch rows c.args.p.now d)) c.loop-index.index c.district-item.result c.all.result c.all.ensures below _ c.loop-index.invariant.2 (sym c.in_ok-orders.ensures.strays),
+      district_passes (λ d. covers (g.V.RowView.sees c.args.view.now) (district_touch rows c.args.p.now d)) c.loop-index.index c.district-item.result c.all.result c.all.ensures below _ c.loop-index.invariant.2 c.in_ok-orders.ensures.strays,
     )
 
 pub returns-clause-orders : goal.returns-clause-orders

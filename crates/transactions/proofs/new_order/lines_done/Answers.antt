@@ -26,7 +26,7 @@ lines_done-drop rows p o n number same lines i line old order more below is stoc
 
 pub loop-index-preserved : goal.loop-index-preserved
 loop-index-preserved g c = (
-  lines_done-drop _ _ _ _ _ c.line_number.ensures _ _ c.index-lines-index.result c.in_ok-old.field-0.now _ _ c.loop-index-test.true c.index-lines-index.is (sym c.stock_seen-row.ensures ∙ ap option_copied c.in_ok-old.ensures.ok_part)
+  lines_done-drop _ _ _ _ _ c.line_number.ensures _ _ c.index-lines-index.result c.in_ok-old.field-0.now _ _ c.loop-index-test.true c.index-lines-index.is (sym c.stock_row-row.ensures ∙ ap option_copied c.in_ok-old.ensures.ok_part)
       c.in_ok-line_done.ensures.answer ∙ c.loop-index.invariant.0,
   c.in_ok-line_done.ensures.one_more ∙ ap (λ n. n + 1) c.loop-index.invariant.1,
 )

@@ -1,0 +1,106 @@
+//! Rows by their keys, each as its table has it.
+ghost use Rattle.std.specs.Prelude.{◌≡◌, option_copied};
+ghost use Rattle.std.specs.FinMap as map;
+ghost use Rattle.tpcc_rows.specs.RowMap.{Rows};
+ghost use Rattle.tpcc_rows.specs.Rows.{customer_row, district_row, order_line_row, order_row, stock_row, warehouse_row};
+
+use rollback::PointedStore;
+use tpcc_rows::id::{CustomerId, DistrictId, ItemId, LineNumber, OrderId, WarehouseId};
+use tpcc_rows::key::RowKey;
+use tpcc_rows::row::{
+    CustomerRow, DistrictRow, OrderLineRow, OrderRow, Row, StockRow, WarehouseRow,
+};
+
+/// What has a row, or none, for each key.
+pub trait KeyedRows {
+    // The rows that it has.
+    ghost rows: { Self → Rows };
+
+    /// The row of the key, if there is one.
+    fn row(&self, key: &RowKey) -> Option<&Row>
+        ensures { option_copied result ≡ map.get (rows self.now) key.now };
+}
+
+impl KeyedRows for PointedStore {
+    ghost rows = { λ store. store.rows };
+
+    fn row(&self, key: &RowKey) -> Option<&Row> {
+        self.get(key)
+    }
+}
+
+pub fn warehouse_row<R: KeyedRows>(rows: &R, warehouse: WarehouseId) -> Option<&WarehouseRow>
+    ensures { option_copied result ≡ warehouse_row (R.rows rows.now) warehouse }
+{
+    rows.row(&RowKey::Warehouse { warehouse })?.as_warehouse()
+}
+
+pub fn district_row<R: KeyedRows>(
+    rows: &R,
+    warehouse: WarehouseId,
+    district: DistrictId,
+) -> Option<&DistrictRow>
+    ensures { option_copied result ≡ district_row (R.rows rows.now) warehouse district }
+{
+    let key = RowKey::District {
+        warehouse,
+        district,
+    };
+    rows.row(&key)?.as_district()
+}
+
+pub fn customer_row<R: KeyedRows>(
+    rows: &R,
+    warehouse: WarehouseId,
+    district: DistrictId,
+    customer: CustomerId,
+) -> Option<&CustomerRow>
+    ensures { option_copied result ≡ customer_row (R.rows rows.now) warehouse district customer }
+{
+    let key = RowKey::Customer {
+        warehouse,
+        district,
+        customer,
+    };
+    rows.row(&key)?.as_customer()
+}
+
+pub fn stock_row<R: KeyedRows>(rows: &R, warehouse: WarehouseId, item: ItemId) -> Option<&StockRow>
+    ensures { option_copied result ≡ stock_row (R.rows rows.now) warehouse item }
+{
+    rows.row(&RowKey::Stock { warehouse, item })?.as_stock()
+}
+
+pub fn order_row<R: KeyedRows>(
+    rows: &R,
+    warehouse: WarehouseId,
+    district: DistrictId,
+    order: OrderId,
+) -> Option<&OrderRow>
+    ensures { option_copied result ≡ order_row (R.rows rows.now) warehouse district order }
+{
+    let key = RowKey::Order {
+        warehouse,
+        district,
+        order,
+    };
+    rows.row(&key)?.as_order()
+}
+
+pub fn order_line_row<R: KeyedRows>(
+    rows: &R,
+    warehouse: WarehouseId,
+    district: DistrictId,
+    order: OrderId,
+    number: LineNumber,
+) -> Option<&OrderLineRow>
+    ensures { option_copied result ≡ order_line_row (R.rows rows.now) warehouse district order number }
+{
+    let key = RowKey::OrderLine {
+        warehouse,
+        district,
+        order,
+        number,
+    };
+    rows.row(&key)?.as_order_line()
+}
