@@ -1,4 +1,2 @@
+pub mod CommandLemmas
 pub mod FaultLemmas
-pub mod LineLemmas
-pub mod NumberLemmas
-pub mod ValueLemmas

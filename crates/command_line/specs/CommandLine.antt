@@ -1,16 +1,13 @@
 -- The words that the program takes, and the line that they are.
-use Rattle.std.specs.Prelude.{[], ◌∷◌, ◌≡◌, ◌⊎◌, ℕ, ⊤, IsSomeAnd, List, Some, String, codes, false, pos}
+use Rattle.std.specs.Prelude.{[], ◌∷◌, ◌≡◌, ℕ, ⊤, IsSomeAnd, List, Some, String, codes, false, pos}
 use Rattle.std.specs.Prelude.{string_bytes, true}
 use Rattle.std.specs.Int.{IsInRange}
-use Rattle.std.specs.List.{AllByRecursion}
 use Rattle.std.specs.Str.Parse.{IsNumeral, digits_value, without_leading_plus}
 use Rattle.std.specs.declared.alloc.Global.{Global}
-use Rattle.clap.specs.Words.{Accepts, App, IsAmong, Kinds, Row, Rule, Text, app_of, first_of}
-use Rattle.clap.specs.Words.{found_of, kind_of, new_app, new_rule, one_of, read_as, rows_of}
+use Rattle.clap.specs.Words.{App, IsAmong, Kinds, Row, Rule, Text, app_of, first_of}
+use Rattle.clap.specs.Words.{found_of, kind_of, new_app, new_rule, rows_of}
 use Rattle.clap.specs.Words.{rule_of, with_rule, with_subcommand}
-use Rattle.clap.specs.Facts.{parser_of_value}
 use Rattle.clap.specs.Simple.{on_top}
-use Rattle.clap.specs.Walk.{reading_by}
 use Rattle.clap.specs.declared.builder.arg.Arg.{Arg}
 use Rattle.clap.specs.declared.builder.command.Command.{Command}
 use Rattle.clap.specs.declared.builder.command.Command.TheViews.{out-Command}
@@ -22,7 +19,7 @@ use Rattle.clap.specs.declared.parser.matches.ArgMatches.{ArgMatches}
 use Rattle.command_line.specs.declared.line.Line.{Line}
 use Rattle.command_line.specs.declared.line.Line.TheVariants.{Check, Make, Run}
 use Rattle.command_line.specs.declared.line.LineFault.{LineFault}
-use Rattle.command_line.specs.declared.line.LineFault.TheVariants.{Memory, Refused}
+use Rattle.command_line.specs.declared.line.LineFault.TheVariants.{Refused, Unread}
 
 -- ---- the command
 
@@ -111,27 +108,6 @@ Spells text number =
 abbrev pub HasNumber : List Row → Text → ℕ → Type 0
 HasNumber rows id number = IsSomeAnd (first_of id rows) (λ text. Spells text number)
 
--- the text is one that the argument accepts
-abbrev pub IsValueOf : Rule → Text → Type 0
-IsValueOf rule text = Accepts rule.ignore_case (parser_of_value rule.parser) text
-
--- the text is one that the argument accepts, and its value is read as its parser says
-abbrev pub IsReadFrom : List Row → Rule → Text → Type 0
-IsReadFrom rows rule text =
-    IsValueOf rule text × (one_of rule.id rows ≡ Some (read_as (reading_by rule) text))
-
--- such a text was found for the argument
-abbrev pub HasValue : List Row → Rule → Type 0
-HasValue rows rule = IsSomeAnd (first_of rule.id rows) (IsReadFrom rows rule)
-
--- this subcommand was met, with a value for each of its arguments
-abbrev pub IsMet : App → Text × List Row → Type 0
-IsMet app met = (met.0 ≡ app.top.name) × AllByRecursion (HasValue met.1) app.top.rules
-
--- the subcommand that was met is one of the program's, with a value for each of its arguments
-abbrev pub IsComplete : Text × List Row → Type 0
-IsComplete met = IsMet run_app met ⊎ IsMet check_app met ⊎ IsMet make_app met
-
 -- the line is that of the subcommand that was met, by its name and its rows
 abbrev pub IsLineOf : Line → Text × List Row → Type 0
 IsLineOf (Run image batches workers) met =
@@ -154,13 +130,13 @@ IsWithinBounds (Make warehouses customers items) =
 
 -- the fault of an error of this kind
 abbrev pub fault_by : ErrorKind → Error → LineFault
-fault_by OutOfMemory error = Memory
+fault_by OutOfMemory error = Unread
 fault_by _ error = Refused error
 
--- memory ran out, or the words are refused for one of these kinds
+-- no line was read for want of memory, or the words are refused for one of these kinds
 abbrev pub IsFaultOf : Kinds → LineFault → Type 0
 IsFaultOf kinds (Refused error) = IsAmong (kind_of error) kinds
-IsFaultOf kinds Memory = Unit {0}
+IsFaultOf kinds Unread = Unit {0}
 
 abbrev pub status_of_kind : ErrorKind → ℕ
 status_of_kind DisplayHelp = 0
@@ -169,4 +145,4 @@ status_of_kind _ = 2
 -- 0 where the words ask for help, else 2
 abbrev pub status_of : LineFault → ℕ
 status_of (Refused error) = status_of_kind (kind_of error)
-status_of Memory = 2
+status_of Unread = 2

@@ -1,12 +1,22 @@
 //! The command that `clap` reads the words by: a function for each argument and each subcommand.
-ghost use Rattle.std.specs.Prelude.{IfOk};
+ghost use Rattle.std.specs.Prelude.{◌≡◌, ◌≤◌, IfOk, pos};
+ghost use Rattle.clap.specs.declared.builder.value_parser.ValueParser.TheVariants.{Signed};
 ghost use Rattle.command_line.specs.CommandLine.{IsArgument, IsCommand, bare_app, batches_rule};
 ghost use Rattle.command_line.specs.CommandLine.{check_app, customers_rule, image_rule, items_rule};
 ghost use Rattle.command_line.specs.CommandLine.{make_app, program_app, run_app, warehouses_rule};
 ghost use Rattle.command_line.specs.CommandLine.{workers_rule};
 
+use clap::builder::ValueParser;
 use clap::{Arg, Command, value_parser};
 use std::alloc::{AllocError, Global};
+
+/// What takes the numbers from 1 to this one.
+fn up_to<'a>(most: u32) -> ValueParser<'a>
+    requires { 1 ≤ most }
+    ensures { result ≡ Signed (pos 1) (pos most) }
+{
+    value_parser!(u32).range(1..=i64::from(most))
+}
 
 fn image<'a>(alloc: Global) -> Arg<'a>
     ensures { IsArgument image_rule result }
@@ -30,7 +40,7 @@ fn workers<'a>(alloc: Global) -> Arg<'a>
     Arg::new(alloc, "workers")
         .long("workers")
         .value_name("N")
-        .value_parser(value_parser!(u8).range(1..=64))
+        .value_parser(up_to(64))
         .default_value("1")
         .help("The number of workers, 1 to 64")
 }
@@ -40,7 +50,7 @@ fn warehouses<'a>(alloc: Global) -> Arg<'a>
 {
     Arg::new(alloc, "W")
         .required(true)
-        .value_parser(value_parser!(u8).range(1..=100))
+        .value_parser(up_to(100))
         .help("The number of warehouses, 1 to 100")
 }
 
@@ -49,7 +59,7 @@ fn customers<'a>(alloc: Global) -> Arg<'a>
 {
     Arg::new(alloc, "C")
         .required(true)
-        .value_parser(value_parser!(u16).range(1..=3_000))
+        .value_parser(up_to(3_000))
         .help("The number of customers of a district, 1 to 3000")
 }
 
@@ -58,7 +68,7 @@ fn items<'a>(alloc: Global) -> Arg<'a>
 {
     Arg::new(alloc, "I")
         .required(true)
-        .value_parser(value_parser!(u32).range(1..=100_000))
+        .value_parser(up_to(100_000))
         .help("The number of items, 1 to 100000")
 }
 

@@ -1,7 +1,7 @@
 //! The line that the words of the command line are, and why they are none.
 ghost use Rattle.std.specs.Prelude.{◌≡◌, [], IfErr, IfOk, IsSomeAnd, OnOk, map, string_bytes};
 ghost use Rattle.clap.specs.Words.{fault_of, kind_of, subcommand_of};
-ghost use Rattle.command_line.specs.declared.line.LineFault.TheVariants.{Memory};
+ghost use Rattle.command_line.specs.declared.line.LineFault.TheVariants.{Unread};
 ghost use Rattle.command_line.specs.CommandLine.{IsFaultOf, IsLineOf, IsWithinBounds, fault_by};
 ghost use Rattle.command_line.specs.CommandLine.{program_app, status_of};
 
@@ -44,15 +44,15 @@ pub enum Line {
 pub enum LineFault {
     /// The words are refused, or ask for help. The error prints its own text.
     Refused(Error),
-    /// Memory ran out.
-    Memory,
+    /// Memory ran out, and so no line was read.
+    Unread,
 }
 
 impl From<AllocError> for LineFault {
-    ghost from_gives = { λ _ fault. fault ≡ Memory };
+    ghost from_gives = { λ _ fault. fault ≡ Unread };
 
     fn from(_error: AllocError) -> LineFault {
-        LineFault::Memory
+        LineFault::Unread
     }
 }
 
@@ -61,14 +61,14 @@ impl From<Error> for LineFault {
 
     fn from(error: Error) -> LineFault {
         match error.kind() {
-            ErrorKind::OutOfMemory => LineFault::Memory,
+            ErrorKind::OutOfMemory => LineFault::Unread,
             _ => LineFault::Refused(error),
         }
     }
 }
 
 /// The line that the words are, the program's name first. When memory runs out is left open, so
-/// `Memory` may come for any words.
+/// `Unread` may come for any words.
 pub fn line_of(alloc: Global, words: Vec<String>) -> Result<Line, LineFault>
     ensures line { IfOk result (λ line.
         IsSomeAnd (subcommand_of program_app (map string_bytes words.items)) (IsLineOf line)) }
@@ -78,7 +78,7 @@ pub fn line_of(alloc: Global, words: Vec<String>) -> Result<Line, LineFault>
         (map string_bytes words.items))) }
 {
     let matches = matches_of(alloc, words.as_slice())?;
-    Ok(line_in(alloc, &matches)?)
+    line_in(alloc, &matches).ok_or(LineFault::Unread)
 }
 
 /// The status that the program ends with: 0 for a request for help, else 2.
@@ -90,6 +90,6 @@ pub fn line_status(fault: &LineFault) -> u8
             ErrorKind::DisplayHelp => 0,
             _ => 2,
         },
-        LineFault::Memory => 2,
+        LineFault::Unread => 2,
     }
 }

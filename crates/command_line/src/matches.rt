@@ -1,24 +1,21 @@
 //! The matches of the words, and the line that they say.
-ghost use Rattle.std.specs.Prelude.{◌≡◌, [], IfErr, IfOk, IsSome, IsSomeAnd, OnOk, codes, map};
+ghost use Rattle.std.specs.Prelude.{◌≡◌, [], IfErr, IfOk, IfSome, IsSomeAnd, OnOk, codes, map, option_map};
 ghost use Rattle.std.specs.Prelude.{string_bytes};
 ghost use Rattle.std.specs.Int.{IsInRange};
 ghost use Rattle.clap.specs.Words.{fault_of, first_of, subcommand_of, subcommand_rows_of};
-ghost use Rattle.command_line.specs.CommandLine.{HasNumber, HasText, HasValue, IsComplete, IsFaultOf, IsLineOf, IsMet};
-ghost use Rattle.command_line.specs.CommandLine.{IsWithinBounds, check_app, make_app, program_app};
-ghost use Rattle.command_line.specs.CommandLine.{rows_in, run_app, workers_rule};
+ghost use Rattle.command_line.specs.CommandLine.{HasNumber, HasText, IsFaultOf, IsLineOf};
+ghost use Rattle.command_line.specs.CommandLine.{IsWithinBounds, program_app, rows_in};
 
 use crate::command::program;
 use crate::line::{Line, LineFault};
 use clap::ArgMatches;
-use std::alloc::{AllocError, Global};
+use std::alloc::Global;
 use tickets::Workers;
 
 /// What `clap` finds in the words.
 pub fn matches_of<'a>(alloc: Global, words: &'a [String]) -> Result<ArgMatches<'a>, LineFault>
     ensures subcommand { IfOk result (λ matches.
         subcommand_rows_of matches ≡ subcommand_of program_app (map string_bytes words.entry.now)) }
-    ensures complete { IfOk result (λ matches.
-        IsSomeAnd (subcommand_rows_of matches) IsComplete) }
     ensures accepted { OnOk result (fault_of program_app (map string_bytes words.entry.now) ≡ []) }
     ensures refused { IfErr result (IsFaultOf (fault_of program_app
         (map string_bytes words.entry.now))) }
@@ -26,69 +23,75 @@ pub fn matches_of<'a>(alloc: Global, words: &'a [String]) -> Result<ArgMatches<'
     Ok(program(alloc)?.try_get_matches_from(words)?)
 }
 
-fn text_of(alloc: Global, matches: &ArgMatches, id: &str) -> Result<String, AllocError>
-    requires { IsSome (first_of id.now (rows_in matches.now)) }
-    ensures { IfOk result (HasText (rows_in matches.now) id.now) }
+/// What was found for an argument.
+fn value_of<'a>(matches: &ArgMatches<'a>, id: &str) -> Option<&'a str>
+    ensures { option_map (λ value. value.now) result ≡ first_of id.now (rows_in matches.now) }
 {
-    String::from_str(alloc, matches.get_str(id).unwrap())
+    matches.get_str(id)
 }
 
-fn workers_in(matches: &ArgMatches) -> Workers
-    requires { HasValue (rows_in matches.now) workers_rule }
-    ensures number { HasNumber (rows_in matches.now) (codes "workers") result }
-    ensures bounds { IsInRange 1 64 result }
+/// The text of an argument.
+fn text_of(alloc: Global, matches: &ArgMatches, id: &str) -> Option<String>
+    ensures { IfSome result (HasText (rows_in matches.now) id.now) }
 {
-    let count: u8 = matches.get_one("workers").unwrap();
-    Workers::new(usize::from(count)).unwrap()
+    String::from_str(alloc, value_of(matches, id)?).ok()
 }
 
-fn run_in(alloc: Global, matches: &ArgMatches) -> Result<Line, AllocError>
-    requires { IsMet run_app (codes "run", rows_in matches.now) }
-    ensures line { IfOk result (λ line. IsLineOf line (codes "run", rows_in matches.now)) }
-    ensures bounds { IfOk result IsWithinBounds }
+/// The number between these that an argument spells.
+fn number_of(matches: &ArgMatches, id: &str, least: u32, most: u32) -> Option<u32>
+    ensures number { IfSome result (HasNumber (rows_in matches.now) id.now) }
+    ensures bounds { IfSome result (IsInRange least most) }
 {
-    let image = text_of(alloc, matches, "IMAGE")?;
-    let batches = text_of(alloc, matches, "BATCHES")?;
-    let workers = workers_in(matches);
-    Ok(Line::Run {
-        image,
-        batches,
-        workers,
-    })
-}
-
-fn check_in(alloc: Global, matches: &ArgMatches) -> Result<Line, AllocError>
-    requires { IsMet check_app (codes "check", rows_in matches.now) }
-    ensures line { IfOk result (λ line. IsLineOf line (codes "check", rows_in matches.now)) }
-    ensures bounds { IfOk result IsWithinBounds }
-{
-    let image = text_of(alloc, matches, "IMAGE")?;
-    Ok(Line::Check { image })
-}
-
-fn make_in(matches: &ArgMatches) -> Line
-    requires { IsMet make_app (codes "make", rows_in matches.now) }
-    ensures line { IsLineOf result (codes "make", rows_in matches.now) }
-    ensures bounds { IsWithinBounds result }
-{
-    Line::Make {
-        warehouses: matches.get_one("W").unwrap(),
-        customers: matches.get_one("C").unwrap(),
-        items: matches.get_one("I").unwrap(),
+    let number: u32 = value_of(matches, id)?.parse().ok()?;
+    if least <= number && number <= most {
+        Some(number)
+    } else {
+        None
     }
 }
 
-/// The line of the subcommand that was met.
-pub fn line_in(alloc: Global, matches: &ArgMatches) -> Result<Line, AllocError>
-    requires { IsSomeAnd (subcommand_rows_of matches.now) IsComplete }
-    ensures line { IfOk result (λ line.
-        IsSomeAnd (subcommand_rows_of matches.now) (IsLineOf line)) }
-    ensures bounds { IfOk result IsWithinBounds }
+fn run_in(alloc: Global, matches: &ArgMatches) -> Option<Line>
+    ensures line { IfSome result (λ line. IsLineOf line (codes "run", rows_in matches.now)) }
+    ensures bounds { IfSome result IsWithinBounds }
 {
-    match matches.subcommand() {
-        Some(("run", run)) => run_in(alloc, run),
-        Some(("check", check)) => check_in(alloc, check),
-        Some(("make", make)) => Ok(make_in(make)),
-        _ => unreachable!(),
+    let workers = number_of(matches, "workers", 1, 64)?;
+    Some(Line::Run {
+        image: text_of(alloc, matches, "IMAGE")?,
+        batches: text_of(alloc, matches, "BATCHES")?,
+        workers: Workers::new(workers as usize)?,
+    })
+}
+
+fn check_in(alloc: Global, matches: &ArgMatches) -> Option<Line>
+    ensures line { IfSome result (λ line. IsLineOf line (codes "check", rows_in matches.now)) }
+    ensures bounds { IfSome result IsWithinBounds }
+{
+    let image = text_of(alloc, matches, "IMAGE")?;
+    Some(Line::Check { image })
+}
+
+fn make_in(matches: &ArgMatches) -> Option<Line>
+    ensures line { IfSome result (λ line. IsLineOf line (codes "make", rows_in matches.now)) }
+    ensures bounds { IfSome result IsWithinBounds }
+{
+    Some(Line::Make {
+        warehouses: number_of(matches, "W", 1, 100)? as u8,
+        customers: number_of(matches, "C", 1, 3_000)? as u16,
+        items: number_of(matches, "I", 1, 100_000)?,
+    })
+}
+
+/// The line of the subcommand that was met. None where memory runs out, or where it has no value for an argument of
+/// that subcommand, which `clap` lets no words pass without.
+pub fn line_in(alloc: Global, matches: &ArgMatches) -> Option<Line>
+    ensures line { IfSome result (λ line.
+        IsSomeAnd (subcommand_rows_of matches.now) (IsLineOf line)) }
+    ensures bounds { IfSome result IsWithinBounds }
+{
+    match matches.subcommand()? {
+        ("run", run) => run_in(alloc, run),
+        ("check", check) => check_in(alloc, check),
+        ("make", make) => make_in(make),
+        _ => None,
     }
 }

@@ -6,9 +6,11 @@ use Rattle.std.proofs.lemmas.Bool.Decides.{nat_tests}
 use Rattle.std.proofs.lemmas.List.Elements.{All-head, All-tail}
 use Rattle.csv.specs.Records.{field_at}
 use Rattle.requests.specs.BatchRecords.{request_at}
-use Rattle.requests.specs.BatchText.{IsReadChoice, IsReadDelivery, IsReadLine, IsReadNewOrder, IsReadOrderStatus, IsReadPayment, IsReadRequest, IsReadStockLevel, choice_form, choice_text, delivery_record, new_order_record, order_status_record, ordered_line_fields, payment_record, request_record, stock_level_record}
+use Rattle.requests.specs.BatchText.{choice_form, choice_text, delivery_record, new_order_record, order_status_record, ordered_line_fields, payment_record, request_record, stock_level_record}
 use Rattle.records.specs.Fields.{Fields}
 use Rattle.requests.specs.RequestRecords.{choice_at, delivery_fields, has_lines, line_count, new_order_fields, order_status_fields, ordered_line_at, ordered_lines_at, payment_fields, stock_level_fields}
+use Rattle.requests.specs.Lines.{IsReadLine}
+use Rattle.requests.specs.Requests.{IsReadChoice, IsReadDelivery, IsReadNewOrder, IsReadOrderStatus, IsReadPayment, IsReadRequest, IsReadStockLevel}
 use Rattle.requests.specs.declared.request.CustomerChoice.{CustomerChoice}
 use Rattle.requests.specs.declared.request.CustomerChoice.TheVariants as choice
 use Rattle.requests.specs.declared.request.Delivery.{Delivery}

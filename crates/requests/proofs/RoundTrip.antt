@@ -11,7 +11,8 @@ use Rattle.requests.specs.BatchRecords.{head_at, head_fields, verdict_of}
 use Rattle.requests.specs.Batches.{Reading, batch_of, batches, between, clean, reading_from, settled, with_front}
 use Rattle.records.specs.Fields.{Fields}
 use Rattle.records.specs.Records.{records_in}
-use Rattle.requests.specs.BatchText.{IsReadBatch, IsReadRequest, batch_records, batches_text, head_record, request_record, verdict_text}
+use Rattle.requests.specs.BatchText.{IsReadBatch, batch_records, batches_text, head_record, request_record, verdict_text}
+use Rattle.requests.specs.Requests.{IsReadRequest}
 use Rattle.requests.specs.declared.batch_record.BatchHead.{BatchHead}
 use Rattle.requests.specs.declared.request.Batch.{Batch}
 use Rattle.requests.specs.declared.request.Request.{Request}

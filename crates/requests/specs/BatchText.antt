@@ -2,9 +2,9 @@
 use Rattle.std.specs.Prelude.{◌≤◌, ◌∷◌, [], ℕ, List, All, length, map, codes, decimal}
 use Rattle.std.specs.List.{flat_map}
 use Rattle.tpcc_rows.specs.Limits.{IsBetween}
-use Rattle.tpcc_rows.specs.Texts.{IsText}
 use Rattle.records.specs.Fields.{Fields}
 use Rattle.records.specs.Spelling.{text_of_records}
+use Rattle.requests.specs.Requests.{IsReadRequest}
 use Rattle.requests.specs.declared.request.Batch.{Batch}
 use Rattle.requests.specs.declared.request.CustomerChoice.{CustomerChoice}
 use Rattle.requests.specs.declared.request.CustomerChoice.TheVariants as choice
@@ -77,51 +77,6 @@ abbrev pub batches_text : List Batch → List ℕ
 batches_text bs = text_of_records (flat_map batch_records bs)
 
 -- within the limits
-abbrev pub IsReadChoice : CustomerChoice → Type 0
-IsReadChoice (choice.Number c) = IsBetween 1 3000 c
-IsReadChoice (choice.LastName last) = IsText 16 last
-
-pub record IsReadLine (line : OrderedLine) : Type 0 where
-  pub item : IsBetween 1 999999 line.item
-  pub supply : IsBetween 1 100 line.supply
-  pub quantity : IsBetween 1 10 line.quantity
-
-pub record IsReadNewOrder (r : NewOrder) : Type 0 where
-  pub warehouse : IsBetween 1 100 r.warehouse
-  pub district : IsBetween 1 10 r.district
-  pub customer : IsBetween 1 3000 r.customer
-  pub count : IsBetween 5 15 (length r.lines)
-  pub lines : All IsReadLine r.lines
-
-pub record IsReadPayment (r : Payment) : Type 0 where
-  pub warehouse : IsBetween 1 100 r.warehouse
-  pub district : IsBetween 1 10 r.district
-  pub customer_warehouse : IsBetween 1 100 r.customer_warehouse
-  pub customer_district : IsBetween 1 10 r.customer_district
-  pub customer : IsReadChoice r.customer
-  pub amount : IsBetween 100 500000 r.amount
-
-pub record IsReadOrderStatus (r : OrderStatus) : Type 0 where
-  pub warehouse : IsBetween 1 100 r.warehouse
-  pub district : IsBetween 1 10 r.district
-  pub customer : IsReadChoice r.customer
-
-pub record IsReadDelivery (r : Delivery) : Type 0 where
-  pub warehouse : IsBetween 1 100 r.warehouse
-  pub carrier : IsBetween 1 10 r.carrier
-
-pub record IsReadStockLevel (r : StockLevel) : Type 0 where
-  pub warehouse : IsBetween 1 100 r.warehouse
-  pub district : IsBetween 1 10 r.district
-  pub threshold : IsBetween 10 20 r.threshold
-
-abbrev pub IsReadRequest : Request → Type 0
-IsReadRequest (request.NewOrder r) = IsReadNewOrder r
-IsReadRequest (request.Payment r) = IsReadPayment r
-IsReadRequest (request.OrderStatus r) = IsReadOrderStatus r
-IsReadRequest (request.Delivery r) = IsReadDelivery r
-IsReadRequest (request.StockLevel r) = IsReadStockLevel r
-
 pub record IsReadBatch (b : Batch) : Type 0 where
   pub moment : IsBetween 0 999999999999 b.moment
   pub count : length b.requests ≤ 1024

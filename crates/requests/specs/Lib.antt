@@ -1,5 +1,6 @@
 pub mod Kinds
 pub mod Lines
+pub mod Requests
 pub mod RequestRecords
 pub mod BatchRecords
 pub mod Batches

@@ -10,6 +10,7 @@ pub mod reply;
 pub mod reply_text;
 pub mod request;
 pub mod request_fields;
+mod request_limits;
 mod request_record;
 
 pub use batch_reader::BatchReader;

@@ -101,13 +101,13 @@ pub(crate) fn read_batch(
     let Some(head) = read_head(reader, fields, number)? else {
         return Ok(None);
     };
-    let mut requests = Vec::new(alloc);
+    let mut requests = Requests::new(alloc);
     for _ in 0..head.count {
         requests.push(read_request(reader, fields, number)?)?;
     }
     Ok(Some(Batch {
         moment: head.moment,
         verdict: head.verdict,
-        requests: Requests::new(requests),
+        requests,
     }))
 }

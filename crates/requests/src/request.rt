@@ -1,11 +1,14 @@
 //! What clients ask: the five transactions' inputs, and batches of them.
-ghost use Rattle.std.specs.Prelude.{◌≡◌, ◌==◌, Some, length};
+ghost use Rattle.std.specs.Prelude.{◌≡◌, ◌==◌, ◌++◌, ◌∷◌, [], All, OnErr, OnOk, Some, length};
 ghost use Rattle.requests.specs.Kinds.{kind_of};
-ghost use Rattle.requests.specs.Lines.{ordered_lines_of};
+ghost use Rattle.requests.specs.Lines.{IsReadLine, ordered_lines_of};
+ghost use Rattle.requests.specs.Requests.{IsReadRequest};
 ghost use Rattle.tpcc_rows.specs.Limits.{IsBetween};
 
 use crate::number::{OrderedQuantity, PaymentAmount, Threshold};
+use crate::request_limits::{line_within, request_within};
 use arrayvec::ArrayVec;
+use std::alloc::{AllocError, Global};
 use std::marker::Model;
 use tpcc_rows::id::{CustomerId, DistrictId, ItemId, WarehouseId};
 use tpcc_rows::number::{Carrier, Moment};
@@ -37,22 +40,23 @@ impl Default for OrderedLine {
     }
 }
 
-/// The lines of a new order: 5 to 15 (TPC-C clause 2.4.1.3).
+/// The lines of a new order: 5 to 15 (TPC-C clause 2.4.1.3), each within its limits.
 #[derive(Drop)]
 pub struct OrderedLines {
     lines: ArrayVec<OrderedLine, 15>,
 }
 
 impl Model for OrderedLines {
-    ghost use Rattle.std.specs.Prelude.{List, length};
+    ghost use Rattle.std.specs.Prelude.{All, List, length};
     ghost use Rattle.tpcc_rows.specs.Limits.{IsBetween};
+    ghost use Rattle.requests.specs.Lines.{IsReadLine};
     ghost use Rattle.requests.specs.declared.request.OrderedLine.{OrderedLine};
 
     ghost Value = { List OrderedLine };
 
     ghost view = { λ x. x.lines.items };
 
-    ghost invariant = { λ x. IsBetween 5 15 (length x.lines.items) };
+    ghost invariant = { λ x. IsBetween 5 15 (length x.lines.items) × All IsReadLine x.lines.items };
 }
 
 impl OrderedLines {
@@ -63,16 +67,21 @@ impl OrderedLines {
         if lines.len() < 5 {
             return None;
         }
-        let mut places = ArrayVec::new();
-        match places.try_extend_from_slice(lines) {
-            Ok(()) => Some(OrderedLines { lines: places }),
-            Err(_) => None,
+        if 15 < lines.len() {
+            return None;
         }
+        let mut places = ArrayVec::<OrderedLine, 15>::new();
+        for line in lines {
+            line_within(line);
+            places.push(*line);
+        }
+        Some(OrderedLines { lines: places })
     }
 
     pub fn as_slice(&self) -> &[OrderedLine]
         ensures value { result.now ≡ self.now }
         ensures range { IsBetween 5 15 (length result.now) }
+        ensures lines { All IsReadLine result.now }
     {
         self.lines.as_slice()
     }
@@ -163,26 +172,42 @@ pub enum Verdict {
     Rerun,
 }
 
-/// Requests in their order.
+/// Requests in their order, each within its limits.
 #[derive(Drop)]
 pub struct Requests {
     requests: Vec<Request>,
 }
 
 impl Model for Requests {
-    ghost use Rattle.std.specs.Prelude.{List};
+    ghost use Rattle.std.specs.Prelude.{All, List};
+    ghost use Rattle.requests.specs.Requests.{IsReadRequest};
     ghost use Rattle.requests.specs.declared.request.Request.{Request};
 
     ghost Value = { List Request };
 
     ghost view = { λ x. x.requests.items };
+
+    ghost invariant = { λ x. All IsReadRequest x.requests.items };
 }
 
 impl Requests {
-    pub fn new(requests: Vec<Request>) -> Requests
-        ensures { result ≡ requests.items }
+    /// No requests yet.
+    pub fn new(alloc: Global) -> Requests
+        ensures { result ≡ [] }
     {
-        Requests { requests }
+        Requests {
+            requests: Vec::new(alloc),
+        }
+    }
+
+    /// One request more, at the end. A refusal changes nothing.
+    pub fn push(&mut self, request: Request) -> Result<(), AllocError>
+        ensures ok { OnOk result (self.new ≡ self.old ++ request ∷ []) }
+        ensures err { OnErr result (self.new ≡ self.old) }
+    {
+        request_within(&request);
+        self.requests.push(request)?;
+        Ok(())
     }
 
     pub fn as_slice(&self) -> &[Request]
@@ -203,12 +228,11 @@ impl Requests {
         self.requests.is_empty()
     }
 
-    /// The requests, moved out.
-    pub fn into_vec(self) -> Vec<Request>
-        ensures { result.items ≡ self }
+    /// Each request is within its limits: a call proves it.
+    pub fn are_within(&self)
+        ensures { All IsReadRequest self.now }
     {
-        let Requests { requests } = self;
-        requests
+        let _requests = &self.requests;
     }
 }
 

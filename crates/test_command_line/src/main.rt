@@ -120,14 +120,14 @@ fn print_fault<R: Print>(rt: &R, fault: &LineFault) {
             };
             println!(rt; "status {status}, {stream}, {:?}", error.kind())
         }
-        LineFault::Memory => println!(rt; "status {status}, memory ran out"),
+        LineFault::Unread => println!(rt; "status {status}, memory ran out"),
     };
 }
 
 fn print_text<R: Print>(rt: &R, fault: &LineFault) {
     let _ = match fault {
         LineFault::Refused(error) => print!(rt; "{error}"),
-        LineFault::Memory => println!(rt; "memory ran out"),
+        LineFault::Unread => println!(rt; "memory ran out"),
     };
 }
 

@@ -52,13 +52,13 @@ pub(crate) fn deliveries(alloc: Global, count: usize) -> Option<Batch> {
         warehouse: WarehouseId::new(1)?,
         carrier: Carrier::new(1)?,
     };
-    let mut requests = Vec::new(alloc);
+    let mut requests = Requests::new(alloc);
     for _ in 0..count {
         requests.push(Request::Delivery(delivery)).ok()?;
     }
     Some(Batch {
         moment: Moment::new(0)?,
         verdict: Verdict::Commit,
-        requests: Requests::new(requests),
+        requests,
     })
 }
