@@ -7,6 +7,7 @@ pub mod Numbers
 pub mod Filing
 pub mod LevelSteps
 pub mod LineFacts
+pub mod Executing
 pub mod Settling
 pub mod Openings
 pub mod LevelResults

@@ -44,17 +44,3 @@ next_of_one points (s ∷ t ∷ stamps) present same one some = let two : 1 < le
 pub stamped_more : (points points' : List Rows) (stamps stamps' : List Stamp) (p : Rows) (s : Stamp) → points' ≡ points ++ p ∷ [] → stamps' ≡ stamps ++ s ∷ [] → length stamps ≡ length points → length stamps' ≡ length points'
 stamped_more points points' stamps stamps' p s grown kept same =
     ap length kept ∙ length_push stamps s ∙ ap (λ (n : ℕ). n + 1) same ∙ sym (ap length grown ∙ length_push points p)
-
-pub state_after : (cards : Cards) (rows rows' : Rows) (stamp stamp' : Stamp) (batch : Batch) → rows' ≡ batch_rows cards (state_of rows stamp) batch → stamp'.next ≡ stamp.next + length batch.requests → stamp'.sequence ≡ stamp.sequence + 1
-    → stamp'.token ≡ (after_batch cards (state_of rows stamp) batch).token → state_of rows' stamp' ≡ after_batch cards (state_of rows stamp) batch
-state_after cards rows rows' stamp stamp' batch left next sequence token =
-    (λ i. record { rows = left i; next = next i; sequence = sequence i; token = token i })
-
-pub line_extended : (cards : Cards) (rows rows' : Rows) (points points' : List Rows) (stamps stamps' : List Stamp) (stamp stamp' : Stamp) (batch : Batch) → length stamps ≡ length points
-    → points' ≡ points ++ rows ∷ [] → stamps' ≡ stamps ++ stamp ∷ [] → state_of rows' stamp' ≡ after_batch cards (state_of rows stamp) batch
-    → (let now : Line = record { cards = cards; earlier = states_of points' stamps'; present = state_of rows' stamp' } in now)
-    ≡ extended (record { cards = cards; earlier = states_of points stamps; present = state_of rows stamp }) batch
-line_extended cards rows rows' points points' stamps stamps' stamp stamp' batch same grown kept present =
-    let earlier : states_of points' stamps' ≡ states_of points stamps ++ state_of rows stamp ∷ [] =
-    (λ i. states_of (grown i) (kept i)) ∙ states_of-append points stamps rows stamp same in
-    (λ i. record { cards = cards; earlier = earlier i; present = present i })

@@ -5,20 +5,22 @@ use Rattle.requests.specs.declared.request.Batch.{Batch}
 use Rattle.tpcc_model.specs.Serial.{State, after_batch, batch_replies}
 use Rattle.executor.specs.Lines.{Line}
 use Rattle.executor.specs.Paths.{path_of}
+use Rattle.executor.specs.declared.next_batch.TheConstants.{LAST_NUMBER, MOST_REQUESTS}
 use Rattle.executor.specs.declared.path.Path.{Path}
 use Rattle.executor.specs.declared.path.Path.TheVariants as path
 use Rattle.executor.specs.declared.record.Record.{Record}
 use Rattle.executor.specs.declared.refusal.Refusal.{Refusal}
 use Rattle.executor.specs.declared.refusal.Refusal.TheVariants as refusal
+use Rattle.workers.specs.declared.batch_level.TheConstants.{END_OF_NUMBERS}
 
 -- the number of the batch, or that of one of its requests, would pass its limit
 abbrev pub exhausts : State → Batch → Bool
-exhausts state batch = nat_lt 999999999999999 (state.sequence + 1) || nat_lt 1000000000000000 (state.next + length batch.requests)
+exhausts state batch = nat_lt LAST_NUMBER (state.sequence + 1) || nat_lt END_OF_NUMBERS (state.next + length batch.requests)
 
 -- why the batch isn't executed, whatever memory there is; so many batches may be uncommitted
 abbrev pub refusal_for : ℕ → Line → Batch → Option Refusal
 refusal_for most line batch =
-    if nat_lt 1024 (length batch.requests) then Some refusal.BatchTooLong
+    if nat_lt MOST_REQUESTS (length batch.requests) then Some refusal.BatchTooLong
     else if exhausts line.present batch then Some refusal.NumbersExhausted
     else if nat_lt (length line.earlier) most then None
     else Some refusal.PointsFull

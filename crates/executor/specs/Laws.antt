@@ -88,12 +88,14 @@ SerialBatchesHaveHeadline = (cards : Cards) (start : State) (batches : List Batc
 
 -- of a batch that was executed, whoever executed it
 abbrev pub ExecutionsHaveHeadline : Type 0
-ExecutionsHaveHeadline = (old new : Line) (batch : Batch) (r : Record) → IsSoundState old.cards old.present → AreWithinLimits batch.moment old.present.next batch.requests
+ExecutionsHaveHeadline = (old new : Line) (batch : Batch) (r : Record)
+    → IsSoundState old.cards old.present → AreWithinLimits batch.moment old.present.next batch.requests
     → IsRecordOf old.cards old.present batch (path_of old.cards old.present batch) r → new ≡ extended old batch
     → Headline old.cards old.present (batch ∷ []) (completed r ∷ []) new.present
 
 -- of every run on a sound database
 abbrev pub RunsHaveHeadline : Type 0
-RunsHaveHeadline = (db : Database) (most : ℕ) (new : Line) (batches : List Batch) (end : RunEnd) → IsSound db → AreAllWithin db.cards (opening db.cards db.rows) batches
+RunsHaveHeadline = (db : Database) (most : ℕ) (new : Line) (batches : List Batch) (end : RunEnd)
+    → IsSound db → AreAllWithin db.cards (opening db.cards db.rows) batches
     → IsRunOf most (opening_line db.cards db.rows) new batches end
     → Headline db.cards (opening db.cards db.rows) batches (map completed end.records.items) new.present

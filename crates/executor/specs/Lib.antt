@@ -5,6 +5,8 @@ pub mod Laws
 pub mod Refusals
 pub mod Lines
 pub mod Filing
+pub mod PlannedLevels
 pub mod Executions
+pub mod Engines
 pub mod Runs
 pub mod Headline

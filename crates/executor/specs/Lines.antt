@@ -2,14 +2,16 @@
 use Rattle.std.specs.Prelude.{◌≡◌, ℕ, ◌≤◌, List, [], ◌∷◌, ◌++◌, drop, length, map, refl}
 use Rattle.std.specs.List.{zip}
 use Rattle.std.specs.Coded.{Coded, code_by, coded×, coded_list, coded_ℕ}
-use Rattle.catalog.specs.CardBytes.{catalog_digest}
 use Rattle.catalog.specs.CardMap.{Cards, cards_code}
 use Rattle.requests.specs.declared.request.Batch.{Batch}
 use Rattle.tpcc_model.specs.Serial.{State, after_batch, opening}
 use Rattle.tpcc_rows.specs.Limits.{IsBetween}
 use Rattle.tpcc_rows.specs.RowMap.{Rows, rows_code}
 use Rattle.executor.specs.States.{IsSoundState}
+use Rattle.executor.specs.declared.engine.Engine.{Engine}
+use Rattle.executor.specs.declared.next_batch.TheConstants.{LAST_NUMBER}
 use Rattle.executor.specs.declared.stamp.Stamp.{Stamp}
+use Rattle.workers.specs.declared.batch_level.TheConstants.{END_OF_NUMBERS}
 
 -- the cards; the last committed state and those after it, the oldest first, without the present one; the present state
 pub record Line : Type 0 where
@@ -51,11 +53,10 @@ committed line = record { cards = line.cards; earlier = drop 1 line.earlier; pre
 abbrev pub states : Line → List State
 states line = line.earlier ++ line.present ∷ []
 
--- ---- what an executor keeps of itself: the digest is the catalog's, each point has its stamp, the present state is sound, and
--- its numbers are within their limits
-pub record IsExecutor (cards : Cards) (digest : List ℕ) (rows : Rows) (points : List Rows) (stamps : List Stamp) (stamp : Stamp) : Type 0 where
-  pub of_catalog : digest ≡ catalog_digest cards
-  pub stamped : length stamps ≡ length points
-  pub sound : IsSoundState cards (state_of rows stamp)
-  pub next_within : IsBetween 1 1000000000000000 stamp.next
-  pub sequence_within : stamp.sequence ≤ 999999999999999
+-- ---- what an executor keeps of itself: each point has its stamp, the present state is sound, and its numbers are within their
+-- limits
+pub record IsExecutor (engine : Engine) (stamps : List Stamp) (stamp : Stamp) : Type 0 where
+  pub stamped : length stamps ≡ length engine.store.points
+  pub sound : IsSoundState engine.catalog (state_of engine.store.rows stamp)
+  pub next_within : IsBetween 1 END_OF_NUMBERS stamp.next
+  pub sequence_within : stamp.sequence ≤ LAST_NUMBER

@@ -24,7 +24,8 @@ line_after line (batch ∷ batches) = record { cards = line.cards; earlier = [];
 abbrev pub AreRecordsOf : Cards → State → List Batch → List Record → Type 0
 AreRecordsOf cards state batches [] = Unit {0}
 AreRecordsOf cards state [] (r ∷ records) = ⊥
-AreRecordsOf cards state (batch ∷ batches) (r ∷ records) = IsRecordOf cards state batch (path_of cards state batch) r × AreRecordsOf cards (after_batch cards state batch) batches records
+AreRecordsOf cards state (batch ∷ batches) (r ∷ records) =
+    IsRecordOf cards state batch (path_of cards state batch) r × AreRecordsOf cards (after_batch cards state batch) batches records
 
 -- why no batch of those that are left was executed: there is none; room for the records was refused, so that there is none
 -- either; or the next batch is refused, on this line

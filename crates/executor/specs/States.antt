@@ -11,6 +11,7 @@ use Rattle.requests.specs.declared.request.Request.{Request}
 use Rattle.tpcc_model.specs.Serial.{State, after_batch}
 use Rattle.tpcc_model.specs.Soundness.{IsSound}
 use Rattle.transactions.specs.Requests.{IsRequest}
+use Rattle.workers.specs.declared.batch_level.TheConstants.{END_OF_NUMBERS}
 
 -- each row of HISTORY has a number below this one
 abbrev pub HasHistoryBelow : Rows → ℕ → Type 0
@@ -26,7 +27,7 @@ pub record AreWithinLimits (moment first : ℕ) (requests : List Request) : Type
   pub moment_within : IsBetween 0 999999999999 moment
   pub each_request : All IsRequest requests
   pub first_number : 1 ≤ first
-  pub last_number : first + length requests ≤ 1000000000000000
+  pub last_number : first + length requests ≤ END_OF_NUMBERS
 
 -- each of the batches is within its limits, on the state that those before it leave
 abbrev pub AreAllWithin : Cards → State → List Batch → Type 0

@@ -1,29 +1,29 @@
-//! A batch on a store that can go back.
-ghost use Rattle.std.specs.Prelude.{◌≡◌, ◌+◌, ◌<◌, ◌≤◌, ◌++◌, [], ◌∷◌, IfOk, OnErr, OnOk, Some, length, slice_get};
+//! A batch on an engine, whose rows can go back.
+ghost use Rattle.std.specs.Prelude.{◌≡◌, ◌+◌, ◌<◌, ◌≤◌, ◌++◌, ◌∷◌, [], IfOk, OnErr, OnOk, Some, length, slice_get};
 ghost use Rattle.catalog.specs.CardBytes.{catalog_digest};
-ghost use Rattle.executor.specs.Executions.{IsRecordOf, path_in};
-ghost use Rattle.executor.specs.Lines.{state_of};
+ghost use Rattle.executor.specs.Engines.{IsRecordBy, met_by, path_by_workers, replies_by, rows_by};
 ghost use Rattle.executor.specs.States.{IsSoundState};
 ghost use Rattle.tpcc_model.specs.Roots.{root};
-ghost use Rattle.tpcc_model.specs.Serial.{batch_replies, batch_rows};
 ghost use Rattle.tpcc_model.specs.Tokens.{replies_digest, token_of};
 
+use crate::crew::Crew;
+use crate::engine::Engine;
+use crate::next_batch::{LAST_NUMBER, NextBatch};
 use crate::parallel::execute_parallel;
 use crate::path::Path;
 use crate::record::Record;
 use crate::sequential::execute_sequential;
 use crate::stamp::Stamp;
-use catalog::Catalog;
 use merkle::Tree;
 use requests::reply::Reply;
-use requests::request::{Batch, Verdict};
+use requests::request::Verdict;
 use rollback::{MarkError, POINTS, PointedStore, RewindError};
 use std::alloc::Global;
 use std::thread::Threads;
 use token::{TokenParts, reply_digest};
 use tpcc_rows::memory::Memory;
 use transactions::ExecError;
-use workers::{Gate, Workers};
+use workers::{END_OF_NUMBERS, Gate, Workers};
 
 /// The present rows become the newest point, for which there is a place.
 fn mark(alloc: Global, store: &mut PointedStore) -> Result<(), Memory>
@@ -52,145 +52,126 @@ fn rewind(alloc: Global, store: &mut PointedStore, point: usize) -> Result<(), M
     }
 }
 
-/// The replies to a batch on the rows of the newest point, and how it was executed: level by level on N workers, where
-/// there are any, unless a request strays or the verdict asks for a rerun; else one request after the other.
-fn replies_of<R: Threads + Sync, G: Gate>(
-    rt: &R,
-    alloc: Global,
-    catalog: &Catalog,
-    store: &mut PointedStore,
-    stamp: &Stamp,
-    batch: &Batch,
-    workers: Option<Workers>,
-    gate: &G,
-    point: usize,
-) -> Result<(Vec<Reply>, Path), Memory>
-    requires newest { length store.old.points ≡ point + 1 }
-    requires marked { slice_get store.old.points point ≡ Some store.old.rows }
-    requires sound { IsSoundState catalog.now (state_of store.old.rows stamp.now) }
-    requires few { length batch.now.requests ≤ 1024 }
-    requires low { 1 ≤ stamp.now.next }
-    requires high { stamp.now.next + length batch.now.requests ≤ 1000000000000000 }
-    ensures replies { IfOk result (λ done. done.0.items ≡ batch_replies catalog.now (state_of store.old.rows stamp.now) batch.now) }
-    ensures path { IfOk result (λ done. done.1 ≡ path_in workers catalog.now (state_of store.old.rows stamp.now) batch.now) }
-    ensures rows { OnOk result (store.new.rows ≡ batch_rows catalog.now (state_of store.old.rows stamp.now) batch.now) }
-    ensures points { store.new.points ≡ store.old.points }
-{
-    let Some(workers) = workers else {
-        let replies = execute_sequential(alloc, catalog, store, batch, stamp.next, gate)?;
-        return Ok((replies, Path::Sequential));
-    };
-    let path = match execute_parallel(rt, alloc, catalog, store, stamp, batch, workers, gate) {
-        Ok(replies) => match batch.verdict {
-            Verdict::Commit => return Ok((replies, Path::Parallel)),
-            Verdict::Rerun => Path::Verdict,
-        },
-        Err(ExecError::Strayed) => match batch.verdict {
-            Verdict::Commit => Path::Reran,
-            Verdict::Rerun => Path::Verdict,
-        },
-        Err(ExecError::Memory) => return Err(Memory),
-    };
-    rewind(alloc, store, point)?;
-    let replies = execute_sequential(alloc, catalog, store, batch, stamp.next, gate)?;
-    Ok((replies, path))
-}
-
-/// The token of a batch that met the state with this stamp, made these replies and left these rows.
-fn token_of<R: Threads + Sync>(
-    rt: &R,
-    alloc: Global,
-    digest: [u8; 32],
-    stamp: &Stamp,
-    replies: &[Reply],
-    store: &PointedStore,
-) -> Result<[u8; 32], Memory>
-    requires sequence { stamp.now.sequence < 999999999999999 }
-    requires numbers { stamp.now.next + length replies.now ≤ 1000000000000000 }
-    ensures { IfOk result (λ token. token ≡ token_of (stamp.now.sequence + 1) stamp.now.token digest (root store.now.rows) (replies_digest stamp.now.next replies.now)) }
-{
-    let tree = Tree::build(rt, alloc, store)?;
-    let parts = TokenParts {
-        sequence: stamp.sequence + 1,
-        prior: stamp.token,
-        catalog: digest,
-        root: tree.root(),
-        replies: reply_digest(stamp.next, replies),
-    };
-    Ok(parts.token())
-}
-
-/// Executes a batch on the rows of the newest point, and records it.
-fn recorded<R: Threads + Sync, G: Gate>(
-    rt: &R,
-    alloc: Global,
-    catalog: &Catalog,
-    digest: [u8; 32],
-    store: &mut PointedStore,
-    stamp: &Stamp,
-    batch: &Batch,
-    workers: Option<Workers>,
-    gate: &G,
-    point: usize,
-) -> Result<Record, Memory>
-    requires newest { length store.old.points ≡ point + 1 }
-    requires marked { slice_get store.old.points point ≡ Some store.old.rows }
-    requires digest { digest ≡ catalog_digest catalog.now }
-    requires sound { IsSoundState catalog.now (state_of store.old.rows stamp.now) }
-    requires few { length batch.now.requests ≤ 1024 }
-    requires low { 1 ≤ stamp.now.next }
-    requires high { stamp.now.next + length batch.now.requests ≤ 1000000000000000 }
-    requires sequence { stamp.now.sequence < 999999999999999 }
-    ensures record { IfOk result (IsRecordOf catalog.now (state_of store.old.rows stamp.now) batch.now (path_in workers catalog.now (state_of store.old.rows stamp.now) batch.now)) }
-    ensures rows { OnOk result (store.new.rows ≡ batch_rows catalog.now (state_of store.old.rows stamp.now) batch.now) }
-    ensures points { store.new.points ≡ store.old.points }
-{
-    let (replies, path) = replies_of(
-        rt, alloc, catalog, store, stamp, batch, workers, gate, point,
-    )?;
-    let token = token_of(rt, alloc, digest, stamp, &replies, store)?;
-    Ok(Record {
-        sequence: stamp.sequence + 1,
-        first: stamp.next,
-        replies,
-        token,
-        path,
-    })
-}
-
-/// Executes a batch. The rows that it met are a new point; where memory was refused, they are the present ones again, and no
-/// point is new.
-pub(crate) fn execute_batch<R: Threads + Sync, G: Gate>(
-    rt: &R,
-    alloc: Global,
-    catalog: &Catalog,
-    digest: [u8; 32],
-    store: &mut PointedStore,
-    stamp: &Stamp,
-    batch: &Batch,
-    workers: Option<Workers>,
-    gate: &G,
-) -> Result<Record, Memory>
-    requires room { length store.old.points < POINTS }
-    requires digest { digest ≡ catalog_digest catalog.now }
-    requires sound { IsSoundState catalog.now (state_of store.old.rows stamp.now) }
-    requires few { length batch.now.requests ≤ 1024 }
-    requires low { 1 ≤ stamp.now.next }
-    requires high { stamp.now.next + length batch.now.requests ≤ 1000000000000000 }
-    requires sequence { stamp.now.sequence < 999999999999999 }
-    ensures record { IfOk result (IsRecordOf catalog.now (state_of store.old.rows stamp.now) batch.now (path_in workers catalog.now (state_of store.old.rows stamp.now) batch.now)) }
-    ensures rows { OnOk result (store.new.rows ≡ batch_rows catalog.now (state_of store.old.rows stamp.now) batch.now) }
-    ensures points { OnOk result (store.new.points ≡ store.old.points ++ store.old.rows ∷ []) }
-    ensures old_rows { OnErr result (store.new.rows ≡ store.old.rows) }
-    ensures old_points { OnErr result (store.new.points ≡ store.old.points) }
-{
-    let point = store.points();
-    mark(alloc, store)?;
-    let outcome = recorded(
-        rt, alloc, catalog, digest, store, stamp, batch, workers, gate, point,
-    );
-    if outcome.is_err() {
-        store.back_to(point).unwrap();
+impl Engine {
+    /// The replies to a batch on the rows of the newest point, and how it was executed: level by level on N workers, where
+    /// there are any, unless a request strays or the verdict asks for a rerun; else one request after the other.
+    fn replies_of<R: Threads + Sync, G: Gate>(
+        &mut self,
+        rt: &R,
+        alloc: Global,
+        next: &NextBatch<'_>,
+        workers: Option<Workers>,
+        gate: &G,
+        point: usize,
+    ) -> Result<(Vec<Reply>, Path), Memory>
+        requires newest { length self.old.store.points ≡ point + 1 }
+        requires marked { slice_get self.old.store.points point ≡ Some self.old.store.rows }
+        requires sound { IsSoundState self.old.catalog (met_by self.old next.now) }
+        ensures replies { IfOk result (λ done. done.0.items ≡ replies_by self.old next.now) }
+        ensures path { IfOk result (λ done. done.1 ≡ path_by_workers workers self.old next.now) }
+        ensures rows { OnOk result (self.new.store.rows ≡ rows_by self.old next.now) }
+        ensures points { self.new.store.points ≡ self.old.store.points }
+        ensures cards { self.new.catalog ≡ self.old.catalog }
+    {
+        let Some(workers) = workers else {
+            let replies = execute_sequential(alloc, &self.catalog, &mut self.store, next, gate)?;
+            return Ok((replies, Path::Sequential));
+        };
+        let crew = Crew { rt, workers, gate };
+        let path = match execute_parallel(alloc, &crew, &self.catalog, &mut self.store, next) {
+            Ok(replies) => match next.batch.verdict {
+                Verdict::Commit => return Ok((replies, Path::Parallel)),
+                Verdict::Rerun => Path::Verdict,
+            },
+            Err(ExecError::Strayed) => match next.batch.verdict {
+                Verdict::Commit => Path::Reran,
+                Verdict::Rerun => Path::Verdict,
+            },
+            Err(ExecError::Memory) => return Err(Memory),
+        };
+        rewind(alloc, &mut self.store, point)?;
+        let replies = execute_sequential(alloc, &self.catalog, &mut self.store, next, gate)?;
+        Ok((replies, path))
     }
-    outcome
+
+    /// The token of a batch that met the state with this stamp, made these replies and left the present rows.
+    fn token_of<R: Threads + Sync>(
+        &self,
+        rt: &R,
+        alloc: Global,
+        stamp: &Stamp,
+        replies: &[Reply],
+    ) -> Result<[u8; 32], Memory>
+        requires sequence { stamp.now.sequence < LAST_NUMBER }
+        requires numbers { stamp.now.next + length replies.now ≤ END_OF_NUMBERS }
+        ensures { IfOk result (λ token. token ≡ token_of (stamp.now.sequence + 1) stamp.now.token (catalog_digest self.now.catalog)
+            (root self.now.store.rows) (replies_digest stamp.now.next replies.now)) }
+    {
+        let tree = Tree::build(rt, alloc, &self.store)?;
+        let parts = TokenParts {
+            sequence: stamp.sequence + 1,
+            prior: stamp.token,
+            catalog: self.digest,
+            root: tree.root(),
+            replies: reply_digest(stamp.next, replies),
+        };
+        Ok(parts.token())
+    }
+
+    /// Executes a batch on the rows of the newest point, and records it.
+    fn recorded<R: Threads + Sync, G: Gate>(
+        &mut self,
+        rt: &R,
+        alloc: Global,
+        next: &NextBatch<'_>,
+        workers: Option<Workers>,
+        gate: &G,
+        point: usize,
+    ) -> Result<Record, Memory>
+        requires newest { length self.old.store.points ≡ point + 1 }
+        requires marked { slice_get self.old.store.points point ≡ Some self.old.store.rows }
+        requires sound { IsSoundState self.old.catalog (met_by self.old next.now) }
+        ensures record { IfOk result (IsRecordBy workers self.old next.now) }
+        ensures rows { OnOk result (self.new.store.rows ≡ rows_by self.old next.now) }
+        ensures points { self.new.store.points ≡ self.old.store.points }
+        ensures cards { self.new.catalog ≡ self.old.catalog }
+    {
+        let (replies, path) = self.replies_of(rt, alloc, next, workers, gate, point)?;
+        let token = self.token_of(rt, alloc, &next.stamp, &replies)?;
+        Ok(Record {
+            sequence: next.stamp.sequence + 1,
+            first: next.stamp.next,
+            replies,
+            token,
+            path,
+        })
+    }
+
+    /// Executes a batch. The rows that it met are a new point; where memory was refused, they are the present ones again, and
+    /// no point is new.
+    pub fn execute<R: Threads + Sync, G: Gate>(
+        &mut self,
+        rt: &R,
+        alloc: Global,
+        next: &NextBatch<'_>,
+        workers: Option<Workers>,
+        gate: &G,
+    ) -> Result<Record, Memory>
+        requires room { length self.old.store.points < POINTS }
+        requires sound { IsSoundState self.old.catalog (met_by self.old next.now) }
+        ensures record { IfOk result (IsRecordBy workers self.old next.now) }
+        ensures rows { OnOk result (self.new.store.rows ≡ rows_by self.old next.now) }
+        ensures points { OnOk result (self.new.store.points ≡ self.old.store.points ++ self.old.store.rows ∷ []) }
+        ensures cards { self.new.catalog ≡ self.old.catalog }
+        ensures old_rows { OnErr result (self.new.store.rows ≡ self.old.store.rows) }
+        ensures old_points { OnErr result (self.new.store.points ≡ self.old.store.points) }
+    {
+        let point = self.store.points();
+        mark(alloc, &mut self.store)?;
+        let outcome = self.recorded(rt, alloc, next, workers, gate, point);
+        if outcome.is_err() {
+            self.store.back_to(point).unwrap();
+        }
+        outcome
+    }
 }

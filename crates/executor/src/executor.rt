@@ -9,9 +9,9 @@ ghost use Rattle.executor.specs.declared.path.Path.TheVariants as path;
 ghost use Rattle.executor.specs.declared.refusal.Refusal.TheVariants as refusal;
 ghost use Rattle.tpcc_model.specs.Soundness.{IsSound};
 
-use crate::batch::execute_batch;
+use crate::engine::Engine;
 use crate::laws::sound_states;
-use crate::limits::requests_within;
+use crate::next_batch::{LAST_NUMBER, MOST_REQUESTS, NextBatch};
 use crate::opening::next_number;
 use crate::record::Record;
 use crate::refusal::Refusal;
@@ -26,21 +26,13 @@ use std::marker::Model;
 use std::thread::Threads;
 use token::{TokenParts, reply_digest};
 use tpcc_rows::memory::Memory;
-use workers::{Gate, NoGate, Workers};
-
-/// The last number of a request, and of a batch.
-pub(crate) const LAST_NUMBER: u64 = 999_999_999_999_999;
-
-/// A batch has at most so many requests.
-const MOST_REQUESTS: usize = 1024;
+use workers::{END_OF_NUMBERS, Gate, NoGate, Workers};
 
 /// A database between two batches, and the states before its uncommitted ones. A batch is uncommitted from its execution
 /// until it is committed.
 #[derive(Drop)]
 pub struct Executor {
-    catalog: Catalog,
-    catalog_digest: [u8; 32],
-    store: PointedStore,
+    engine: Engine,
     /// What was kept at each point of the store, the oldest first.
     earlier: ArrayVec<Stamp, POINTS>,
     present: Stamp,
@@ -54,12 +46,12 @@ impl Model for Executor {
     ghost coded = { line_code };
 
     ghost view = { λ e. record {
-      cards = e.catalog;
-      earlier = states_of e.store.points e.earlier.items;
-      present = state_of e.store.rows e.present;
+      cards = e.engine.catalog;
+      earlier = states_of e.engine.store.points e.earlier.items;
+      present = state_of e.engine.store.rows e.present;
     } };
 
-    ghost invariant = { λ e. IsExecutor e.catalog e.catalog_digest e.store.rows e.store.points e.earlier.items e.present };
+    ghost invariant = { λ e. IsExecutor e.engine e.earlier.items e.present };
 }
 
 impl Executor {
@@ -76,20 +68,22 @@ impl Executor {
         ensures sound { IfOk result (λ e. IsSoundState e.cards e.present) }
     {
         sound_states();
-        let catalog_digest = catalog.digest();
+        let digest = catalog.digest();
         let next = next_number(&store);
         let tree = Tree::build(rt, alloc, &store)?;
         let parts = TokenParts {
             sequence: 0,
             prior: [0; 32],
-            catalog: catalog_digest,
+            catalog: digest,
             root: tree.root(),
             replies: reply_digest(next, &[]),
         };
         Ok(Executor {
-            catalog,
-            catalog_digest,
-            store,
+            engine: Engine {
+                catalog,
+                digest,
+                store,
+            },
             earlier: ArrayVec::new(),
             present: Stamp {
                 next,
@@ -102,13 +96,13 @@ impl Executor {
     pub fn catalog(&self) -> &Catalog
         ensures { result.now ≡ self.now.cards }
     {
-        &self.catalog
+        &self.engine.catalog
     }
 
     pub fn store(&self) -> &PointedStore
         ensures { result.now.rows ≡ self.now.present.rows }
     {
-        &self.store
+        &self.engine.store
     }
 
     /// The number of the last batch; 0 before the first.
@@ -136,7 +130,7 @@ impl Executor {
     pub(crate) fn keep_sound(&self)
         ensures { IsSoundState self.now.cards self.now.present }
     {
-        let _ = &self.catalog;
+        let _ = &self.engine;
     }
 
     /// Why the batch isn't executed, whatever memory there is.
@@ -147,7 +141,7 @@ impl Executor {
         if count > MOST_REQUESTS {
             Some(Refusal::BatchTooLong)
         } else if self.present.sequence == LAST_NUMBER
-            || count as u64 > LAST_NUMBER + 1 - self.present.next
+            || count as u64 > END_OF_NUMBERS - self.present.next
         {
             Some(Refusal::NumbersExhausted)
         } else if self.earlier.len() >= POINTS {
@@ -176,19 +170,12 @@ impl Executor {
             return Err(refusal);
         }
         sound_states();
-        requests_within(batch.requests.as_slice());
-        batch.moment.seconds();
-        let record = execute_batch(
-            rt,
-            alloc,
-            &self.catalog,
-            self.catalog_digest,
-            &mut self.store,
-            &self.present,
+        let next = NextBatch {
             batch,
-            workers,
-            gate,
-        )?;
+            stamp: self.present,
+        };
+        next.keep_within();
+        let record = self.engine.execute(rt, alloc, &next, workers, gate)?;
         let token = record.token;
         self.earlier.push(self.present);
         self.present = Stamp {
@@ -254,7 +241,7 @@ impl Executor {
             Some(next) => next.sequence,
             None => self.present.sequence,
         };
-        self.store.drop_oldest().unwrap();
+        self.engine.store.drop_oldest().unwrap();
         self.earlier.remove(0);
         Ok(committed)
     }

@@ -4,9 +4,13 @@
 #![tactic(auto)]
 
 mod batch;
+mod crew;
+mod engine;
 mod executor;
 pub mod laws;
+mod level;
 mod limits;
+mod next_batch;
 mod opening;
 mod parallel;
 pub mod path;
@@ -17,6 +21,7 @@ mod sequential;
 mod stamp;
 
 pub use executor::Executor;
+pub use next_batch::{LAST_NUMBER, MOST_REQUESTS};
 pub use record::Record;
 pub use refusal::Refusal;
 pub use run::RunEnd;

@@ -1,14 +1,15 @@
 //! The number of the first request.
-ghost use Rattle.std.specs.Prelude.{◌≡◌, ◌≤◌, ◌+◌, unwrap_or};
+ghost use Rattle.std.specs.Prelude.{◌≡◌, ◌≤◌, unwrap_or};
 ghost use Rattle.tpcc_model.specs.Serial.{history_pick, next_number};
 ghost use Rattle.tpcc_rows.specs.Limits.{IsBetween};
 ghost use Rattle.tpcc_rows.specs.Picks.{greatest, picked};
 
-use crate::executor::LAST_NUMBER;
+use crate::next_batch::LAST_NUMBER;
 use rollback::PointedStore;
 use tpcc_rows::codes::LEAVES;
 use tpcc_rows::key::RowKey;
 use tpcc_rows::plain::RowStore;
+use workers::END_OF_NUMBERS;
 
 /// The greatest number of HISTORY on a page, 0 where there is none.
 #[tactic(auto, unfolding(tpcc_rows::specs::Picks::picked))]
@@ -29,7 +30,7 @@ fn last_on_page(page: &RowStore) -> u64
 #[tactic(auto, unfolding(tpcc_model::specs::Serial::next_number))]
 pub(crate) fn next_number(store: &PointedStore) -> u64
     ensures value { result ≡ next_number store.now.rows }
-    ensures range { IsBetween 1 (LAST_NUMBER + 1) result }
+    ensures range { IsBetween 1 END_OF_NUMBERS result }
 {
     let mut last = 0u64;
     for leaf in 0..LEAVES {

@@ -1,11 +1,14 @@
 //! The requests of a batch, executed one after the other.
-ghost use Rattle.std.specs.Prelude.{◌≡◌, ◌+◌, ◌≤◌, length, IfOk, OnOk};
-ghost use Rattle.tpcc_model.specs.Steps.{replies, rows_after, step};
+ghost use Rattle.std.specs.Prelude.{◌≡◌, IfOk, OnOk};
+ghost use Rattle.executor.specs.Lines.{state_of};
+ghost use Rattle.tpcc_model.specs.Serial.{batch_replies, batch_rows};
+ghost use Rattle.tpcc_model.specs.Steps.{step};
 ghost use Rattle.transactions.specs.Outcomes.{IsOutcome};
 
+use crate::next_batch::NextBatch;
 use catalog::Catalog;
 use requests::reply::Reply;
-use requests::request::{Batch, Request};
+use requests::request::Request;
 use rollback::PointedStore;
 use std::alloc::Global;
 use tpcc_rows::delta::Delta;
@@ -34,28 +37,25 @@ fn executed(
     }
 }
 
-/// Executes the requests of a batch one after the other, the first with this number, and makes the changes of each
-/// before the next. Where memory was refused, a beginning of the changes is made. The gate is told of each execution.
+/// Executes the requests of a batch one after the other, and makes the changes of each before the next. Where memory was
+/// refused, a beginning of the changes is made. The gate is told of each execution.
 #[tactic(auto, unfolding(tpcc_rows::specs::Changing::after))]
 pub(crate) fn execute_sequential<G: Gate>(
     alloc: Global,
     catalog: &Catalog,
     store: &mut PointedStore,
-    batch: &Batch,
-    first: u64,
+    next: &NextBatch<'_>,
     gate: &G,
 ) -> Result<Vec<Reply>, Memory>
-    requires low { 1 ≤ first }
-    requires high { first + length batch.now.requests ≤ 1000000000000000 }
-    ensures replies { IfOk result (λ v. v.items ≡ replies (record { cards = catalog.now; rows = store.old.rows }) batch.now.moment first batch.now.requests) }
-    ensures rows { OnOk result (store.new.rows ≡ rows_after (record { cards = catalog.now; rows = store.old.rows }) batch.now.moment first batch.now.requests) }
+    ensures replies { IfOk result (λ replies. replies.items ≡ batch_replies catalog.now (state_of store.old.rows next.now.stamp) next.now.batch.now) }
+    ensures rows { OnOk result (store.new.rows ≡ batch_rows catalog.now (state_of store.old.rows next.now.stamp) next.now.batch.now) }
     ensures points { store.new.points ≡ store.old.points }
 {
-    let mut replies = Vec::with_capacity(alloc, batch.requests.len())?;
-    for (place, request) in batch.requests.as_slice().iter().enumerate() {
-        let number = RequestNumber::new(first + place as u64).unwrap();
+    let mut replies = Vec::with_capacity(alloc, next.batch.requests.len())?;
+    for (place, request) in next.batch.requests.as_slice().iter().enumerate() {
+        let number = RequestNumber::new(next.stamp.next + place as u64).unwrap();
         gate.enter(place);
-        let done = executed(alloc, catalog, request, number, batch.moment, store);
+        let done = executed(alloc, catalog, request, number, next.batch.moment, store);
         gate.leave(place);
         let (reply, delta) = done?;
         store.apply(&delta)?;

@@ -8,6 +8,7 @@ use Rattle.executor.specs.Executions.{IsRecordOf, exhausts, refusal_for}
 use Rattle.executor.specs.Lines.{Line, extended}
 use Rattle.executor.specs.Paths.{path_of}
 use Rattle.executor.specs.States.{IsSoundState}
+use Rattle.executor.specs.declared.next_batch.TheConstants.{LAST_NUMBER, MOST_REQUESTS}
 use Rattle.executor.specs.declared.path.Path.{Path}
 use Rattle.executor.specs.declared.record.Record.{Record}
 use Rattle.executor.specs.declared.refusal.Refusal.TheVariants as refusal
@@ -17,6 +18,7 @@ use Rattle.runner.specs.Runs.{Completes, NumbersFit}
 use Rattle.runner.specs.Text.{batch_record_text, batch_text, completed_text, replies_text}
 use Rattle.tpcc_model.specs.Serial.{State, batch_replies}
 use Rattle.tpcc_model.specs.Steps.{steps_at}
+use Rattle.workers.specs.declared.batch_level.TheConstants.{END_OF_NUMBERS}
 
 -- ---- admitted
 -- where none of three reasons holds, the second doesn't
@@ -26,16 +28,16 @@ second_of false true room e = cc
 second_of false false room e = refl
 
 fit_by : (state : State) (batch : Batch) → exhausts state batch ≡ false → NumbersFit state batch
-fit_by state batch e = elim (cases_Bool (nat_lt 999999999999999 (state.sequence + 1))) [
+fit_by state batch e = elim (cases_Bool (nat_lt LAST_NUMBER (state.sequence + 1))) [
   | inl past ↦ absurd (let yes : true ≡ false = rw past at e in cc)
-  | inr sequence ↦ elim (cases_Bool (nat_lt 1000000000000000 (state.next + length batch.requests))) [
+  | inr sequence ↦ elim (cases_Bool (nat_lt END_OF_NUMBERS (state.next + length batch.requests))) [
     | inl past ↦ absurd (let yes : true ≡ false = rw (sequence, past) at e in cc)
-    | inr next ↦ (ltb-false 999999999999999 (state.sequence + 1) sequence, ltb-false 1000000000000000 (state.next + length batch.requests) next)
+    | inr next ↦ (ltb-false LAST_NUMBER (state.sequence + 1) sequence, ltb-false END_OF_NUMBERS (state.next + length batch.requests) next)
   ]
 ]
 
 pub admitted_fits : (most : ℕ) (line : Line) (batch : Batch) → refusal_for most line batch ≡ None → NumbersFit line.present batch
-admitted_fits most line batch e = fit_by line.present batch (second_of (nat_lt 1024 (length batch.requests)) (exhausts line.present batch) (nat_lt (length line.earlier) most) e)
+admitted_fits most line batch e = fit_by line.present batch (second_of (nat_lt MOST_REQUESTS (length batch.requests)) (exhausts line.present batch) (nat_lt (length line.earlier) most) e)
 
 pub completes : (old new : Line) (batch : Batch) → refusal_for 1 old batch ≡ None → new ≡ extended old batch → IsSoundState new.cards new.present → Completes old.cards old.present batch
 completes old new batch admitted line sound = (admitted_fits 1 old batch admitted, subst (λ (l : Line). IsSoundState l.cards l.present) line sound)

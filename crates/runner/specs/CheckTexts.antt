@@ -26,7 +26,8 @@ warehouse_count cards = length (filter_map (λ e. warehouse_pick e.0) (map.entri
 
 -- `ok WAREHOUSES ROWS TOKEN`
 abbrev pub check_text : Cards → State → List ℕ
-check_text cards state = codes "ok " ++ decimal (warehouse_count cards) ++ codes " " ++ decimal (length (map.entries state.rows)) ++ codes " " ++ token_digits state.token ++ codes "\n"
+check_text cards state =
+    codes "ok " ++ decimal (warehouse_count cards) ++ codes " " ++ decimal (length (map.entries state.rows)) ++ codes " " ++ token_digits state.token ++ codes "\n"
 
 -- the line of a database before any batch
 abbrev pub opening_text : Database → List ℕ

@@ -51,4 +51,5 @@ place_text (Some n) = codes " at record " ++ decimal n
 
 -- `eve-tpcc: <part>: <code> <Name>`, the condition or the record where there is one, and a line feed
 unfoldable pub fault_text : RunFault → List ℕ
-fault_text f = codes "eve-tpcc: " ++ part_of f ++ codes ": " ++ decimal (code_of f) ++ codes " " ++ name_of f ++ condition_text (condition_of f) ++ place_text (place_of f) ++ 10 ∷ []
+fault_text f =
+    codes "eve-tpcc: " ++ part_of f ++ codes ": " ++ decimal (code_of f) ++ codes " " ++ name_of f ++ condition_text (condition_of f) ++ place_text (place_of f) ++ 10 ∷ []

@@ -4,6 +4,7 @@ use Rattle.std.specs.Io.KnownBytes.{Appends, Keeps}
 use Rattle.catalog.specs.CardMap.{Cards}
 use Rattle.executor.specs.Headline.{Headline, all_serially}
 use Rattle.executor.specs.States.{IsSoundState}
+use Rattle.executor.specs.declared.next_batch.TheConstants.{LAST_NUMBER}
 use Rattle.executor.specs.declared.refusal.Refusal.TheVariants as refusal
 use Rattle.requests.specs.Batches.{Reading, clean, fault}
 use Rattle.records.specs.Io.{AppendsFront}
@@ -14,17 +15,18 @@ use Rattle.runner.specs.Text.{batch_text, text}
 use Rattle.runner.specs.declared.fault.RunFault.{RunFault}
 use Rattle.runner.specs.declared.fault.RunFault.TheVariants as run_fault
 use Rattle.tpcc_model.specs.Serial.{State, after_batch, serial}
+use Rattle.workers.specs.declared.batch_level.TheConstants.{END_OF_NUMBERS}
 
 -- the bytes that a sink took, where they are known
 abbrev pub Taken : Type 0
 Taken = Option (List ℕ)
 
--- the numbers of a batch and of its requests stay within the limit, 10^15 - 1
+-- the numbers of a batch and of its requests stay within the limit
 abbrev pub NumbersFit : State → Batch → Type 0
-NumbersFit state batch = (state.sequence + 1 ≤ 999999999999999) × (state.next + length batch.requests ≤ 1000000000000000)
+NumbersFit state batch = (state.sequence + 1 ≤ LAST_NUMBER) × (state.next + length batch.requests ≤ END_OF_NUMBERS)
 
 abbrev pub NumbersExhaust : State → Batch → Type 0
-NumbersExhaust state batch = (999999999999999 < state.sequence + 1) ⊎ (1000000000000000 < state.next + length batch.requests)
+NumbersExhaust state batch = (LAST_NUMBER < state.sequence + 1) ⊎ (END_OF_NUMBERS < state.next + length batch.requests)
 
 abbrev pub AllFit : Cards → State → List Batch → Type 0
 AllFit cards state [] = Unit {0}
@@ -57,7 +59,8 @@ TookSome cards state batches old new = (done rest : List Batch) × Began cards s
 -- the same, and the next batch would pass the limit of numbers
 abbrev pub TookUntilExhausted : Cards → State → List Batch → Taken → Taken → Type 0
 TookUntilExhausted cards state batches old new =
-    (done : List Batch) × (batch : Batch) × (rest : List Batch) × Began cards state batches old new done (batch ∷ rest) × NumbersExhaust (serial cards state done) batch
+    (done : List Batch) × (batch : Batch) × (rest : List Batch) × Began cards state batches old new done (batch ∷ rest)
+    × NumbersExhaust (serial cards state done) batch
 
 -- a beginning of the text of the first batches, which were completed: so a beginning of the text of all
 abbrev pub TookFront : Cards → State → List Batch → Taken → Taken → Type 0
@@ -76,7 +79,8 @@ LeavesBatch _ cards state batch old new = ⊥
 -- there is no other fault
 abbrev pub Left : RunFault → Cards → State → Reading → Taken → Taken → Type 0
 Left (run_fault.Read e) cards state reading old new =
-    ((reading.1 ≡ fault e) × AreCompleted cards state reading.0 × Appends old new (text cards state reading.0)) ⊎ ((e ≡ read_error.Memory) × TookSome cards state reading.0 old new)
+    ((reading.1 ≡ fault e) × AreCompleted cards state reading.0 × Appends old new (text cards state reading.0))
+    ⊎ ((e ≡ read_error.Memory) × TookSome cards state reading.0 old new)
 Left (run_fault.Exec refusal.NumbersExhausted) cards state reading old new = TookUntilExhausted cards state reading.0 old new
 Left (run_fault.Exec refusal.Memory) cards state reading old new = TookSome cards state reading.0 old new
 Left run_fault.Memory cards state reading old new = TookSome cards state reading.0 old new

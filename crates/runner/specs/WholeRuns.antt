@@ -32,7 +32,9 @@ IsInputFault e batch_bytes = (e ≡ read_error.Memory) ⊎ (e ≡ read_error.Rea
 
 -- what a run on a database leaves that ended early
 abbrev pub LeavesDatabase : RunFault → Database → List ℕ → Taken → Taken → Type 0
-LeavesDatabase (run_fault.Read e) db batch_bytes old new = (IsInputFault e batch_bytes × Keeps old new) ⊎ Left (run_fault.Read e) db.cards (opening db.cards db.rows) (batches batch_bytes) old new
+LeavesDatabase (run_fault.Read e) db batch_bytes old new =
+    (IsInputFault e batch_bytes × Keeps old new)
+    ⊎ Left (run_fault.Read e) db.cards (opening db.cards db.rows) (batches batch_bytes) old new
 LeavesDatabase fault db batch_bytes old new = Left fault db.cards (opening db.cards db.rows) (batches batch_bytes) old new
 
 -- the faults of a run on a database

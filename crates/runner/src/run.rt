@@ -35,8 +35,10 @@ fn run_database<R: Threads + Sync, B: Source, S: Sink, G: Gate>(
     requires points { store.points ≡ [] }
     requires batches { B.failed batches.old < 2 ^ 63 }
     requires sink { S.failed sink.old < 2 ^ 63 }
-    ensures ok { IfOk result (λ count. IfSome (B.left batches.old) (λ batch_bytes. RanOn (record { cards = catalog; rows = store.rows }) batch_bytes (S.taken sink.old) (S.taken sink.new) count)) }
-    ensures err { IfErr result (λ e. IfSome (B.left batches.old) (λ batch_bytes. LeavesDatabase e (record { cards = catalog; rows = store.rows }) batch_bytes (S.taken sink.old) (S.taken sink.new))) }
+    ensures ok { IfOk result (λ count. IfSome (B.left batches.old) (λ batch_bytes.
+        RanOn (record { cards = catalog; rows = store.rows }) batch_bytes (S.taken sink.old) (S.taken sink.new) count)) }
+    ensures err { IfErr result (λ e. IfSome (B.left batches.old) (λ batch_bytes.
+        LeavesDatabase e (record { cards = catalog; rows = store.rows }) batch_bytes (S.taken sink.old) (S.taken sink.new))) }
     ensures kinds { IfErr result IsOfDatabase }
     ensures batches_failures { B.failed batches.new ≡ B.failed batches.old + (if is_batches_read result then 1 else 0) }
     ensures sink_failures { S.failed sink.new ≡ S.failed sink.old + (if is_write result then 1 else 0) }
@@ -74,8 +76,10 @@ pub fn run_text<R: Threads + Sync, I: Source, B: Source, S: Sink, G: Gate>(
     requires image { I.failed image.old < 2 ^ 63 }
     requires batches { B.failed batches.old < 2 ^ 63 }
     requires sink { S.failed sink.old < 2 ^ 63 }
-    ensures ok { IfOk result (λ count. IfSome (I.left image.old) (λ image_bytes. IfSome (B.left batches.old) (λ batch_bytes. RanWhole image_bytes batch_bytes (S.taken sink.old) (S.taken sink.new) count))) }
-    ensures err { IfErr result (λ e. IfSome (I.left image.old) (λ image_bytes. IfSome (B.left batches.old) (λ batch_bytes. LeavesRun e image_bytes batch_bytes (S.taken sink.old) (S.taken sink.new)))) }
+    ensures ok { IfOk result (λ count. IfSome (I.left image.old) (λ image_bytes. IfSome (B.left batches.old) (λ batch_bytes.
+        RanWhole image_bytes batch_bytes (S.taken sink.old) (S.taken sink.new) count))) }
+    ensures err { IfErr result (λ e. IfSome (I.left image.old) (λ image_bytes. IfSome (B.left batches.old) (λ batch_bytes.
+        LeavesRun e image_bytes batch_bytes (S.taken sink.old) (S.taken sink.new)))) }
 
     // An end that failed is the reason of the answer, and every failure is answered.
     ensures image_failures { I.failed image.new ≡ I.failed image.old + (if is_image_read result then 1 else 0) }

@@ -9,7 +9,7 @@ ghost use Rattle.runner.specs.Text.{batch_text};
 
 use crate::fault::RunFault;
 use crate::text::batch_text;
-use executor::Executor;
+use executor::{Executor, MOST_REQUESTS};
 use records::io::Sink;
 use records::slurp::push_all;
 use requests::batch_reader::BatchReader;
@@ -30,7 +30,7 @@ fn serve_batch<R: Threads + Sync, S: Sink, G: Gate>(
 ) -> Result<(), RunFault>
     requires alone { executor.old.earlier ≡ [] }
     requires low { 1 ≤ executor.old.present.next }
-    requires few { length batch.now.requests ≤ 1024 }
+    requires few { length batch.now.requests ≤ MOST_REQUESTS }
     requires count { S.failed sink.old < 2 ^ 63 }
     ensures completed { OnOk result (Completes executor.old.cards executor.old.present batch.now) }
     ensures line { OnOk result (executor.new ≡ committed (extended executor.old batch.now)) }

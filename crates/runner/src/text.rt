@@ -13,6 +13,7 @@ use requests::reply_text::write_reply;
 use std::alloc::Global;
 use tpcc_rows::id::RequestNumber;
 use tpcc_rows::memory::Memory;
+use workers::END_OF_NUMBERS;
 
 /// Writes the records of replies, the first with this number.
 fn write_replies(
@@ -22,7 +23,7 @@ fn write_replies(
     text: &mut Vec<u8>,
 ) -> Result<(), Memory>
     requires low { 1 ≤ first }
-    requires high { first + length replies.now ≤ 1000000000000000 }
+    requires high { first + length replies.now ≤ END_OF_NUMBERS }
     ensures { OnOk result (text.new.items ≡ text.old.items ++ replies_text first replies.now) }
 {
     let mut next = first;
@@ -104,8 +105,9 @@ fn batch_record_text(
 /// The text of a batch that did this.
 pub(crate) fn batch_text(alloc: Global, done: &Record) -> Result<Vec<u8>, Memory>
     requires low { 1 ≤ done.now.first }
-    requires high { done.now.first + length done.now.replies.items ≤ 1000000000000000 }
-    ensures { IfOk result (λ v. v.items ≡ replies_text done.now.first done.now.replies.items ++ batch_record_text done.now.sequence done.now.path done.now.token) }
+    requires high { done.now.first + length done.now.replies.items ≤ END_OF_NUMBERS }
+    ensures { IfOk result (λ v. v.items ≡ replies_text done.now.first done.now.replies.items
+        ++ batch_record_text done.now.sequence done.now.path done.now.token) }
 {
     let mut text = Vec::new(alloc);
     write_replies(alloc, done.first, done.replies.as_slice(), &mut text)?;

@@ -5,9 +5,7 @@ use Rattle.std.proofs.lemmas.List.Concat.{flat_map-append}
 use Rattle.std.proofs.lemmas.List.Elements.{All-append, All-cons, All-head, All-map, All-nil, All-same, All-tail, All-weaker}
 use Rattle.std.proofs.lemmas.List.Sums.{sum_by-append, sum_by-cons}
 use Rattle.std.specs.List.{flat_map}
-use Rattle.tpcc_rows.specs.RowMap.{Rows}
 use Rattle.tpcc_rows.specs.declared.memory.Memory.{Memory}
-use Rattle.catalog.specs.CardMap.{Cards}
 use Rattle.tickets.proofs.Lists.{get-below}
 use Rattle.tickets.specs.Once.{times}
 use Rattle.tickets.specs.Seats.{HasStoppedQuietly, IsSeatOf, entry_of}
@@ -89,14 +87,14 @@ drawn_times ticket (part ∷ parts) all =
     ∙ (λ i. times ticket (sym (All-head Lists part parts all) i) + drawn_times ticket parts (All-tail Lists part parts all) i)
     ∙ sym (sum_by-cons (λ seat. times ticket (entry_of seat).drawn) part.0 (map seat_in parts))
 
-pub all_worked : (desk : Desk) (cards : Cards) (rows : Rows) (level : Level) (given : List (Result Part Memory)) (seats : List Seat) (drawn : List Drawn)
-    → All (IsPartOf desk cards rows level) given → AreGathered given seats drawn → AreWorked desk cards rows level (length given) seats drawn
-all_worked desk cards rows level given seats drawn are all =
-    let P = IsPart desk cards rows level in
-    let Q = IsOutcomeIn cards rows level in
+pub all_worked : (desk : Desk) (level : Level) (given : List (Result Part Memory)) (seats : List Seat) (drawn : List Drawn)
+    → All (IsPartOf desk level) given → AreGathered given seats drawn → AreWorked desk level (length given) seats drawn
+all_worked desk level given seats drawn are all =
+    let P = IsPart desk level in
+    let Q = IsOutcomeIn level in
     let IsBelow : Drawn → Type 0 = λ one. ticket_of one < length level.places.now in
     let parts = all.parts in
-    let each : All P parts = all_ok P parts (All-same (IsPartOf desk cards rows level) _ _ (sym all.given_are) are) in
+    let each : All P parts = all_ok P parts (All-same (IsPartOf desk level) _ _ (sym all.given_are) are) in
     record {
       count = ap length all.seats_are ∙ length-map parts seat_in ∙ sym (length-map parts Ok) ∙ ap length (sym all.given_are);
       own = All-same (IsSeatOf desk) _ _ all.seats_are (All-map (IsSeatOf desk) seat_in parts (All-weaker P (λ part. IsSeatOf desk (seat_in part)) (λ part is. is.own) parts each));

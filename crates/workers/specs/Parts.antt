@@ -52,8 +52,8 @@ abbrev pub IsOutcomeOf : Cards → Rows → Batch → ℕ → List (Footprint Gr
 IsOutcomeOf cards rows batch first footprints places drawn = CameOfTicket cards rows batch.moment (jobs first batch.requests footprints) places drawn
 
 -- and so of a level of a batch
-abbrev pub IsOutcomeIn : Cards → Rows → Level → Drawn → Type 0
-IsOutcomeIn cards rows level drawn = IsOutcomeOf cards rows level.batch.now level.first level.footprints.now level.places.now drawn
+abbrev pub IsOutcomeIn : Level → Drawn → Type 0
+IsOutcomeIn level = IsOutcomeOf level.catalog.now level.store.now.rows level.batch.now level.first level.footprints.now level.places.now
 
 -- ---- one worker
 -- which ticket it raises: that of a place that strays, which is its last, or none where none strays
@@ -65,15 +65,15 @@ Raises (drawn ∷ rest) raised = MatchBool (is_stray drawn.1) ((rest ≡ []) × 
 abbrev pub Part : Type 0
 Part = Seat × Vec Drawn Global
 
-pub record IsPart (desk : Desk) (cards : Cards) (rows : Rows) (level : Level) (part : Part) : Type 0 where
+pub record IsPart (desk : Desk) (level : Level) (part : Part) : Type 0 where
   pub own : IsSeatOf desk part.0
   pub ended : has_stopped (entry_of part.0) ≡ true
   pub drawn : (entry_of part.0).drawn ≡ map ticket_of part.1.items
-  pub each : All (IsOutcomeIn cards rows level) part.1.items
+  pub each : All (IsOutcomeIn level) part.1.items
   pub raised : Raises part.1.items (entry_of part.0).raised
 
-abbrev pub IsPartOf : Desk → Cards → Rows → Level → Result Part Memory → Type 0
-IsPartOf desk cards rows level given = IfOk given (IsPart desk cards rows level)
+abbrev pub IsPartOf : Desk → Level → Result Part Memory → Type 0
+IsPartOf desk level given = IfOk given (IsPart desk level)
 
 -- ---- all workers
 -- all seats that were given back, and all that was drawn
@@ -88,10 +88,10 @@ abbrev pub AreQuiet : List Drawn → Type 0
 AreQuiet = All (λ one. is_stray one.1 ≡ false)
 
 -- all seats are given back, so many, with all that was drawn by them
-pub record AreWorked (desk : Desk) (cards : Cards) (rows : Rows) (level : Level) (workers : ℕ) (seats : List Seat) (drawn : List Drawn) : Type 0 where
+pub record AreWorked (desk : Desk) (level : Level) (workers : ℕ) (seats : List Seat) (drawn : List Drawn) : Type 0 where
   pub count : length seats ≡ workers
   pub own : All (IsSeatOf desk) seats
-  pub each : All (IsOutcomeIn cards rows level) drawn
+  pub each : All (IsOutcomeIn level) drawn
   pub below : All (λ one. ticket_of one < length level.places.now) drawn
   pub tickets : (ticket : ℕ) → times ticket (map ticket_of drawn) ≡ sum_by (λ seat. times ticket (entry_of seat).drawn) seats
   -- where no place strays, each worker has stopped and raised none

@@ -5,6 +5,7 @@ ghost use Rattle.tickets.specs.Seats.{IsNewSeatOf, places_of};
 ghost use Rattle.tickets.specs.declared.size.TheConstants.{MOST_PLACES};
 ghost use Rattle.workers.specs.LevelEnds.{IsEndOf};
 ghost use Rattle.workers.specs.Parts.{AreWorked, IsPartOf};
+ghost use Rattle.workers.specs.declared.batch_level.TheConstants.{END_OF_NUMBERS};
 
 use crate::batch_level::Level;
 use crate::filing::{gathered, in_order, stray_among};
@@ -34,8 +35,6 @@ pub enum LevelEnd {
 fn run_workers<R: Threads + Sync, G: Gate>(
     rt: &R,
     alloc: Global,
-    catalog: &Catalog,
-    store: &PointedStore,
     level: &Level<'_>,
     desk: &Desk,
     seats: Vec<Seat>,
@@ -43,15 +42,15 @@ fn run_workers<R: Threads + Sync, G: Gate>(
 ) -> Result<(Vec<Seat>, Vec<(usize, Outcome)>), Memory>
     requires own { All (IsNewSeatOf desk.now) seats.items }
     requires size { places_of desk.now ≡ length level.now.places.now }
-    ensures { IfOk result (λ all. AreWorked desk.now catalog.now store.now.rows level.now (vec_len seats) all.0.items all.1.items) }
+    ensures { IfOk result (λ all. AreWorked desk.now level.now (vec_len seats) all.0.items all.1.items) }
 {
     let parts = thread::map_vec(
         rt,
         seats,
         &|seat: Seat| -> Result<(Seat, Vec<(usize, Outcome)>), Memory>
             requires { IsNewSeatOf desk.now seat × (places_of desk.now ≡ length level.now.places.now) }
-            ensures { IsPartOf desk.entry.now catalog.entry.now store.entry.now.rows level.entry.now result }
-        { run_part(alloc, catalog, store, level, desk, seat, gate) },
+            ensures { IsPartOf desk.entry.now level.entry.now result }
+        { run_part(alloc, level, desk, seat, gate) },
     )?;
     gathered(alloc, parts)
 }
@@ -79,18 +78,20 @@ pub fn run_level<R: Threads + Sync, G: Gate>(
     requires there { All (λ place. place < length batch.now.requests) places.now }
     requires each { length footprints.now ≡ length batch.now.requests }
     requires low { 1 ≤ first }
-    requires high { first + length batch.now.requests ≤ 1000000000000000 }
+    requires high { first + length batch.now.requests ≤ END_OF_NUMBERS }
     ensures { IfOk result (IsEndOf catalog.now store.now.rows batch.now first footprints.now places.now) }
 {
     let count = workers.count().min(places.len());
     let (desk, seats) = Desk::new(alloc, places.len(), count)?;
     let level = Level {
+        catalog,
+        store,
         batch,
         first,
         places,
         footprints,
     };
-    let (seats, drawn) = run_workers(rt, alloc, catalog, store, &level, &desk, seats, gate)?;
+    let (seats, drawn) = run_workers(rt, alloc, &level, &desk, seats, gate)?;
     if let Some(place) = stray_among(places, &drawn) {
         return Ok(LevelEnd::Strayed(place));
     }

@@ -2,6 +2,7 @@
 ghost use Rattle.std.specs.Prelude.{◌≡◌, ◌+◌, ◌<◌, ◌≤◌, ◌++◌, All, IfOk, None, OnErr, OnOk, false, length, map, true};
 ghost use Rattle.tickets.specs.Entries.{has_stopped};
 ghost use Rattle.tickets.specs.Seats.{IsNewSeatOf, IsSeatOf, entry_of, places_of};
+ghost use Rattle.workers.specs.declared.batch_level.TheConstants.{END_OF_NUMBERS};
 ghost use Rattle.workers.specs.Parts.{IsOutcomeIn, IsOutcomeOf, IsPartOf, Raises, is_stray, ticket_of};
 
 use crate::batch_level::Level;
@@ -36,17 +37,15 @@ impl Outcome {
 /// Executes the request at a ticket's place.
 fn execute_ticket<G: Gate>(
     alloc: Global,
-    catalog: &Catalog,
-    store: &PointedStore,
     level: &Level<'_>,
     ticket: usize,
     gate: &G,
 ) -> Result<Outcome, Memory>
     requires { ticket < length level.now.places.now }
-    ensures { IfOk result (λ outcome. IsOutcomeIn catalog.now store.now.rows level.now (ticket, outcome)) }
+    ensures { IfOk result (λ outcome. IsOutcomeIn level.now (ticket, outcome)) }
 {
     let placed = request_at(level, level.places[ticket]);
-    match execute_placed(alloc, catalog, store, level.batch.moment, placed, gate) {
+    match execute_placed(alloc, level, placed, gate) {
         Ok(done) => Ok(Outcome::Done(done)),
         Err(ExecError::Strayed) => Ok(Outcome::Strayed),
         Err(ExecError::Memory) => Err(Memory),
@@ -56,8 +55,6 @@ fn execute_ticket<G: Gate>(
 /// Draws and executes until none is left, all are to stop, or a place strays, which it raises.
 fn work_through<G: Gate>(
     alloc: Global,
-    catalog: &Catalog,
-    store: &PointedStore,
     level: &Level<'_>,
     desk: &Desk,
     seat: &mut Seat,
@@ -69,7 +66,7 @@ fn work_through<G: Gate>(
     ensures own { IsSeatOf desk.now seat.new }
     ensures ended { OnOk result (has_stopped (entry_of seat.new) ≡ true) }
     ensures drawn { IfOk result (λ part. (entry_of seat.new).drawn ≡ (entry_of seat.old).drawn ++ map ticket_of part.items) }
-    ensures each { IfOk result (λ part. All (IsOutcomeIn catalog.now store.now.rows level.now) part.items) }
+    ensures each { IfOk result (λ part. All (IsOutcomeIn level.now) part.items) }
     ensures raised { IfOk result (λ part. Raises part.items (entry_of seat.new).raised) }
     ensures err { OnErr result ((entry_of seat.new).raised ≡ None) }
 {
@@ -82,7 +79,7 @@ fn work_through<G: Gate>(
         if ticket >= level.places.len() {
             return Ok(part);
         }
-        let outcome = execute_ticket(alloc, catalog, store, level, ticket, gate)?;
+        let outcome = execute_ticket(alloc, level, ticket, gate)?;
         let strayed = outcome.is_stray();
         part.push((ticket, outcome))?;
         if strayed {
@@ -113,7 +110,7 @@ pub fn run_seat<G: Gate>(
     requires there { All (λ place. place < length batch.now.requests) places.now }
     requires each { length footprints.now ≡ length batch.now.requests }
     requires low { 1 ≤ first }
-    requires high { first + length batch.now.requests ≤ 1000000000000000 }
+    requires high { first + length batch.now.requests ≤ END_OF_NUMBERS }
     ensures own { IsSeatOf desk.now seat.new }
     ensures ended { OnOk result (has_stopped (entry_of seat.new) ≡ true) }
     ensures drawn { IfOk result (λ part. (entry_of seat.new).drawn ≡ (entry_of seat.old).drawn ++ map ticket_of part.items) }
@@ -122,19 +119,19 @@ pub fn run_seat<G: Gate>(
     ensures err { OnErr result ((entry_of seat.new).raised ≡ None) }
 {
     let level = Level {
+        catalog,
+        store,
         batch,
         first,
         places,
         footprints,
     };
-    work_through(alloc, catalog, store, &level, desk, seat, gate)
+    work_through(alloc, &level, desk, seat, gate)
 }
 
 /// The same by a seat that a worker has for itself, and gives back.
 pub(crate) fn run_part<G: Gate>(
     alloc: Global,
-    catalog: &Catalog,
-    store: &PointedStore,
     level: &Level<'_>,
     desk: &Desk,
     mut seat: Seat,
@@ -142,8 +139,8 @@ pub(crate) fn run_part<G: Gate>(
 ) -> Result<(Seat, Vec<(usize, Outcome)>), Memory>
     requires own { IsNewSeatOf desk.now seat }
     requires size { places_of desk.now ≡ length level.now.places.now }
-    ensures { IsPartOf desk.now catalog.now store.now.rows level.now result }
+    ensures { IsPartOf desk.now level.now result }
 {
-    let part = work_through(alloc, catalog, store, level, desk, &mut seat, gate)?;
+    let part = work_through(alloc, level, desk, &mut seat, gate)?;
     Ok((seat, part))
 }

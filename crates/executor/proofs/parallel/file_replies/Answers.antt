@@ -1,6 +1,7 @@
 use Rattle.std.proofs.Common.{rules, ◌≡◌, ◌+◌, ◌<◌, ◌≤◌, List, [], ◌∷◌, ℕ, IsOk, map, subst, arith}
 use Rattle.gather.specs.Books.{with_reply}
 use Rattle.requests.specs.declared.reply.Reply.{Reply}
+use Rattle.workers.specs.declared.batch_level.TheConstants.{END_OF_NUMBERS}
 use Rattle.workers.specs.declared.placed_request.PlaceOutcome.{PlaceOutcome}
 use Rattle.executor.specs.Filing.{Awaits, FilesEach}
 use Rattle.executor.proofs.Filing.{FilesRest, all_behind, awaited_behind, file_one, files_more, first_awaited, is_ok_where_awaited, kept_more, not_filed, rising_behind, where_ok}
@@ -38,7 +39,7 @@ loop-outcome-preserved c =
     let told_here : FilesEach ((c.args.first + one.place, one.reply) ∷ []) book c.file.new.self =
     subst (λ (n : ℕ). FilesEach ((n, one.reply) ∷ []) book c.file.new.self) numbered filed in
     record {
-      within = all_behind (λ (done : PlaceOutcome). c.args.first + done.place < 1000000000000000) before left one are c.loop-outcome.invariant.within;
+      within = all_behind (λ (done : PlaceOutcome). c.args.first + done.place < END_OF_NUMBERS) before left one are c.loop-outcome.invariant.within;
       rising = rising_behind one before left are c.loop-outcome.invariant.rising;
       awaited = awaited_behind book c.file.new.self c.unwrap-number.result one.reply one before left here is are c.loop-outcome.invariant.rising c.loop-outcome.invariant.awaited;
       filed =

@@ -9,15 +9,15 @@ use Rattle.executor.proofs.Filing.{FilesRest}
 use Rattle.executor.proofs.parallel.run_levels.Given as goal
 
 -- the levels that are left come to what all come to
-abbrev pub invariant-loop-level : goal.invariant-loop-level
-invariant-loop-level g l =
-    let machine = tpcc l.catalog l.batch.moment in
-    let all = levels_by l.first l.batch.requests l.footprints in
-    let left = map (jobs_at (jobs l.first l.batch.requests l.footprints)) (drop l.level (cut_by l.footprints)) in
+abbrev pub invariant-loop-index : goal.invariant-loop-index
+invariant-loop-index g l =
+    let machine = tpcc l.catalog l.plan.batch.now.moment in
+    let all = levels_by l.plan.first l.plan.batch.now.requests l.plan.footprints.now in
+    let left = map (jobs_at (jobs l.plan.first l.plan.batch.now.requests l.plan.footprints.now)) (drop l.index (cut_by l.plan.footprints.now)) in
     record {
       within : strays machine l.store.rows left ≡ strays machine l.fn.store.rows all;
       rows : run_rows machine l.store.rows left ≡ run_rows machine l.fn.store.rows all;
-      filed : FilesRest (run_replies machine l.fn.store.rows all) (run_replies machine l.store.rows left) (blank l.first (length l.batch.requests)) l.book;
-      awaited : (level place : ℕ) (places : List ℕ) → l.level ≤ level → slice_get (cut_by l.footprints) level ≡ Some places → Has places place → Awaits l.book place;
+      filed : FilesRest (run_replies machine l.fn.store.rows all) (run_replies machine l.store.rows left) (blank l.plan.first (length l.plan.batch.now.requests)) l.book;
+      awaited : (level place : ℕ) (places : List ℕ) → l.index ≤ level → slice_get (cut_by l.plan.footprints.now) level ≡ Some places → Has places place → Awaits l.book place;
       points : l.store.points ≡ l.fn.store.points;
     }

@@ -6,9 +6,9 @@ use Rattle.executor.proofs.executor.Executor.commit.Goals as goal
 
 pub returns-clause-sequence : goal.returns-clause-sequence
 returns-clause-sequence c =
-    let points = c.self.inside.store.points in
+    let points = c.self.inside.engine.store.points in
     let stamps = c.self.inside.earlier.items in
-    let present = state_of c.self.inside.store.rows c.self.inside.present in
+    let present = state_of c.self.inside.engine.store.rows c.self.inside.present in
     sym (ap (λ (l : Line). slice_get (map (λ state. state.sequence) (states l)) 1) c.self.view_is)
     ∙ elim c.match-get.branch [
       | in-Some w ↦

@@ -6,14 +6,13 @@ use Rattle.executor.specs.declared.stamp.Stamp.{Stamp}
 use Rattle.executor.proofs.Openings.{opening_stamp}
 use Rattle.executor.proofs.executor.Executor.new.Goals as goal
 
-pub invariant_of-result : goal.invariant_of-result
-invariant_of-result g c =
+pub invariant_of-result-2 : goal.invariant_of-result-2
+invariant_of-result-2 g c =
     let rows = c.args.store.rows in
     let stamp : Stamp = record { next = c.next_number-next.result; sequence = 0; token = c.token.result } in
     let state : state_of rows stamp ≡ opening c.args.catalog rows =
-    opening_stamp c.args.catalog rows stamp c.digest-catalog_digest.result c.root.result c.reply_digest.result c.next_number-next.ensures.value c.digest-catalog_digest.ensures (c.root.ensures rows c.in_ok-tree.ensures) c.reply_digest.ensures c.token.ensures in
+    opening_stamp c.args.catalog rows stamp c.digest-digest.result c.root.result c.reply_digest.result c.next_number-next.ensures.value c.digest-digest.ensures (c.root.ensures rows c.in_ok-tree.ensures) c.reply_digest.ensures c.token.ensures in
     record {
-      of_catalog = c.digest-catalog_digest.ensures;
       stamped = ap length c.new.ensures ∙ sym (ap length c.requires.points);
       sound = subst (IsSoundState c.args.catalog) (sym state) (c.sound_states.ensures.opening (record { cards = c.args.catalog; rows = rows }) c.requires.sound);
       next_within = c.next_number-next.ensures.range;
@@ -25,7 +24,7 @@ returns-clause-line g c =
     let rows = c.args.store.rows in
     let stamp : Stamp = record { next = c.next_number-next.result; sequence = 0; token = c.token.result } in
     let state : state_of rows stamp ≡ opening c.args.catalog rows =
-    opening_stamp c.args.catalog rows stamp c.digest-catalog_digest.result c.root.result c.reply_digest.result c.next_number-next.ensures.value c.digest-catalog_digest.ensures (c.root.ensures rows c.in_ok-tree.ensures) c.reply_digest.ensures c.token.ensures in
+    opening_stamp c.args.catalog rows stamp c.digest-digest.result c.root.result c.reply_digest.result c.next_number-next.ensures.value c.digest-digest.ensures (c.root.ensures rows c.in_ok-tree.ensures) c.reply_digest.ensures c.token.ensures in
     ap₂ (λ (earlier : List State) (present : State). let l : Line = record { cards = c.args.catalog; earlier = earlier; present = present } in l) (ap (λ points. states_of points c.new.result.items) c.requires.points) state
 
 pub returns-clause-sound : goal.returns-clause-sound
@@ -33,5 +32,5 @@ returns-clause-sound g c =
     let rows = c.args.store.rows in
     let stamp : Stamp = record { next = c.next_number-next.result; sequence = 0; token = c.token.result } in
     let state : state_of rows stamp ≡ opening c.args.catalog rows =
-    opening_stamp c.args.catalog rows stamp c.digest-catalog_digest.result c.root.result c.reply_digest.result c.next_number-next.ensures.value c.digest-catalog_digest.ensures (c.root.ensures rows c.in_ok-tree.ensures) c.reply_digest.ensures c.token.ensures in
+    opening_stamp c.args.catalog rows stamp c.digest-digest.result c.root.result c.reply_digest.result c.next_number-next.ensures.value c.digest-digest.ensures (c.root.ensures rows c.in_ok-tree.ensures) c.reply_digest.ensures c.token.ensures in
     subst (IsSoundState c.args.catalog) (sym state) (c.sound_states.ensures.opening (record { cards = c.args.catalog; rows = rows }) c.requires.sound)

@@ -1,0 +1,51 @@
+-- What an executor is left as by the execution of a batch.
+use Rattle.std.proofs.Common.{◌≡◌, ◌∙◌, ◌+◌, ◌++◌, ℕ, List, [], ◌∷◌, ap, length, refl, subst, sym}
+use Rattle.catalog.specs.CardMap.{Cards}
+use Rattle.requests.specs.declared.request.Batch.{Batch}
+use Rattle.tpcc_model.specs.Serial.{after_batch, batch_rows}
+use Rattle.executor.specs.Executions.{IsRecordOf}
+use Rattle.executor.specs.Laws.{BatchesKeep}
+use Rattle.executor.specs.Lines.{Line, extended, state_of, states_of}
+use Rattle.executor.specs.States.{AreWithinLimits, IsSoundState}
+use Rattle.executor.specs.declared.engine.Engine.{Engine}
+use Rattle.executor.specs.declared.path.Path.{Path}
+use Rattle.executor.specs.declared.record.Record.{Record}
+use Rattle.executor.specs.declared.stamp.Stamp.{Stamp}
+use Rattle.executor.proofs.LineFacts.{states_of-append}
+
+abbrev pub line_of : Engine → List Stamp → Stamp → Line
+line_of engine stamps stamp = record { cards = engine.catalog; earlier = states_of engine.store.points stamps; present = state_of engine.store.rows stamp }
+
+-- the engine was left so by a batch that met this stamp, whose record tells the stamp after it
+pub record IsLeftBy (old new : Engine) (stamp now : Stamp) (batch : Batch) (how : Path) (r : Record) : Type 0 where
+  pub told : IsRecordOf old.catalog (state_of old.store.rows stamp) batch how r
+  pub rows : new.store.rows ≡ batch_rows old.catalog (state_of old.store.rows stamp) batch
+  pub points : new.store.points ≡ old.store.points ++ old.store.rows ∷ []
+  pub cards : new.catalog ≡ old.catalog
+  pub next : now.next ≡ stamp.next + length batch.requests
+  pub sequence : now.sequence ≡ r.sequence
+  pub token : now.token ≡ r.token
+
+pub left_by : (old new : Engine) (stamp : Stamp) (batch : Batch) (how : Path) (r : Record) (count : ℕ) → IsRecordOf old.catalog (state_of old.store.rows stamp) batch how r
+    → new.store.rows ≡ batch_rows old.catalog (state_of old.store.rows stamp) batch → new.store.points ≡ old.store.points ++ old.store.rows ∷ [] → new.catalog ≡ old.catalog → count ≡ length batch.requests
+    → IsLeftBy old new stamp (record { next = stamp.next + count; sequence = r.sequence; token = r.token }) batch how r
+left_by old new stamp batch how r count told rows points cards counted =
+    record { told = told; rows = rows; points = points; cards = cards; next = ap (λ (n : ℕ). stamp.next + n) counted; sequence = refl; token = refl }
+
+module _ (old new : Engine) (stamp now : Stamp) (batch : Batch) (how : Path) (r : Record) (left : IsLeftBy old new stamp now batch how r) where
+  present_after : state_of new.store.rows now ≡ after_batch old.catalog (state_of old.store.rows stamp) batch
+  present_after =
+      let sequence = left.sequence ∙ left.told.sequence in
+      let token = left.token ∙ left.told.token in
+      (λ i. record { rows = left.rows i; next = left.next i; sequence = sequence i; token = token i })
+
+  pub line_after : (stamps more : List Stamp) → length stamps ≡ length old.store.points → more ≡ stamps ++ stamp ∷ [] → line_of new more now ≡ extended (line_of old stamps stamp) batch
+  line_after stamps more same kept =
+      let earlier : states_of new.store.points more ≡ states_of old.store.points stamps ++ state_of old.store.rows stamp ∷ [] =
+      (λ i. states_of (left.points i) (kept i)) ∙ states_of-append old.store.points stamps old.store.rows stamp same in
+      (λ i. record { cards = left.cards i; earlier = earlier i; present = present_after i })
+
+  pub sound_after : BatchesKeep → IsSoundState old.catalog (state_of old.store.rows stamp) → AreWithinLimits batch.moment stamp.next batch.requests → IsSoundState new.catalog (state_of new.store.rows now)
+  sound_after keep sound limits =
+      subst (λ (cards : Cards). IsSoundState cards (state_of new.store.rows now)) (sym left.cards)
+      (subst (IsSoundState old.catalog) (sym present_after) (keep old.catalog (state_of old.store.rows stamp) batch sound limits))

@@ -1,0 +1,29 @@
+-- What a batch comes to on an engine, in the words of the serial answer.
+use Rattle.std.specs.Prelude.{List, Option}
+use Rattle.requests.specs.declared.reply.Reply.{Reply}
+use Rattle.tpcc_model.specs.Serial.{State, batch_replies, batch_rows}
+use Rattle.tpcc_rows.specs.RowMap.{Rows}
+use Rattle.executor.specs.Executions.{IsRecordOf, path_in}
+use Rattle.executor.specs.Lines.{state_of}
+use Rattle.executor.specs.declared.engine.Engine.{Engine}
+use Rattle.executor.specs.declared.next_batch.NextBatch.{NextBatch}
+use Rattle.executor.specs.declared.path.Path.{Path}
+use Rattle.executor.specs.declared.record.Record.{Record}
+
+-- the state that the batch meets
+abbrev pub met_by : Engine → NextBatch → State
+met_by engine next = state_of engine.store.rows next.stamp
+
+-- its replies, and the rows that it leaves
+abbrev pub replies_by : Engine → NextBatch → List Reply
+replies_by engine next = batch_replies engine.catalog (met_by engine next) next.batch.now
+
+abbrev pub rows_by : Engine → NextBatch → Rows
+rows_by engine next = batch_rows engine.catalog (met_by engine next) next.batch.now
+
+-- how it is executed, and its record: by workers where there are any
+abbrev pub path_by_workers : {W : Type 0} → Option W → Engine → NextBatch → Path
+path_by_workers workers engine next = path_in workers engine.catalog (met_by engine next) next.batch.now
+
+abbrev pub IsRecordBy : {W : Type 0} → Option W → Engine → NextBatch → Record → Type 0
+IsRecordBy workers engine next = IsRecordOf engine.catalog (met_by engine next) next.batch.now (path_by_workers workers engine next)

@@ -1,0 +1,37 @@
+//! A batch that is to be executed next.
+ghost use Rattle.std.specs.Prelude.{◌+◌, ◌<◌, ◌≤◌, length};
+ghost use Rattle.executor.specs.declared.next_batch.TheConstants.{LAST_NUMBER, MOST_REQUESTS};
+ghost use Rattle.workers.specs.declared.batch_level.TheConstants.{END_OF_NUMBERS};
+ghost use Rattle.executor.specs.States.{AreWithinLimits};
+
+use crate::limits::requests_within;
+use crate::stamp::Stamp;
+use requests::request::Batch;
+
+/// The last number of a request, and of a batch.
+pub const LAST_NUMBER: u64 = 999_999_999_999_999;
+
+/// A batch has at most so many requests.
+pub const MOST_REQUESTS: usize = 1024;
+
+/// A batch that is short enough, and what is kept of the state that it meets beside its rows: its number and those of its
+/// requests are within their limits.
+#[derive(Clone, Copy)]
+pub(crate) struct NextBatch<'a> {
+    pub batch: &'a Batch,
+    pub stamp: Stamp,
+    pub ghost few: { length batch.now.requests ≤ MOST_REQUESTS },
+    pub ghost low: { 1 ≤ stamp.next },
+    pub ghost high: { stamp.next + length batch.now.requests ≤ END_OF_NUMBERS },
+    pub ghost numbered: { stamp.sequence < LAST_NUMBER },
+}
+
+impl NextBatch<'_> {
+    /// The batch is within its limits.
+    pub fn keep_within(&self)
+        ensures { AreWithinLimits self.now.batch.now.moment self.now.stamp.next self.now.batch.now.requests }
+    {
+        requests_within(self.batch.requests.as_slice());
+        self.batch.moment.seconds();
+    }
+}
