@@ -1,17 +1,16 @@
 //! The tree of hashes against SHA-256 of the same bytes alone, and look-ups on pages against those in one map.
 use crate::images::{Population, image, with_stocks};
 use crate::loading::made_image;
-use crate::timing::{print_ratio, print_share};
+use crate::timing::{print_ratio, print_share, since, start};
 use loader::{load, make};
 use merkle::Tree;
 use requests::BytesSource;
 use rollback::PointedStore;
 use sha2::{Digest, Sha256};
-use std::alloc::Global;
-use std::io;
+use std::alloc::{AllocError, Global};
 use std::rt::Clock;
 use std::thread::Threads;
-use std::time::{Duration, Instant};
+use std::time::Duration;
 use tpcc_rows::codes::LEAVES;
 use tpcc_rows::encoding::{append_row, encode_row, enough_bytes};
 use tpcc_rows::id::{ItemId, WarehouseId};
@@ -20,30 +19,25 @@ use tpcc_rows::plain;
 use tpcc_rows::row::fits;
 use tpcc_rows::row_buf::{ByteBuf, RowBuf};
 
-/// How often each time is taken anew; the least counts.
-const ROUNDS: u32 = 19;
+/// How often each time is taken; the least counts.
+const ROUNDS: u32 = 20;
 
-fn invalid() -> io::Error {
-    io::ErrorKind::InvalidData.into()
+fn push_page(page: &plain::RowStore, bytes: &mut Vec<u8>) -> Result<(), AllocError> {
+    let mut buffer = RowBuf::new();
+    for (key, row) in page.iter() {
+        encode_row(key, row, &mut buffer);
+        bytes.extend_from_slice(buffer.as_slice())?;
+    }
+    Ok(())
 }
 
 /// The bytes of all rows, leaf by leaf.
-fn encoded(alloc: Global, store: &PointedStore) -> io::Result<Vec<u8>> {
+fn encoded(alloc: Global, store: &PointedStore) -> Result<Vec<u8>, AllocError> {
     let mut bytes = Vec::new(alloc);
-    let mut buffer = RowBuf::new();
     for leaf in 0..LEAVES {
-        for (key, row) in store.page(leaf).iter() {
-            encode_row(key, row, &mut buffer);
-            bytes.extend_from_slice(buffer.as_slice())?;
-        }
+        push_page(store.page(leaf), &mut bytes)?;
     }
     Ok(bytes)
-}
-
-fn hash_alone(rt: &impl Clock, bytes: &[u8]) -> io::Result<(Duration, u8)> {
-    let start = Instant::now(rt)?;
-    let digest = Sha256::digest(bytes);
-    Ok((start.elapsed(rt)?, digest[0]))
 }
 
 /// How many bytes suffice for the rows of a page.
@@ -83,8 +77,7 @@ fn prefetch_first_rows(store: &PointedStore, first: usize) -> u64 {
     bytes
 }
 
-fn encode_alone(rt: &impl Clock, store: &PointedStore) -> io::Result<(Duration, u64)> {
-    let start = Instant::now(rt)?;
+fn encode_all(store: &PointedStore) -> u64 {
     let mut count = 0u64;
     for leaf in 0..LEAVES {
         if leaf % 8 == 0 {
@@ -92,89 +85,73 @@ fn encode_alone(rt: &impl Clock, store: &PointedStore) -> io::Result<(Duration, 
         }
         count = count.wrapping_add(encode_page(store.page(leaf)));
     }
-    Ok((start.elapsed(rt)?, count))
+    count
 }
 
 /// Encodes sixteen leaves over and over, as often as there are leaves: their rows are in the processor's cache.
-fn encode_in_cache(rt: &impl Clock, store: &PointedStore) -> io::Result<(Duration, u64)> {
-    let start = Instant::now(rt)?;
+fn encode_in_cache(store: &PointedStore) -> u64 {
     let mut count = 0u64;
-    for _ in 0..256u32 {
-        for leaf in 0..16 {
-            count = count.wrapping_add(encode_page(store.page(leaf)));
-        }
+    for leaf in 0..LEAVES {
+        count = count.wrapping_add(encode_page(store.page(leaf % 16)));
     }
-    Ok((start.elapsed(rt)?, count))
+    count
 }
 
-fn build<R: Clock + AllocGlobal + Threads + Sync>(
-    rt: &R,
-    store: &PointedStore,
-) -> io::Result<(Duration, u8)> {
-    let start = Instant::now(rt)?;
-    let tree = Tree::build(rt, rt.alloc(), store).map_err(|_| invalid())?;
-    Ok((start.elapsed(rt)?, tree.root()[0]))
+/// The key of a stock, in an order without a pattern.
+fn stock_key(turn: u32) -> Option<RowKey> {
+    let warehouse = WarehouseId::new(1)?;
+    let item = ItemId::new(turn.wrapping_mul(48_271) % 100_000 + 1)?;
+    Some(RowKey::Stock { warehouse, item })
 }
 
-/// The numbers of the items in an order without a pattern.
-fn scattered(turn: u32) -> u32 {
-    turn.wrapping_mul(48_271) % 100_000 + 1
-}
-
-fn stock_key(turn: u32) -> io::Result<RowKey> {
-    let warehouse = WarehouseId::new(1).ok_or(invalid())?;
-    let item = ItemId::new(scattered(turn)).ok_or(invalid())?;
-    Ok(RowKey::Stock { warehouse, item })
-}
-
-fn look_up_on_pages(rt: &impl Clock, store: &PointedStore) -> io::Result<(Duration, u64)> {
-    let start = Instant::now(rt)?;
+fn look_up_on_pages(store: &PointedStore) -> u64 {
     let mut found = 0u64;
     for turn in 0..100_000u32 {
-        if store.get(&stock_key(turn)?).is_some() {
-            found = found.wrapping_add(1);
+        if let Some(key) = stock_key(turn) {
+            found = found.wrapping_add(u64::from(store.get(&key).is_some()));
         }
     }
-    Ok((start.elapsed(rt)?, found))
+    found
 }
 
-fn look_up_in_one_map(rt: &impl Clock, store: &plain::RowStore) -> io::Result<(Duration, u64)> {
-    let start = Instant::now(rt)?;
+fn look_up_in_one_map(store: &plain::RowStore) -> u64 {
     let mut found = 0u64;
     for turn in 0..100_000u32 {
-        if store.get(&stock_key(turn)?).is_some() {
-            found = found.wrapping_add(1);
+        if let Some(key) = stock_key(turn) {
+            found = found.wrapping_add(u64::from(store.get(&key).is_some()));
         }
     }
-    Ok((start.elapsed(rt)?, found))
+    found
+}
+
+fn put_page(page: &plain::RowStore, rows: &mut plain::RowStore) -> Option<()> {
+    for (key, row) in page.iter() {
+        if fits(key, row) {
+            rows.put(*key, row.copied().ok()?).ok()?;
+        }
+    }
+    Some(())
 }
 
 /// The same rows in one map.
-fn in_one_map(alloc: Global, store: &PointedStore) -> io::Result<plain::RowStore> {
+fn in_one_map(alloc: Global, store: &PointedStore) -> Option<plain::RowStore> {
     let mut rows = plain::RowStore::new(alloc);
     for leaf in 0..LEAVES {
-        for (key, row) in store.page(leaf).iter() {
-            if fits(key, row) {
-                let row = row.copied().map_err(|_| invalid())?;
-                rows.put(*key, row).map_err(|_| invalid())?;
-            }
-        }
+        put_page(store.page(leaf), &mut rows)?;
     }
-    Ok(rows)
+    Some(rows)
 }
 
-fn measure_look_ups<R: Clock + Eprint + AllocGlobal>(
-    rt: &R,
-    store: &PointedStore,
-) -> io::Result<()> {
+fn measure_look_ups<R: Clock + Eprint + AllocGlobal>(rt: &R, store: &PointedStore) -> Option<()> {
     let rows = in_one_map(rt.alloc(), store)?;
-    let (mut paged, mut alone) = (
-        look_up_on_pages(rt, store)?.0,
-        look_up_in_one_map(rt, &rows)?.0,
-    );
-    for _ in 0..4 {
-        paged = paged.min(look_up_on_pages(rt, store)?.0);
-        alone = alone.min(look_up_in_one_map(rt, &rows)?.0);
+    let (mut paged, mut alone, mut differs) = (Duration::MAX, Duration::MAX, false);
+    for _ in 0..5 {
+        let begin = start(rt);
+        let found = look_up_on_pages(store);
+        paged = paged.min(since(rt, begin));
+        let begin = start(rt);
+        differs = found != look_up_in_one_map(&rows) || differs;
+        alone = alone.min(since(rt, begin));
     }
     print_ratio(
         rt,
@@ -183,10 +160,10 @@ fn measure_look_ups<R: Clock + Eprint + AllocGlobal>(
         "those in one map",
         alone,
     );
-    Ok(())
+    (!differs).then_some(())
 }
 
-/// What was taken of one round, or the least of several.
+/// What each way took at the least.
 #[derive(Clone, Copy)]
 struct Times {
     hashing: Duration,
@@ -196,77 +173,108 @@ struct Times {
 }
 
 impl Times {
-    fn least(self, other: Times) -> Times {
-        Times {
-            hashing: self.hashing.min(other.hashing),
-            encoding: self.encoding.min(other.encoding),
-            encoding_in_cache: self.encoding_in_cache.min(other.encoding_in_cache),
-            building: self.building.min(other.building),
-        }
+    const LONGEST: Times = Times {
+        hashing: Duration::MAX,
+        encoding: Duration::MAX,
+        encoding_in_cache: Duration::MAX,
+        building: Duration::MAX,
+    };
+
+    fn hash(&mut self, rt: &impl Clock, bytes: &[u8]) -> u64 {
+        let begin = start(rt);
+        let digest = Sha256::digest(bytes);
+        self.hashing = self.hashing.min(since(rt, begin));
+        u64::from(digest[0])
+    }
+
+    fn encode(&mut self, rt: &impl Clock, store: &PointedStore) -> u64 {
+        let begin = start(rt);
+        let count = encode_all(store);
+        self.encoding = self.encoding.min(since(rt, begin));
+        let begin = start(rt);
+        let in_cache = encode_in_cache(store);
+        self.encoding_in_cache = self.encoding_in_cache.min(since(rt, begin));
+        count.wrapping_add(in_cache)
+    }
+
+    fn build<R: Clock + AllocGlobal + Threads + Sync>(
+        &mut self,
+        rt: &R,
+        store: &PointedStore,
+    ) -> Option<()> {
+        let begin = start(rt);
+        let tree = Tree::build(rt, rt.alloc(), store);
+        self.building = self.building.min(since(rt, begin));
+        tree.is_ok().then_some(())
+    }
+
+    fn print(&self, rt: &impl Eprint) {
+        let alone = self.hashing;
+        print_ratio(
+            rt,
+            "building the tree",
+            self.building,
+            "SHA-256 alone",
+            alone,
+        );
+        print_share(rt, "encoding all rows, of hashing", self.encoding, alone);
+        let cached = "encoding rows in the cache, as many leaves";
+        print_share(rt, cached, self.encoding_in_cache, alone);
     }
 }
 
-fn round<R: Clock + AllocGlobal + Threads + Sync>(
+/// Measures the tree of rows that have these bytes.
+fn measure_on<R: Clock + Eprint + AllocGlobal + Threads + Sync>(
     rt: &R,
+    what: &str,
     store: &PointedStore,
     bytes: &[u8],
-) -> io::Result<Times> {
-    let (hashing, _) = hash_alone(rt, bytes)?;
-    let (encoding, _) = encode_alone(rt, store)?;
-    let (encoding_in_cache, _) = encode_in_cache(rt, store)?;
-    let (building, _) = build(rt, store)?;
-    Ok(Times {
-        hashing,
-        encoding,
-        encoding_in_cache,
-        building,
-    })
+) -> Option<()> {
+    let mut times = Times::LONGEST;
+    let mut mixed = 0u64;
+    for _ in 0..ROUNDS {
+        mixed = mixed.wrapping_add(times.hash(rt, bytes));
+        mixed = mixed.wrapping_add(times.encode(rt, store));
+        times.build(rt, store)?;
+    }
+    let count = bytes.len();
+    let _ = eprintln!(rt; "{what}: {count} bytes of rows");
+    times.print(rt);
+    (0 < mixed).then_some(())
 }
 
 fn measure_tree<R: Clock + Eprint + AllocGlobal + Threads + Sync>(
     rt: &R,
     what: &str,
     store: &PointedStore,
-) -> io::Result<()> {
-    let bytes = encoded(rt.alloc(), store)?;
-    let mut times = round(rt, store, &bytes)?;
-    for _ in 0..ROUNDS {
-        times = times.least(round(rt, store, &bytes)?);
-    }
-    let _ = eprintln!(rt; "{what}: {} bytes of rows", bytes.len());
-    let alone = times.hashing;
-    print_ratio(
-        rt,
-        "building the tree",
-        times.building,
-        "SHA-256 alone",
-        alone,
-    );
-    print_share(rt, "encoding all rows, of hashing", times.encoding, alone);
-    print_share(
-        rt,
-        "encoding rows in the cache, as many leaves",
-        times.encoding_in_cache,
-        alone,
-    );
-    Ok(())
+) -> Option<()> {
+    let bytes = encoded(rt.alloc(), store).ok()?;
+    measure_on(rt, what, store, &bytes)
 }
 
-/// A warehouse of full scale whose customers' data are of the standard's length.
-fn measure_full_scale<R: Clock + Eprint + AllocGlobal + Threads + Sync>(rt: &R) -> io::Result<()> {
-    let customers = image(rt.alloc(), 1, 3000, Population::Standard)?;
-    let text = with_stocks(rt.alloc(), &customers, &made_image(rt.alloc(), 1, 100_000)?)?;
-    let loaded = load(rt.alloc(), &mut BytesSource::new(&text, 65_536));
-    let (_, store) = loaded.map_err(|_| invalid())?;
+/// The image of a warehouse of full scale whose customers' data are of the standard's length.
+fn full_scale(alloc: Global) -> Option<Vec<u8>> {
+    let customers = image(alloc, 1, 3000, Population::Standard).ok()?;
+    let made = made_image(alloc, 3000, 100_000)?;
+    with_stocks(alloc, customers.as_bytes(), &made).ok()
+}
+
+fn measure_full_scale<R: Clock + Eprint + AllocGlobal + Threads + Sync>(rt: &R) -> Option<()> {
+    let text = full_scale(rt.alloc())?;
+    let (_, store) = load(rt.alloc(), &mut BytesSource::new(&text, 65_536)).ok()?;
     measure_tree(rt, "a warehouse of full scale", &store)
+}
+
+fn measure_made<R: Clock + Eprint + AllocGlobal + Threads + Sync>(rt: &R) -> Option<()> {
+    let (_, store) = make(rt.alloc(), 1, 3000, 100_000).ok()?;
+    measure_tree(rt, "make 1 3000 100000", &store)?;
+    measure_look_ups(rt, &store)
 }
 
 /// A warehouse of full scale, and the database of `make 1 3000 100000`, the one let go before the other is made: each the
 /// best of twenty, the look-ups of five. Encoding all rows waits for memory; so as many bytes of rows that are in the cache
 /// are encoded too. How much faster more processors are is seen by running it on one, two and four of them.
-pub fn measure<R: Clock + Eprint + AllocGlobal + Threads + Sync>(rt: &R) -> io::Result<()> {
+pub fn measure<R: Clock + Eprint + AllocGlobal + Threads + Sync>(rt: &R) -> Option<()> {
     measure_full_scale(rt)?;
-    let (_, made) = make(rt.alloc(), 1, 3000, 100_000).map_err(|_| invalid())?;
-    measure_tree(rt, "make 1 3000 100000", &made)?;
-    measure_look_ups(rt, &made)
+    measure_made(rt)
 }

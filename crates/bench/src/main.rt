@@ -8,35 +8,37 @@ mod images;
 mod loading;
 mod mixing;
 mod paying;
+mod requests_text;
 mod timing;
 
+use std::env;
 use std::process::ExitCode;
 use std::rt::{Clock, Env};
 use std::thread::Threads;
-use std::{env, io};
 
 /// The first word of the command line behind the program's name, where there is one.
-fn asked<R: Env + AllocGlobal>(rt: &R) -> io::Result<Option<String>> {
-    Ok(env::args(rt)?.nth(1))
+fn asked<R: Env + AllocGlobal>(rt: &R) -> Option<String> {
+    env::args(rt).ok()?.nth(1)
 }
 
-fn measure<R: Clock + Eprint + AllocGlobal + Threads + Sync>(rt: &R, what: &str) -> io::Result<()> {
+/// None where there is no such measurement, or it fails.
+fn measure<R: Clock + Eprint + AllocGlobal + Threads + Sync>(rt: &R, what: &str) -> Option<()> {
     match what {
         "hash" => hashing::measure(rt),
         "load" => loading::measure(rt),
         "mix" => mixing::measure(rt),
         "pay" => paying::measure(rt),
         "store" => loading::measure_store(rt),
-        _ => Err(io::ErrorKind::InvalidInput.into()),
+        _ => None,
     }
 }
 
 fn main(rt: HostRuntime) -> ExitCode {
-    let Ok(Some(what)) = asked(&rt) else {
+    let Some(what) = asked(&rt) else {
         return ExitCode::SUCCESS;
     };
     match measure(&rt, what.as_str()) {
-        Ok(()) => ExitCode::SUCCESS,
-        Err(_) => ExitCode::FAILURE,
+        Some(()) => ExitCode::SUCCESS,
+        None => ExitCode::FAILURE,
     }
 }

@@ -1,73 +1,21 @@
 //! TPC-C's mix of transactions on a warehouse of full scale, and what each stage of the engine takes of the time.
 use crate::loading::made_image;
-use crate::timing::{print_ratio, print_share};
+use crate::paying::whole;
+use crate::requests_text::{Kind, batches};
+use crate::timing::{print_ratio, print_share, since, start};
 use catalog::Catalog;
 use loader::load;
 use merkle::Tree;
-use requests::request::Batch;
-use requests::{BatchReader, BytesSink, BytesSource, Reply, write_reply};
+use requests::request::{Batch, Request};
+use requests::{BatchReader, BytesSource, Reply, write_reply};
 use rollback::PointedStore;
-use runner::run_text;
-use std::alloc::{AllocError, Global};
-use std::io;
 use std::rt::Clock;
 use std::thread::Threads;
-use std::time::{Duration, Instant};
+use std::time::Duration;
 use tpcc_rows::id::RequestNumber;
+use tpcc_rows::number::Moment;
 use transactions::execute;
 use worker_rows::Whole;
-use workers::{NoGate, Workers};
-
-const BATCHES: u32 = 3;
-
-const SIZE: u32 = 1000;
-
-fn invalid() -> io::Error {
-    io::ErrorKind::InvalidData.into()
-}
-
-/// A new order of ten lines.
-fn add_new_order(alloc: Global, text: &mut Vec<u8>, turn: u32) -> Result<(), AllocError> {
-    let (d, c) = (turn % 10 + 1, turn % 3000 + 1);
-    let line = format!(in alloc; "N,1,{d},{c}")?;
-    text.extend_from_slice(line.as_bytes())?;
-    for i in 0..10u32 {
-        let item = turn.wrapping_mul(7919).wrapping_add(i.wrapping_mul(9973)) % 100_000 + 1;
-        let line = format!(in alloc; ",{item},1,5")?;
-        text.extend_from_slice(line.as_bytes())?;
-    }
-    text.push(b'\n')?;
-    Ok(())
-}
-
-/// The request of a turn: of a hundred, 45 new orders, 43 payments of which 26 are by last name, and 4 of each other
-/// transaction (TPC-C clause 5.2.3).
-fn add_request(alloc: Global, text: &mut Vec<u8>, turn: u32) -> Result<(), AllocError> {
-    let (d, c, name) = (turn % 10 + 1, turn % 3000 + 1, turn % 10);
-    let line = match turn.wrapping_mul(37) % 100 {
-        0..45 => return add_new_order(alloc, text, turn),
-        45..71 => format!(in alloc; "P,1,{d},1,{d},L,NAME{name},1000\n")?,
-        71..88 => format!(in alloc; "P,1,{d},1,{d},I,{c},1000\n")?,
-        88..92 => format!(in alloc; "O,1,{d},I,{c}\n")?,
-        92..96 => format!(in alloc; "D,1,5\n")?,
-        _ => format!(in alloc; "S,1,{d},15\n")?,
-    };
-    text.extend_from_slice(line.as_bytes())
-}
-
-fn mix(alloc: Global) -> Result<Vec<u8>, AllocError> {
-    let mut text = Vec::new(alloc);
-    let mut turn = 0u32;
-    for _ in 0..BATCHES {
-        let line = format!(in alloc; "B,7,commit,{SIZE}\n")?;
-        text.extend_from_slice(line.as_bytes())?;
-        for _ in 0..SIZE {
-            add_request(alloc, &mut text, turn)?;
-            turn = turn.wrapping_add(1);
-        }
-    }
-    Ok(text)
-}
 
 /// What each stage took.
 #[derive(Clone, Copy)]
@@ -87,99 +35,131 @@ impl Stages {
         hashing: Duration::ZERO,
         writing: Duration::ZERO,
     };
+
+    fn print(&self, rt: &impl Eprint) {
+        let stages = [
+            ("reading", self.reading),
+            ("executing", self.executing),
+            ("applying", self.applying),
+            ("building trees", self.hashing),
+            ("writing", self.writing),
+        ];
+        let mut whole = Duration::ZERO;
+        for (_, time) in stages {
+            whole = whole.saturating_add(time);
+        }
+        for (what, time) in stages {
+            print_share(rt, what, time, whole);
+        }
+    }
 }
 
-/// Executes a batch from this request number on.
-fn serve<R: Clock + AllocGlobal + Threads + Sync>(
-    rt: &R,
-    catalog: &Catalog,
-    store: &mut PointedStore,
-    batch: &Batch,
-    first: u64,
-    stages: &mut Stages,
-) -> io::Result<()> {
-    let mut replies: Vec<(RequestNumber, Reply)> = Vec::new(rt.alloc());
-    let mut number = first;
-    for request in batch.requests.as_slice() {
-        let id = RequestNumber::new(number).ok_or(invalid())?;
-        let start = Instant::now(rt)?;
-        let view = Whole { store: &*store };
-        let done = execute(rt.alloc(), catalog, request, id, batch.moment, &view);
-        stages.executing = stages.executing.saturating_add(start.elapsed(rt)?);
-        let (reply, changes) = done.map_err(|_| invalid())?;
-        let start = Instant::now(rt)?;
-        let applied = store.apply(&changes);
-        stages.applying = stages.applying.saturating_add(start.elapsed(rt)?);
-        applied.map_err(|_| invalid())?;
-        replies.push((id, reply))?;
-        number = number.saturating_add(1);
+/// A database, the number of its next request, and what the stages took so far.
+#[derive(Drop)]
+struct Engine {
+    catalog: Catalog,
+    store: PointedStore,
+    next: u64,
+    stages: Stages,
+}
+
+impl Engine {
+    fn execute<R: Clock + AllocGlobal>(
+        &mut self,
+        rt: &R,
+        request: &Request,
+        moment: Moment,
+    ) -> Option<(RequestNumber, Reply)> {
+        let number = RequestNumber::new(self.next)?;
+        let begin = start(rt);
+        let view = Whole { store: &self.store };
+        let done = execute(rt.alloc(), &self.catalog, request, number, moment, &view);
+        self.stages.executing = self.stages.executing.saturating_add(since(rt, begin));
+        let (reply, changes) = done.ok()?;
+        let begin = start(rt);
+        let is_applied = self.store.apply(&changes).is_ok();
+        self.stages.applying = self.stages.applying.saturating_add(since(rt, begin));
+        self.next = self.next.saturating_add(1);
+        is_applied.then_some((number, reply))
     }
-    let start = Instant::now(rt)?;
-    let tree = Tree::build(rt, rt.alloc(), store);
-    stages.hashing = stages.hashing.saturating_add(start.elapsed(rt)?);
-    tree.map_err(|_| invalid())?;
-    let mut text = Vec::new(rt.alloc());
-    let start = Instant::now(rt)?;
-    for (id, reply) in replies.iter() {
-        write_reply(rt.alloc(), *id, reply, &mut text).map_err(|_| invalid())?;
+
+    fn hash<R: Clock + AllocGlobal + Threads + Sync>(&mut self, rt: &R) -> Option<()> {
+        let begin = start(rt);
+        let tree = Tree::build(rt, rt.alloc(), &self.store);
+        self.stages.hashing = self.stages.hashing.saturating_add(since(rt, begin));
+        tree.is_ok().then_some(())
     }
-    stages.writing = stages.writing.saturating_add(start.elapsed(rt)?);
-    Ok(())
+
+    fn write<R: Clock + AllocGlobal>(
+        &mut self,
+        rt: &R,
+        replies: &[(RequestNumber, Reply)],
+    ) -> Option<()> {
+        let mut text = Vec::new(rt.alloc());
+        let begin = start(rt);
+        for (number, reply) in replies {
+            write_reply(rt.alloc(), *number, reply, &mut text).ok()?;
+        }
+        self.stages.writing = self.stages.writing.saturating_add(since(rt, begin));
+        Some(())
+    }
+
+    fn serve<R: Clock + AllocGlobal + Threads + Sync>(
+        &mut self,
+        rt: &R,
+        batch: &Batch,
+    ) -> Option<()> {
+        let mut replies = Vec::new(rt.alloc());
+        for request in batch.requests.as_slice() {
+            replies.push(self.execute(rt, request, batch.moment)?).ok()?;
+        }
+        self.hash(rt)?;
+        self.write(rt, &replies)
+    }
+
+    /// Reads and serves all batches.
+    fn serve_all<R: Clock + AllocGlobal + Threads + Sync>(
+        &mut self,
+        rt: &R,
+        reader: &mut BatchReader,
+    ) -> Option<()> {
+        for _ in 0..u64::MAX {
+            let begin = start(rt);
+            let batch = reader.next_batch(rt.alloc());
+            self.stages.reading = self.stages.reading.saturating_add(since(rt, begin));
+            match batch.ok()? {
+                Some(batch) => self.serve(rt, &batch)?,
+                None => break,
+            }
+        }
+        Some(())
+    }
 }
 
 fn stages_of<R: Clock + AllocGlobal + Threads + Sync>(
     rt: &R,
     image: &[u8],
     text: &[u8],
-) -> io::Result<Stages> {
-    if text.len() >= 1 << 32 {
-        return Err(invalid());
-    }
-    let loaded = load(rt.alloc(), &mut BytesSource::new(image, 65_536));
-    let (catalog, mut store) = loaded.map_err(|_| invalid())?;
-    let mut reader = BatchReader::new(rt.alloc(), text).map_err(|_| invalid())?;
-    let mut stages = Stages::NONE;
-    let mut first = 1u64;
-    for _ in 0..BATCHES {
-        let start = Instant::now(rt)?;
-        let batch = reader.next_batch(rt.alloc());
-        stages.reading = stages.reading.saturating_add(start.elapsed(rt)?);
-        let batch = batch.map_err(|_| invalid())?.ok_or(invalid())?;
-        serve(rt, &catalog, &mut store, &batch, first, &mut stages)?;
-        first = first.saturating_add(u64::from(SIZE));
-    }
-    Ok(stages)
+) -> Option<Stages> {
+    let (catalog, store) = load(rt.alloc(), &mut BytesSource::new(image, 65_536)).ok()?;
+    let mut engine = Engine {
+        catalog,
+        store,
+        next: 1,
+        stages: Stages::NONE,
+    };
+    let mut reader = BatchReader::new(rt.alloc(), text).ok()?;
+    engine.serve_all(rt, &mut reader)?;
+    Some(engine.stages)
 }
 
-fn run<R: Clock + AllocGlobal + Threads + Sync>(
+fn measure_on<R: Clock + Eprint + AllocGlobal + Threads + Sync>(
     rt: &R,
     image: &[u8],
     text: &[u8],
-) -> io::Result<Duration> {
-    let mut sink = BytesSink::new(rt.alloc(), 65_536);
-    let start = Instant::now(rt)?;
-    let ran = run_text(
-        rt,
-        rt.alloc(),
-        &mut BytesSource::new(image, 65_536),
-        &mut BytesSource::new(text, 65_536),
-        &mut sink,
-        Workers::new(1).unwrap(),
-        &NoGate,
-    );
-    let time = start.elapsed(rt)?;
-    ran.map_err(|_| invalid())?;
-    Ok(time)
-}
-
-/// Batches of 1,000 requests through the engine, less what the same run takes with no batch, and the stages' shares.
-pub fn measure<R: Clock + Eprint + AllocGlobal + Threads + Sync>(rt: &R) -> io::Result<()> {
-    let image = made_image(rt.alloc(), 3000, 100_000)?;
-    let text = mix(rt.alloc())?;
-    let empty = run(rt, &image, b"")?;
-    let all = run(rt, &image, &text)?;
-    let stages = stages_of(rt, &image, &text)?;
-    let requests = all.checked_sub(empty).unwrap_or(all);
+) -> Option<()> {
+    let empty = whole(rt, image, b"")?;
+    let requests = whole(rt, image, text)?.saturating_sub(empty);
     print_ratio(
         rt,
         "3 batches of 1,000 requests",
@@ -187,16 +167,13 @@ pub fn measure<R: Clock + Eprint + AllocGlobal + Threads + Sync>(rt: &R) -> io::
         "loading",
         empty,
     );
-    let whole = stages
-        .reading
-        .saturating_add(stages.executing)
-        .saturating_add(stages.applying)
-        .saturating_add(stages.hashing)
-        .saturating_add(stages.writing);
-    print_share(rt, "reading", stages.reading, whole);
-    print_share(rt, "executing", stages.executing, whole);
-    print_share(rt, "applying", stages.applying, whole);
-    print_share(rt, "building trees", stages.hashing, whole);
-    print_share(rt, "writing", stages.writing, whole);
-    Ok(())
+    stages_of(rt, image, text)?.print(rt);
+    Some(())
+}
+
+/// Batches of 1,000 requests through the engine, less what the same run takes with no batch, and the stages' shares.
+pub fn measure<R: Clock + Eprint + AllocGlobal + Threads + Sync>(rt: &R) -> Option<()> {
+    let image = made_image(rt.alloc(), 3000, 100_000)?;
+    let text = batches(rt.alloc(), Kind::Mix, 3, 1000).ok()?;
+    measure_on(rt, &image, text.as_bytes())
 }

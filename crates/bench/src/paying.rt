@@ -1,106 +1,104 @@
 //! Payments from bytes to bytes against reading their batches and writing their replies alone.
-use crate::images::{Population, image, payments};
-use crate::timing::print_ratio;
+use crate::images::{Population, image};
+use crate::requests_text::{Kind, batches};
+use crate::timing::{print_ratio, since, start};
 use requests::{
     BatchReader, BytesSink, BytesSource, PaymentReply, Reply, ShownCredit, write_reply,
 };
 use runner::run_text;
 use std::alloc::Global;
-use std::io;
 use std::rt::Clock;
 use std::thread::Threads;
-use std::time::{Duration, Instant};
+use std::time::Duration;
 use tpcc_rows::id::{CustomerId, RequestNumber};
 use tpcc_rows::number::Cents;
 use workers::{NoGate, Workers};
 
-const BATCHES: u32 = 100;
-
-const SIZE: u32 = 1000;
-
-fn invalid() -> io::Error {
-    io::ErrorKind::InvalidData.into()
-}
-
 /// How many requests the batches of a text have.
 fn requests_in(alloc: Global, text: &[u8]) -> Option<u64> {
-    if text.len() >= 1 << 32 {
-        return None;
-    }
     let mut reader = BatchReader::new(alloc, text).ok()?;
     let mut count = 0u64;
     for _ in 0..u64::MAX {
         match reader.next_batch(alloc).ok()? {
             Some(batch) => count = count.wrapping_add(batch.requests.len() as u64),
-            None => return Some(count),
+            None => break,
         }
     }
-    None
+    Some(count)
 }
 
-/// Writes so many replies to payments by customers of good credit.
-fn write_replies(alloc: Global, count: u64) -> Option<Vec<u8>> {
-    let reply = Reply::Payment(PaymentReply {
+/// A reply to a payment by a customer of good credit.
+fn payment_reply() -> Option<Reply> {
+    Some(Reply::Payment(PaymentReply {
         customer: CustomerId::new(10)?,
         balance: Cents::new(-2000)?,
         credit: ShownCredit::Good,
-    });
+    }))
+}
+
+/// Writes a reply so many times.
+fn write_replies(alloc: Global, count: u64, reply: &Reply) -> Option<Vec<u8>> {
     let mut text = Vec::new(alloc);
     for number in 1..count.saturating_add(1) {
-        write_reply(alloc, RequestNumber::new(number)?, &reply, &mut text).ok()?;
+        write_reply(alloc, RequestNumber::new(number)?, reply, &mut text).ok()?;
     }
     Some(text)
 }
 
-fn ends_alone(rt: &(impl Clock + AllocGlobal), text: &[u8]) -> io::Result<Duration> {
-    let start = Instant::now(rt)?;
-    let count = requests_in(rt.alloc(), text).ok_or(invalid())?;
-    let _text = write_replies(rt.alloc(), count).ok_or(invalid())?;
-    start.elapsed(rt)
+fn ends_alone(rt: &(impl Clock + AllocGlobal), text: &[u8], reply: &Reply) -> Option<Duration> {
+    let start = start(rt);
+    let count = requests_in(rt.alloc(), text)?;
+    let written = write_replies(rt.alloc(), count, reply).is_some();
+    let time = since(rt, start);
+    written.then_some(time)
 }
 
-fn whole<R: Clock + AllocGlobal + Threads + Sync>(
+/// How long the engine takes from the bytes of an image and of batches to those of the replies, by one worker.
+pub fn whole<R: Clock + AllocGlobal + Threads + Sync>(
     rt: &R,
     image: &[u8],
     text: &[u8],
-) -> io::Result<Duration> {
+) -> Option<Duration> {
+    let one = Workers::new(1)?;
+    let mut image = BytesSource::new(image, 65_536);
+    let mut batches = BytesSource::new(text, 65_536);
     let mut sink = BytesSink::new(rt.alloc(), 65_536);
-    let start = Instant::now(rt)?;
+    let start = start(rt);
     let ran = run_text(
         rt,
         rt.alloc(),
-        &mut BytesSource::new(image, 65_536),
-        &mut BytesSource::new(text, 65_536),
+        &mut image,
+        &mut batches,
         &mut sink,
-        Workers::new(1).unwrap(),
+        one,
         &NoGate,
-    );
-    let time = start.elapsed(rt)?;
-    match ran {
-        Ok(_) => Ok(time),
-        Err(_) => Err(invalid()),
+    )
+    .is_ok();
+    let time = since(rt, start);
+    ran.then_some(time)
+}
+
+fn measure_on<R: Clock + Eprint + AllocGlobal + Threads + Sync>(
+    rt: &R,
+    image: &[u8],
+    text: &[u8],
+) -> Option<()> {
+    let reply = payment_reply()?;
+    let (mut alone, mut empty, mut all) = (Duration::MAX, Duration::MAX, Duration::MAX);
+    for _ in 0..5 {
+        alone = alone.min(ends_alone(rt, text, &reply)?);
+        empty = empty.min(whole(rt, image, b"")?);
+        all = all.min(whole(rt, image, text)?);
     }
+    let payments = all.saturating_sub(empty);
+    let what = "100,000 payments from bytes to bytes";
+    print_ratio(rt, what, payments, "reading and writing alone", alone);
+    Some(())
 }
 
 /// Payments through the engine, less what the same run takes with no batch, the best of five.
-pub fn measure<R: Clock + Eprint + AllocGlobal + Threads + Sync>(rt: &R) -> io::Result<()> {
-    let image = image(rt.alloc(), 1, 3000, Population::Standard)?;
-    let text = payments(rt.alloc(), BATCHES, SIZE)?;
-    let mut alone = ends_alone(rt, text.as_slice())?;
-    let mut empty = whole(rt, image.as_slice(), b"")?;
-    let mut all = whole(rt, image.as_slice(), text.as_slice())?;
-    for _ in 0..4 {
-        alone = alone.min(ends_alone(rt, text.as_slice())?);
-        empty = empty.min(whole(rt, image.as_slice(), b"")?);
-        all = all.min(whole(rt, image.as_slice(), text.as_slice())?);
-    }
-    let payments = all.checked_sub(empty).unwrap_or(all);
-    print_ratio(
-        rt,
-        "100,000 payments from bytes to bytes",
-        payments,
-        "reading and writing alone",
-        alone,
-    );
-    Ok(())
+pub fn measure<R: Clock + Eprint + AllocGlobal + Threads + Sync>(rt: &R) -> Option<()> {
+    let image = image(rt.alloc(), 1, 3000, Population::Standard).ok()?;
+    let text = batches(rt.alloc(), Kind::Payments, 100, 1000).ok()?;
+    measure_on(rt, image.as_bytes(), text.as_bytes())
 }

@@ -1,5 +1,19 @@
-//! What is printed of two times.
-use std::time::Duration;
+//! Times, and what is printed of two of them.
+use std::rt::Clock;
+use std::time::{Duration, Instant};
+
+/// When something begins; None where the clock fails.
+pub fn start(rt: &impl Clock) -> Option<Instant> {
+    Instant::now(rt).ok()
+}
+
+/// How long ago something began, the longest time where the clock fails.
+pub fn since(rt: &impl Clock, start: Option<Instant>) -> Duration {
+    match start {
+        Some(start) => start.elapsed(rt).unwrap_or(Duration::MAX),
+        None => Duration::MAX,
+    }
+}
 
 /// Prints what something took, and how often as long that is as something else took.
 pub fn print_ratio(rt: &impl Eprint, what: &str, time: Duration, against: &str, other: Duration) {

@@ -1,20 +1,37 @@
-//! Roots and tokens, each against a second, plain computation, a line each. Where memory is refused the rest of a part is
-//! left out, and the status is 1.
+//! Roots, tokens, footprints and levels, each against a second, plain computation, and what comes of requests on what they
+//! declared. Where memory is refused the rest of a part is left out, and the status is 1.
 #![tactic(auto)]
 
+mod books;
 mod chosen_rows;
+mod compared;
+mod database;
+mod declared;
 mod dice;
 mod format;
+mod granules;
+mod levels;
+mod loans;
+mod orders;
 mod printing;
+mod random;
 mod roots;
 mod rows;
 mod second_root;
 mod tokens;
+mod worked_requests;
 
 use std::process::ExitCode;
 
 fn main(rt: HostRuntime) -> ExitCode {
-    let parts = [roots::show(&rt, rt.alloc()), tokens::show(&rt, rt.alloc())];
+    let parts = [
+        roots::show(&rt, rt.alloc()),
+        tokens::show(&rt, rt.alloc()),
+        declared::show(&rt, rt.alloc()),
+        compared::show(&rt, rt.alloc()),
+        orders::show(&rt, rt.alloc()),
+        loans::show(&rt, rt.alloc()),
+    ];
     if parts.iter().all(Option::is_some) {
         ExitCode::SUCCESS
     } else {

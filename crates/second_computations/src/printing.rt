@@ -18,3 +18,10 @@ pub fn print_bytes(rt: &impl Print, name: &str, bytes: &[u8]) {
 pub fn print_hash(rt: &impl Print, name: &str, hash: &[u8; 32]) {
     print_bytes(rt, name, hash.as_slice());
 }
+
+/// Places with spaces before them.
+pub fn print_places(rt: &impl Print, places: &[usize]) {
+    for place in places {
+        let _ = print!(rt; " {place}");
+    }
+}

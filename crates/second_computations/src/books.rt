@@ -1,109 +1,13 @@
-//! What requests touch on a made database, and the levels of a batch, computed a second time: from the rows, and from the
-//! numbers that the database was made of.
+//! What requests touch on a made database, computed a second time: from the rows, and from the numbers that the database was
+//! made of.
+use crate::granules::{Touch, book, customer_row, district_row, stock_row, warehouse_row};
 use requests::request::{CustomerChoice, Delivery, NewOrder, Payment, Request, StockLevel};
 use rollback::PointedStore;
-use std::alloc::Global;
+use std::alloc::{AllocError, Global};
 use tpcc_rows::id::{DistrictId, OrderId, WarehouseId};
 use tpcc_rows::key::RowKey;
-use tpcc_rows::memory::Memory;
 use tpcc_rows::plain;
 use tpcc_rows::row::Row;
-
-/// A granule as the format packs it: the number of its kind, its warehouse, its district and its own number, 0 where the
-/// kind has none.
-pub type Packed = (u64, u64, u64, u64);
-
-pub fn warehouse_row(warehouse: u8) -> Packed {
-    (1, u64::from(warehouse), 0, 0)
-}
-
-pub fn district_row(warehouse: u8, district: u8) -> Packed {
-    (2, u64::from(warehouse), u64::from(district), 0)
-}
-
-pub fn customer_row(warehouse: u8, district: u8, customer: u16) -> Packed {
-    let (warehouse, district) = (u64::from(warehouse), u64::from(district));
-    (3, warehouse, district, u64::from(customer))
-}
-
-pub fn stock_row(warehouse: u8, item: u32) -> Packed {
-    (4, u64::from(warehouse), 0, u64::from(item))
-}
-
-pub fn book(warehouse: u8, district: u8) -> Packed {
-    (5, u64::from(warehouse), u64::from(district), 0)
-}
-
-fn bit(granule: &Packed) -> u64 {
-    let (kind, warehouse, district, number) = *granule;
-    let pack = (kind << 48) | (warehouse << 32) | (district << 24) | number;
-    pack.wrapping_mul(11_400_714_819_323_198_485) >> 55
-}
-
-/// What a request reads, and what it writes of it.
-#[derive(Drop)]
-pub struct Touch {
-    pub reads: Vec<Packed>,
-    pub writes: Vec<Packed>,
-}
-
-impl Touch {
-    fn read(&mut self, granule: Packed) -> Result<(), Memory> {
-        self.reads.push(granule)?;
-        Ok(())
-    }
-
-    fn write(&mut self, granule: Packed) -> Result<(), Memory> {
-        self.reads.push(granule)?;
-        self.writes.push(granule)?;
-        Ok(())
-    }
-}
-
-fn share_a_bit(granules: &[Packed], others: &[Packed]) -> bool {
-    granules.iter().any(|granule| others.iter().any(|other| bit(granule) == bit(other)))
-}
-
-fn meet(one: &Touch, other: &Touch) -> bool {
-    share_a_bit(&one.writes, &other.reads) || share_a_bit(&other.writes, &one.reads)
-}
-
-fn meet_at(touches: &[Touch], place: usize, other: usize) -> bool {
-    match (touches.get(place), touches.get(other)) {
-        (Some(one), Some(other)) => meet(one, other),
-        _ => false,
-    }
-}
-
-/// Whether the request of the place meets none that stands before it and is waiting.
-fn is_free(touches: &[Touch], waiting: &[usize], place: usize) -> bool {
-    waiting.iter().all(|earlier| place <= *earlier || !meet_at(touches, *earlier, place))
-}
-
-/// The cut of a batch: the first level has the requests that meet no earlier one, the next level those that meet none of
-/// the rest, and so on.
-pub fn second_cut(alloc: Global, touches: &[Touch]) -> Result<Vec<Vec<usize>>, Memory> {
-    let mut waiting: Vec<usize> = (0..touches.len()).collect(alloc)?;
-    let mut cut = Vec::new(alloc);
-    for _ in 0..touches.len() {
-        if waiting.is_empty() {
-            break;
-        }
-        let mut level = Vec::new(alloc);
-        let mut rest = Vec::new(alloc);
-        for place in &waiting {
-            let side = if is_free(touches, &waiting, *place) {
-                &mut level
-            } else {
-                &mut rest
-            };
-            side.push(*place)?;
-        }
-        cut.push(level)?;
-        waiting = rest;
-    }
-    Ok(cut)
-}
 
 /// The warehouse, district and number of an order.
 type OrderColumns = (u8, u8, u32);
@@ -126,7 +30,7 @@ pub struct Books {
 }
 
 impl Books {
-    pub fn new(alloc: Global, warehouses: u8, store: &PointedStore) -> Result<Books, Memory> {
+    pub fn new(alloc: Global, warehouses: u8, store: &PointedStore) -> Result<Books, AllocError> {
         let mut books = Books {
             warehouses,
             next_orders: Vec::new(alloc),
@@ -140,14 +44,14 @@ impl Books {
         Ok(books)
     }
 
-    fn take_page(&mut self, page: &plain::RowStore) -> Result<(), Memory> {
+    fn take_page(&mut self, page: &plain::RowStore) -> Result<(), AllocError> {
         for (key, row) in page.iter() {
             self.take(key, row)?;
         }
         Ok(())
     }
 
-    fn take(&mut self, key: &RowKey, row: &Row) -> Result<(), Memory> {
+    fn take(&mut self, key: &RowKey, row: &Row) -> Result<(), AllocError> {
         match *key {
             RowKey::District {
                 warehouse: w,
@@ -186,29 +90,32 @@ impl Books {
         Ok(())
     }
 
-    /// What the request touches.
-    pub fn touch(&self, alloc: Global, request: &Request) -> Result<Touch, Memory> {
-        let mut touch = Touch {
-            reads: Vec::new(alloc),
-            writes: Vec::new(alloc),
-        };
+    /// What the request touches, in order.
+    pub fn touch(&self, alloc: Global, request: &Request) -> Result<Touch, AllocError> {
+        let mut touch = Touch::new(alloc);
+        self.add(alloc, request, &mut touch)?;
+        touch.sort();
+        Ok(touch)
+    }
+
+    fn add(&self, alloc: Global, request: &Request, touch: &mut Touch) -> Result<(), AllocError> {
         match request {
-            Request::NewOrder(p) => self.order(p, &mut touch)?,
-            Request::Payment(p) => self.pay(alloc, p, &mut touch)?,
+            Request::NewOrder(p) => self.order(p, touch),
+            Request::Payment(p) => self.pay(alloc, p, touch),
             Request::OrderStatus(p) => {
                 let (w, d) = (p.warehouse.number(), p.district.number());
                 if let (true, Some(c)) = (w <= self.warehouses, chosen(alloc, &p.customer)?) {
                     touch.read(customer_row(w, d, c))?;
                     touch.read(book(w, d))?;
                 }
+                Ok(())
             }
-            Request::Delivery(p) => self.deliver(p, &mut touch)?,
-            Request::StockLevel(p) => self.look(p, &mut touch)?,
+            Request::Delivery(p) => self.deliver(p, touch),
+            Request::StockLevel(p) => self.look(p, touch),
         }
-        Ok(touch)
     }
 
-    fn order(&self, p: &NewOrder, touch: &mut Touch) -> Result<(), Memory> {
+    fn order(&self, p: &NewOrder, touch: &mut Touch) -> Result<(), AllocError> {
         let (w, d) = (p.warehouse.number(), p.district.number());
         let lines = p.lines.as_slice();
         let has_lines = lines.iter().all(|line| line.item.number() <= 100
@@ -224,7 +131,7 @@ impl Books {
         Ok(())
     }
 
-    fn pay(&self, alloc: Global, p: &Payment, touch: &mut Touch) -> Result<(), Memory> {
+    fn pay(&self, alloc: Global, p: &Payment, touch: &mut Touch) -> Result<(), AllocError> {
         let (w, d) = (p.warehouse.number(), p.district.number());
         let (cw, cd) = (p.customer_warehouse.number(), p.customer_district.number());
         let is_known = w <= self.warehouses && cw <= self.warehouses;
@@ -244,7 +151,7 @@ impl Books {
             .min()
     }
 
-    fn deliver(&self, p: &Delivery, touch: &mut Touch) -> Result<(), Memory> {
+    fn deliver(&self, p: &Delivery, touch: &mut Touch) -> Result<(), AllocError> {
         let w = p.warehouse.number();
         if self.warehouses < w {
             return Ok(());
@@ -270,7 +177,7 @@ impl Books {
             .map_or(0, |district| district.2)
     }
 
-    fn look(&self, p: &StockLevel, touch: &mut Touch) -> Result<(), Memory> {
+    fn look(&self, p: &StockLevel, touch: &mut Touch) -> Result<(), AllocError> {
         let (w, d) = (p.warehouse.number(), p.district.number());
         if self.warehouses < w {
             return Ok(());
@@ -289,7 +196,7 @@ impl Books {
 }
 
 /// The number of the customer whom a request means, where there is one.
-fn chosen(alloc: Global, choice: &CustomerChoice) -> Result<Option<u16>, Memory> {
+fn chosen(alloc: Global, choice: &CustomerChoice) -> Result<Option<u16>, AllocError> {
     match choice {
         CustomerChoice::Number(c) => Ok(Some(c.number()).filter(|c| *c <= 45)),
         CustomerChoice::LastName(last) => middle(alloc, last.as_bytes()),
@@ -301,7 +208,7 @@ fn is_named(customer: u16, last: &[u8]) -> bool {
 }
 
 /// Of the customers of a last name, by first name and number, the one in the middle.
-fn middle(alloc: Global, last: &[u8]) -> Result<Option<u16>, Memory> {
+fn middle(alloc: Global, last: &[u8]) -> Result<Option<u16>, AllocError> {
     let mut holders = Vec::new(alloc);
     for customer in 1..46u16 {
         if is_named(customer, last) {
