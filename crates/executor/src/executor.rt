@@ -176,7 +176,7 @@ impl Executor {
             return Err(refusal);
         }
         sound_states();
-        requests_within(batch.requests.as_slice());
+        requests_within(&batch.requests);
         batch.moment.seconds();
         let record = execute_batch(
             rt,

@@ -182,7 +182,7 @@ pub(crate) fn execute_parallel<R: Threads + Sync, G: Gate>(
         return Ok(Vec::new(alloc));
     }
     declared_levels();
-    requests_within(requests);
+    requests_within(&batch.requests);
     batch.moment.seconds();
     let footprints = declare_all(alloc, catalog, store, requests)?;
     let book = run_levels(

@@ -1,10 +1,8 @@
 use Rattle.std.proofs.Common.{◌≡◌, ◌∙◌, ℕ, List, Some, ap, map, subst}
-use Rattle.std.specs.List.{All}
 use Rattle.serializability.specs.Footprints.{Footprint}
 use Rattle.serializability.specs.Levels as levels
 use Rattle.tpcc_rows.specs.Limits.{IsBetween}
 use Rattle.tpcc_rows.specs.declared.granule.Granule.{Granule}
-use Rattle.transactions.specs.Requests.{IsRequest}
 use Rattle.tpcc_model.specs.Machine.{tpcc}
 use Rattle.tpcc_model.specs.Serial.{batch_replies}
 use Rattle.tpcc_model.specs.Touches.{touch}
@@ -24,7 +22,7 @@ unwrap-requires g c =
     c.deref.ensures.value ∙ c.in_ok-footprints.ensures ∙ ap (map (touch (record { cards = cards; rows = state.rows }))) requests in
     let limits : AreWithinLimits batch.moment state.next batch.requests = record {
       moment_within = subst (λ (m : ℕ). IsBetween 0 999999999999 m) c.seconds.ensures.value c.seconds.ensures.range;
-      each_request = subst (All IsRequest) requests c.requests_within.ensures;
+      each_request = c.requests_within.ensures;
       first_number = c.requires.low;
       last_number = c.requires.high;
     } in
@@ -43,7 +41,7 @@ returns-clause-replies g c =
     c.deref.ensures.value ∙ c.in_ok-footprints.ensures ∙ ap (map (touch (record { cards = cards; rows = state.rows }))) requests in
     let limits : AreWithinLimits batch.moment state.next batch.requests = record {
       moment_within = subst (λ (m : ℕ). IsBetween 0 999999999999 m) c.seconds.ensures.value c.seconds.ensures.range;
-      each_request = subst (All IsRequest) requests c.requests_within.ensures;
+      each_request = c.requests_within.ensures;
       first_number = c.requires.low;
       last_number = c.requires.high;
     } in
@@ -62,7 +60,7 @@ returns-clause-rows g c =
     c.deref.ensures.value ∙ c.in_ok-footprints.ensures ∙ ap (map (touch (record { cards = cards; rows = state.rows }))) requests in
     let limits : AreWithinLimits batch.moment state.next batch.requests = record {
       moment_within = subst (λ (m : ℕ). IsBetween 0 999999999999 m) c.seconds.ensures.value c.seconds.ensures.range;
-      each_request = subst (All IsRequest) requests c.requests_within.ensures;
+      each_request = c.requests_within.ensures;
       first_number = c.requires.low;
       last_number = c.requires.high;
     } in

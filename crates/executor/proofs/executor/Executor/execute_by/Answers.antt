@@ -1,7 +1,5 @@
 use Rattle.std.proofs.Common.{◌≡◌, ◌∙◌, ◌+◌, ℕ, None, ap, length, subst, sym, arith}
-use Rattle.std.specs.List.{All}
 use Rattle.tpcc_rows.specs.Limits.{IsBetween}
-use Rattle.transactions.specs.Requests.{IsRequest}
 use Rattle.executor.specs.Executions.{refusal_for}
 use Rattle.executor.specs.Lines.{Line, extended, state_of}
 use Rattle.executor.specs.States.{AreWithinLimits, IsSoundState}
@@ -44,7 +42,7 @@ invariant_of-self-2 g c =
     let sequence = record_is.sequence in
     let limits : AreWithinLimits batch.moment c.self.inside.present.next batch.requests = record {
       moment_within = subst (λ (m : ℕ). IsBetween 0 999999999999 m) c.seconds.ensures.value c.seconds.ensures.range;
-      each_request = subst (All IsRequest) c.as_slice.ensures c.requests_within.ensures;
+      each_request = c.requests_within.ensures;
       first_number = low;
       last_number = omega (arith, end, next_there);
     } in
@@ -83,7 +81,7 @@ returns-clause-sound g c =
     let low = c.self.invariant.next_within.0 in
     let limits : AreWithinLimits batch.moment c.self.inside.present.next batch.requests = record {
       moment_within = subst (λ (m : ℕ). IsBetween 0 999999999999 m) c.seconds.ensures.value c.seconds.ensures.range;
-      each_request = subst (All IsRequest) c.as_slice.ensures c.requests_within.ensures;
+      each_request = c.requests_within.ensures;
       first_number = low;
       last_number = omega (arith, end, next_there);
     } in
