@@ -44,7 +44,8 @@ pub enum Line {
 pub enum LineFault {
     /// The words are refused, or ask for help. The error prints its own text.
     Refused(Error),
-    /// Memory ran out, and so no line was read.
+    /// No line was read: memory ran out, or `clap` took the words and had no value for one of their arguments, which no
+    /// words are known to bring about.
     Unread,
 }
 

@@ -81,8 +81,8 @@ fn make_in(matches: &ArgMatches) -> Option<Line>
     })
 }
 
-/// The line of the subcommand that was met. None where memory runs out, or where it has no value for an argument of
-/// that subcommand, which `clap` lets no words pass without.
+/// The line of the subcommand that was met. None where memory runs out, or where `clap` has no value for one of its
+/// arguments.
 pub fn line_in(alloc: Global, matches: &ArgMatches) -> Option<Line>
     ensures line { IfSome result (λ line.
         IsSomeAnd (subcommand_rows_of matches.now) (IsLineOf line)) }

@@ -31,7 +31,7 @@ impl NextBatch<'_> {
     pub fn keep_within(&self)
         ensures { AreWithinLimits self.now.batch.now.moment self.now.stamp.next self.now.batch.now.requests }
     {
-        requests_within(self.batch.requests.as_slice());
+        requests_within(&self.batch.requests);
         self.batch.moment.seconds();
     }
 }

@@ -1,18 +1,25 @@
-use Rattle.std.proofs.Common.{arith, length, subst, ◌≤◌}
-use Rattle.std.proofs.lemmas.List.{take_all}
-use Rattle.std.proofs.lemmas.List.Elements.{All-more}
-use Rattle.std.specs.List.{All}
+use Rattle.std.proofs.Common.{◌∷◌, [], List}
+use Rattle.std.specs.List.{All, AllByRecursion}
+use Rattle.std.proofs.lemmas.List.Elements.{All-head, All-tail}
+use Rattle.tpcc_rows.specs.Limits.{IsBetween}
+use Rattle.requests.specs.Lines.{IsReadLine}
+use Rattle.requests.specs.Requests.{IsReadRequest}
+use Rattle.requests.specs.declared.request.OrderedLine.{OrderedLine}
+use Rattle.requests.specs.declared.request.Request.{Request}
+use Rattle.requests.specs.declared.request.Request.TheVariants as request
 use Rattle.transactions.specs.Requests.{IsRequest}
 use Rattle.executor.proofs.limits.requests_within.Goals as goal
 
--- src/limits.rt:35:5
-pub loop-request-preserved : goal.loop-request-preserved
-loop-request-preserved c =
-    All-more IsRequest c.args.requests.now c.loop-request.request-index c.request-item.result c.loop-request-test.true c.loop-request.invariant
-    (subst IsRequest c.request-item.is c.request_within.ensures)
+quantities : (lines : List OrderedLine) → All IsReadLine lines → AllByRecursion (λ line. IsBetween 1 10 line.quantity) lines
+quantities [] all = tt
+quantities (line ∷ lines) all = ((All-head IsReadLine line lines all).quantity, quantities lines (All-tail IsReadLine line lines all))
 
--- src/limits.rt:32:1
+is_request : (asked : Request) → IsReadRequest asked → IsRequest asked
+is_request (request.NewOrder p) is = record { lines = is.count; quantities = quantities p.lines is.lines }
+is_request (request.Payment p) is = is.amount
+is_request (request.OrderStatus p) is = tt
+is_request (request.Delivery p) is = is.carrier
+is_request (request.StockLevel p) is = tt
+
 pub returns : goal.returns
-returns c =
-    let past : length c.args.requests.now ≤ c.loop-request.request-index = omega (arith, c.loop-request-test.false) in
-    subst (All IsRequest) (take_all c.loop-request.request-index c.args.requests.now past) c.loop-request.invariant
+returns c = λ k d within. is_request _ (c.are_within.ensures k d within)
