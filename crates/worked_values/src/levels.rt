@@ -312,7 +312,7 @@ fn drawn_by_each<R: Threads + Sync, G: Gate>(
     desk: &Desk,
     seats: Vec<Seat>,
     gate: &G,
-) -> Option<Vec<usize>>
+) -> Option<Vec<Option<usize>>>
     requires own { All (IsNewSeatOf desk.now) seats.items }
     requires places { places_of desk.now ≡ 2 }
     requires requests { length declared.now.batch.requests ≡ 2 }
@@ -323,24 +323,24 @@ fn drawn_by_each<R: Threads + Sync, G: Gate>(
     thread::map_vec(
         rt,
         seats,
-        &|mut seat: Seat| -> usize
+        &|mut seat: Seat| -> Option<usize>
             requires { IsNewSeatOf desk.now seat × (places_of desk.now ≡ 2) × (length batch.now.requests ≡ 2) × (length footprints.now.items ≡ 2) }
         {
             let part = run_seat(
                 alloc, catalog, store, batch, 7, &BOTH, footprints, desk, &mut seat, gate,
             );
-            part.map_or(0, |drawn| drawn.len())
+            Some(part.ok()?.len())
         },
     )
     .ok()
 }
 
-fn sum(counts: &[usize]) -> usize {
+fn sum(counts: &[Option<usize>]) -> Option<usize> {
     let mut sum = 0usize;
     for count in counts {
-        sum = sum.saturating_add(*count);
+        sum = sum.saturating_add((*count)?);
     }
-    sum
+    Some(sum)
 }
 
 /// How many places two seats of one desk draw of two requests.
@@ -356,7 +356,7 @@ fn drawn_by_seats<R: Threads + Sync, G: Gate>(
     }
     let (desk, seats) = Desk::new(alloc, 2, 2).ok()?;
     let drawn = drawn_by_each(rt, alloc, database, declared, &desk, seats, gate)?;
-    Some(sum(&drawn))
+    sum(&drawn)
 }
 
 /// Two workers, and two seats, are inside two places at once.
