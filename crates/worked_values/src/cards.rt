@@ -1,8 +1,8 @@
 //! Catalogs: look-ups, customers by last name, and digests.
 use crate::printing::{print_hash, print_written};
 use catalog::{
-    Card, CardKey, Catalog, Credit, CustomerCard, DistrictCard, DistrictInfos, ItemCard, StockCard,
-    WarehouseCard,
+    Card, CardKey, Catalog, CatalogError, Credit, CustomerCard, DistrictCard, DistrictInfos,
+    ItemCard, StockCard, WarehouseCard,
 };
 use std::alloc::Global;
 use tpcc_rows::id::{CustomerId, DistrictId, ItemId, WarehouseId};
@@ -33,13 +33,14 @@ fn customer(
     first: &[u8],
     credit: Credit,
 ) -> Option<Card> {
+    let (last, first) = (Text::parse(last)?, Text::parse(first)?);
     Some(Card::Customer(CustomerCard {
         warehouse: WarehouseId::new(place.0)?,
         district: DistrictId::new(place.1)?,
         customer: CustomerId::new(number)?,
-        last: Text::parse(last)?,
+        last,
         middle: Text::parse(b"OE")?,
-        first: Text::parse(first)?,
+        first,
         credit,
         discount: Rate::new(1_234)?,
     }))
@@ -83,43 +84,78 @@ fn item(number: u32, price: u32) -> Option<Card> {
     }))
 }
 
-fn push(cards: &mut Vec<Card>, card: Option<Card>) -> Option<()> {
-    cards.push(card?).ok()
+/// A card's columns as plain values.
+#[derive(Clone, Copy)]
+enum Columns {
+    Warehouse(u8, &'static [u8]),
+    District((u8, u8), &'static [u8]),
+    /// A customer of a district, with C_LAST, C_FIRST and C_CREDIT.
+    Customer((u8, u8), u16, &'static [u8], &'static [u8], Credit),
+    /// The stock of the last item.
+    Stock,
+    /// An item and its price.
+    Item(u32, u32),
 }
 
-fn catalog_of(alloc: Global, cards: Vec<Card>) -> Option<Catalog> {
-    Catalog::new(alloc, cards).ok()
+impl Columns {
+    /// None where a value is outside its limits.
+    fn card(self, alloc: Global) -> Option<Card> {
+        match self {
+            Columns::Warehouse(number, name) => warehouse(number, name),
+            Columns::District(place, name) => district(place, name),
+            Columns::Customer(place, number, last, first, credit) => {
+                customer(place, number, last, first, credit)
+            }
+            Columns::Stock => stock(alloc),
+            Columns::Item(number, price) => item(number, price),
+        }
+    }
+}
+
+fn push_all(alloc: Global, cards: &mut Vec<Card>, all: &[Columns]) -> Option<()> {
+    for columns in all {
+        cards.push(columns.card(alloc)?).ok()?;
+    }
+    Some(())
+}
+
+fn catalog_of(alloc: Global, all: &[Columns]) -> Option<Result<Catalog, CatalogError>> {
+    let mut cards = Vec::new(alloc);
+    push_all(alloc, &mut cards, all)?;
+    Some(Catalog::new(alloc, cards))
 }
 
 // ---- look-ups
 
-fn push_few(cards: &mut Vec<Card>) -> Option<()> {
-    push(cards, item(7, 100))?;
-    push(cards, district((1, 10), b"D"))?;
-    push(cards, warehouse(1, b"W1"))
+/// An item, a district and a warehouse; and another card of the same warehouse.
+const CARDS: [Columns; 4] = [
+    Columns::Item(7, 100),
+    Columns::District((1, 10), b"D"),
+    Columns::Warehouse(1, b"W1"),
+    Columns::Warehouse(1, b"W2"),
+];
+
+fn show_name(rt: &impl Print, catalog: &Catalog) -> Option<()> {
+    let name = &catalog.warehouse(WarehouseId::new(1)?)?.name;
+    print_written(rt, "name of a warehouse", name.as_bytes());
+    Some(())
 }
 
-fn few(alloc: Global) -> Option<Catalog> {
-    let mut cards = Vec::new(alloc);
-    push_few(&mut cards)?;
-    catalog_of(alloc, cards)
-}
-
-fn show_found(rt: &impl Print, catalog: &Catalog) -> Option<()> {
-    let (one, ten, seven) = (WarehouseId::new(1)?, DistrictId::new(10)?, ItemId::new(7)?);
-    print_written(
-        rt,
-        "name of a warehouse",
-        catalog.warehouse(one)?.name.as_bytes(),
-    );
-    let tax = catalog.district(one, ten)?.tax.value();
-    let price = catalog.item(seven)?.price.cents();
+fn show_numbers(rt: &impl Print, catalog: &Catalog) -> Option<()> {
+    let (warehouse, district) = (WarehouseId::new(1)?, DistrictId::new(10)?);
+    let tax = catalog.district(warehouse, district)?.tax.value();
+    let price = catalog.item(ItemId::new(7)?)?.price.cents();
     let _ = println!(rt;
         "cards: {}, tax of a district: {tax}, price of an item: {price}",
         catalog.len()
     );
+    Some(())
+}
+
+fn show_found(rt: &impl Print, catalog: &Catalog) -> Option<()> {
+    let (one, two, seven) = (WarehouseId::new(1)?, WarehouseId::new(2)?, ItemId::new(7)?);
     let no_stock = catalog.stock(one, seven).is_none();
-    let no_warehouse = catalog.warehouse(WarehouseId::new(2)?).is_none();
+    let no_warehouse = catalog.warehouse(two).is_none();
     let first = *catalog.cards().next()?.0 == CardKey::Warehouse { warehouse: one };
     let _ = println!(rt;
         "no stock: {no_stock}, no other warehouse: {no_warehouse}, the warehouse is first: {first}"
@@ -127,11 +163,14 @@ fn show_found(rt: &impl Print, catalog: &Catalog) -> Option<()> {
     Some(())
 }
 
+fn show_few(rt: &impl Print, catalog: &Catalog) -> Option<()> {
+    show_name(rt, catalog)?;
+    show_numbers(rt, catalog)?;
+    show_found(rt, catalog)
+}
+
 fn show_twice(rt: &impl Print, alloc: Global) -> Option<()> {
-    let mut cards = Vec::new(alloc);
-    push_few(&mut cards)?;
-    push(&mut cards, warehouse(1, b"W2"))?;
-    let refused = Catalog::new(alloc, cards).err();
+    let refused = catalog_of(alloc, &CARDS)?.err();
     let _ = println!(rt; "two cards of one key: {refused:?}");
     Some(())
 }
@@ -153,9 +192,9 @@ fn named(district: u8, number: u8) -> Option<Card> {
 
 /// The district's customers 1 to 45, and one of another district.
 fn push_named(cards: &mut Vec<Card>) -> Option<()> {
-    push(cards, named(2, 7))?;
+    cards.push(named(2, 7)?).ok()?;
     for number in 1..46u8 {
-        push(cards, named(1, number))?;
+        cards.push(named(1, number)?).ok()?;
     }
     Some(())
 }
@@ -163,12 +202,18 @@ fn push_named(cards: &mut Vec<Card>) -> Option<()> {
 /// Districts and last names. In the first district, in order: 27, 37, 7 and 17; 43, 23, 33, 3 and 13.
 const CHOICES: [(u8, &str); 5] = [(1, "7"), (1, "3"), (1, "77"), (2, "7"), (3, "7")];
 
-fn show_chosen(rt: &impl Print, catalog: &Catalog) -> Option<()> {
+fn show_choice(rt: &impl Print, catalog: &Catalog, number: u8, last: &str) -> Option<()> {
+    let (warehouse, district) = (WarehouseId::new(1)?, DistrictId::new(number)?);
+    let name = Text::parse(last.as_bytes())?;
+    let chosen = catalog.by_last(warehouse, district, &name);
+    let chosen = chosen.map(CustomerId::number);
+    let _ = println!(rt; "customer of district {number} by the last name {last}: {chosen:?}");
+    Some(())
+}
+
+fn show_choices(rt: &impl Print, catalog: &Catalog) -> Option<()> {
     for (district, last) in CHOICES {
-        let name = Text::parse(last.as_bytes())?;
-        let chosen = catalog.by_last(WarehouseId::new(1)?, DistrictId::new(district)?, &name);
-        let number = chosen.map(|customer| customer.number());
-        let _ = println!(rt; "customer of district {district} by the last name {last}: {number:?}");
+        show_choice(rt, catalog, district, last)?;
     }
     Some(())
 }
@@ -176,63 +221,55 @@ fn show_chosen(rt: &impl Print, catalog: &Catalog) -> Option<()> {
 fn show_names(rt: &impl Print, alloc: Global) -> Option<()> {
     let mut cards = Vec::new(alloc);
     push_named(&mut cards)?;
-    show_chosen(rt, &catalog_of(alloc, cards)?)
+    show_choices(rt, &Catalog::new(alloc, cards).ok()?)
 }
 
 // ---- digests
 
-fn digests_customer(credit: Credit) -> Option<Card> {
-    customer((2, 3), 3_000, b"BAROUGHTABLE", b"F9", credit)
-}
+const WAREHOUSE: Columns = Columns::Warehouse(7, b"W7");
 
-fn show_digest(rt: &impl Print, alloc: Global, name: &str, cards: Vec<Card>) -> Option<()> {
-    print_hash(rt, name, &catalog_of(alloc, cards)?.digest());
+const DISTRICT: Columns = Columns::District((100, 10), b"D10");
+
+const BAD_CUSTOMER: Columns = Columns::Customer((2, 3), 3_000, b"BAROUGHTABLE", b"F9", Credit::Bad);
+
+const GOOD_CUSTOMER: Columns = Columns::Customer(
+    (2, 3),
+    3_000,
+    b"BAROUGHTABLE",
+    b"F9",
+    Credit::Good,
+);
+
+const ITEM: Columns = Columns::Item(99_999, 99_998);
+
+const CATALOGS: [(&str, &[Columns]); 7] = [
+    ("digest of a warehouse", &[WAREHOUSE]),
+    ("digest of a district", &[DISTRICT]),
+    ("digest of a customer of bad credit", &[BAD_CUSTOMER]),
+    ("digest of a customer of good credit", &[GOOD_CUSTOMER]),
+    ("digest of a stock", &[Columns::Stock]),
+    ("digest of an item", &[ITEM]),
+    (
+        "digest of all kinds",
+        &[ITEM, Columns::Stock, BAD_CUSTOMER, WAREHOUSE, DISTRICT],
+    ),
+];
+
+fn show_digest(rt: &impl Print, alloc: Global, name: &str, cards: &[Columns]) -> Option<()> {
+    let catalog = catalog_of(alloc, cards)?.ok()?;
+    print_hash(rt, name, &catalog.digest());
     Some(())
 }
 
-fn show_digest_of(rt: &impl Print, alloc: Global, name: &str, card: Option<Card>) -> Option<()> {
-    let mut cards = Vec::new(alloc);
-    push(&mut cards, card)?;
-    show_digest(rt, alloc, name, cards)
-}
-
-fn push_all_kinds(alloc: Global, cards: &mut Vec<Card>) -> Option<()> {
-    push(cards, item(99_999, 99_998))?;
-    push(cards, stock(alloc))?;
-    push(cards, digests_customer(Credit::Bad))?;
-    push(cards, warehouse(7, b"W7"))?;
-    push(cards, district((100, 10), b"D10"))
-}
-
 fn show_digests(rt: &impl Print, alloc: Global) -> Option<()> {
-    show_digest_of(rt, alloc, "digest of a warehouse", warehouse(7, b"W7"))?;
-    show_digest_of(
-        rt,
-        alloc,
-        "digest of a district",
-        district((100, 10), b"D10"),
-    )?;
-    show_digest_of(
-        rt,
-        alloc,
-        "digest of a customer of bad credit",
-        digests_customer(Credit::Bad),
-    )?;
-    show_digest_of(
-        rt,
-        alloc,
-        "digest of a customer of good credit",
-        digests_customer(Credit::Good),
-    )?;
-    show_digest_of(rt, alloc, "digest of a stock", stock(alloc))?;
-    show_digest_of(rt, alloc, "digest of an item", item(99_999, 99_998))?;
-    let mut cards = Vec::new(alloc);
-    push_all_kinds(alloc, &mut cards)?;
-    show_digest(rt, alloc, "digest of all kinds", cards)
+    for (name, cards) in CATALOGS {
+        show_digest(rt, alloc, name, cards)?;
+    }
+    Some(())
 }
 
 pub fn show(rt: &impl Print, alloc: Global) -> Option<()> {
-    show_found(rt, &few(alloc)?)?;
+    show_few(rt, &catalog_of(alloc, &CARDS[..3])?.ok()?)?;
     show_twice(rt, alloc)?;
     show_names(rt, alloc)?;
     show_digests(rt, alloc)

@@ -5,7 +5,7 @@ use catalog::Catalog;
 use loader::make;
 use profiles::declare;
 use requests::reply::Reply;
-use requests::request::Batch;
+use requests::request::{Batch, Request};
 use requests::{BatchReader, write_reply};
 use rollback::PointedStore;
 use std::alloc::Global;
@@ -13,21 +13,26 @@ use tpcc_rows::delta::Delta;
 use tpcc_rows::footprint::Footprint;
 use tpcc_rows::id::RequestNumber;
 use tpcc_rows::memory::Memory;
-use transactions::{ExecError, execute};
-use worker_rows::{RowView, Whole};
+use tpcc_rows::number::Moment;
+use transactions::execute;
+use worker_rows::Whole;
 
 /// The most bytes that batches may have.
 const MOST_BATCH_BYTES: usize = 1_073_741_824;
+
+fn batch_in(alloc: Global, text: &[u8]) -> Option<Batch> {
+    if text.len() > MOST_BATCH_BYTES {
+        return None;
+    }
+    let mut reader = BatchReader::new(alloc, text).ok()?;
+    reader.next_batch(alloc).ok()?
+}
 
 /// The batch of these requests, at moment 100, each of them a record on a line of its own.
 pub fn batch_of(alloc: Global, requests: &str) -> Option<Batch> {
     let count = requests.lines().count();
     let text = format!(in alloc; "B,100,commit,{count}\n{requests}").ok()?;
-    if text.len() > MOST_BATCH_BYTES {
-        return None;
-    }
-    let mut reader = BatchReader::new(alloc, text.as_bytes()).ok()?;
-    reader.next_batch(alloc).ok()?
+    batch_in(alloc, text.as_bytes())
 }
 
 /// A database, and the number of the next request.
@@ -51,46 +56,43 @@ impl Database {
         })
     }
 
-    /// The number of the request of a place of the batch that is executed next.
-    pub fn number(&self, place: usize) -> Option<RequestNumber> {
-        RequestNumber::new(self.next.saturating_add(place as u64))
-    }
-
-    /// What the request of a place does on a view of rows.
-    pub fn step_on<V: RowView>(
+    /// The reply to a request with a number, and the rows that it changes.
+    fn step(
         &self,
         alloc: Global,
-        batch: &Batch,
-        place: usize,
-        view: &V,
-    ) -> Option<Result<(Reply, Delta), ExecError>> {
-        let request = batch.requests.as_slice().get(place)?;
-        let number = self.number(place)?;
-        Some(execute(alloc, &self.catalog, request, number, batch.moment, view))
-    }
-
-    /// The reply to the request of a place, and the rows that it changes.
-    pub fn step(&self, alloc: Global, batch: &Batch, place: usize) -> Option<(Reply, Delta)> {
+        request: &Request,
+        number: RequestNumber,
+        moment: Moment,
+    ) -> Option<(Reply, Delta)> {
         let view = Whole { store: &self.store };
-        self.step_on(alloc, batch, place, &view)?.ok()
+        execute(alloc, &self.catalog, request, number, moment, &view).ok()
     }
 
-    /// The reply to the request of a place, as a record.
-    pub fn record(&self, alloc: Global, batch: &Batch, place: usize) -> Option<Vec<u8>> {
-        let (reply, _) = self.step(alloc, batch, place)?;
-        let number = self.number(place)?;
+    /// The reply to the first request of a batch, as a record.
+    pub fn record(&self, alloc: Global, batch: &Batch) -> Option<Vec<u8>> {
+        let number = RequestNumber::new(self.next)?;
+        let request = batch.requests.as_slice().first()?;
+        let (reply, _) = self.step(alloc, request, number, batch.moment)?;
         let mut text = Vec::new(alloc);
         write_reply(alloc, number, &reply, &mut text).ok()?;
         Some(text)
     }
 
-    /// Executes a batch, one request after the other.
-    pub fn execute(&mut self, alloc: Global, batch: &Batch) -> Option<()> {
-        for place in 0..batch.requests.len() {
-            let (_, delta) = self.step(alloc, batch, place)?;
-            self.store.apply(&delta).ok()?;
+    /// Executes a request.
+    fn execute(&mut self, alloc: Global, request: &Request, moment: Moment) -> Option<()> {
+        let number = RequestNumber::new(self.next)?;
+        let (_, delta) = self.step(alloc, request, number, moment)?;
+        self.store.apply(&delta).ok()?;
+        self.next = self.next.saturating_add(1);
+        Some(())
+    }
+
+    /// Executes requests, one after the other.
+    pub fn run(&mut self, alloc: Global, requests: &str) -> Option<()> {
+        let batch = batch_of(alloc, requests)?;
+        for request in batch.requests.as_slice() {
+            self.execute(alloc, request, batch.moment)?;
         }
-        self.next = self.next.saturating_add(batch.requests.len() as u64);
         Some(())
     }
 
@@ -109,6 +111,6 @@ pub fn database_after(alloc: Global, warehouses: u8, earlier: &str) -> Option<Da
     requires { IsBetween 1 100 warehouses }
 {
     let mut database = Database::make(alloc, warehouses).ok()?;
-    database.execute(alloc, &batch_of(alloc, earlier)?)?;
+    database.run(alloc, earlier)?;
     Some(database)
 }

@@ -2,8 +2,9 @@
 //! spelled as a letter and its numbers, as in `D1.3`.
 use crate::batches::SEVEN_ORDERS;
 use crate::database::{Database, batch_of, database_after};
-use crate::rows::{district, new_order, order, order_line, put_pointed};
+use crate::rows::{Columns, Sold, put_all};
 use std::alloc::Global;
+use tpcc_rows::footprint::Footprint;
 use tpcc_rows::granule::Granule;
 
 fn print_granule(rt: &impl Print, granule: &Granule) {
@@ -37,15 +38,24 @@ fn print_granules(rt: &impl Print, what: &str, granules: &[Granule]) {
     let _ = println!(rt; "");
 }
 
-/// What each request, a line each, reads and writes.
+fn show_touches(rt: &impl Print, request: &str, touches: &[Footprint]) {
+    for touch in touches {
+        let _ = println!(rt; "{request}");
+        print_granules(rt, "reads", touch.reads());
+        print_granules(rt, "writes", touch.writes());
+    }
+}
+
+/// What a request reads and writes.
+fn show_request(rt: &impl Print, alloc: Global, database: &Database, request: &str) -> Option<()> {
+    let touches = database.declare(alloc, &batch_of(alloc, request)?).ok()?;
+    show_touches(rt, request, &touches);
+    Some(())
+}
+
 fn show_each(rt: &impl Print, alloc: Global, database: &Database, requests: &str) -> Option<()> {
     for request in requests.lines() {
-        let batch = batch_of(alloc, request)?;
-        for touch in &database.declare(alloc, &batch).ok()? {
-            let _ = println!(rt; "{request}");
-            print_granules(rt, "reads", touch.reads());
-            print_granules(rt, "writes", touch.writes());
-        }
+        show_request(rt, alloc, database, request)?;
     }
     Some(())
 }
@@ -82,44 +92,58 @@ S,3,1,10
 ";
 
 /// District 3 has two new orders, district 4 an order that isn't new, and that of district 9 has no order.
-fn put_orders(database: &mut Database) -> Option<()> {
-    let store = &mut database.store;
-    put_pointed(store, order((1, 3), 4, 7, 1, 0, 5))?;
-    put_pointed(store, new_order((1, 3), 4))?;
-    put_pointed(store, order((1, 3), 5, 8, 1, 0, 5))?;
-    put_pointed(store, new_order((1, 3), 5))?;
-    put_pointed(store, order((1, 4), 4, 9, 1, 0, 5))?;
-    put_pointed(store, new_order((1, 9), 1))
-}
+const ORDERS: [Columns; 6] = [
+    Columns::Order((1, 3), 4, 7, 1, 0, 5),
+    Columns::NewOrder((1, 3), 4),
+    Columns::Order((1, 3), 5, 8, 1, 0, 5),
+    Columns::NewOrder((1, 3), 5),
+    Columns::Order((1, 4), 4, 9, 1, 0, 5),
+    Columns::NewOrder((1, 9), 1),
+];
+
+/// A line that has item 3 out of the second warehouse.
+const SOLD: Sold = Sold {
+    item: 3,
+    supply: 2,
+    delivery: None,
+    quantity: 1,
+    amount: 100,
+    info: b"",
+};
 
 /// The last twenty orders are 2 to 21, and item 101 has no card.
-fn put_lines(database: &mut Database) -> Option<()> {
-    let store = &mut database.store;
-    put_pointed(store, district((1, 1), 0, 22))?;
-    let lines = [
-        ((1, 1), 3),
-        ((2, 15), 4),
-        ((21, 1), 5),
-        ((21, 2), 101),
-        ((21, 3), 4),
-        ((22, 1), 6),
-    ];
-    for (line, item) in lines {
-        put_pointed(
-            store,
-            order_line((1, 1), line, (item, 2), None, (1, 100), b""),
-        )?;
+const LINES: [Columns; 7] = [
+    Columns::District((1, 1), 0, 22),
+    Columns::Line((1, 1), 1, 3, SOLD),
+    Columns::Line((1, 1), 2, 15, Sold { item: 4, ..SOLD }),
+    Columns::Line((1, 1), 21, 1, Sold { item: 5, ..SOLD }),
+    Columns::Line((1, 1), 21, 2, Sold { item: 101, ..SOLD }),
+    Columns::Line((1, 1), 21, 3, Sold { item: 4, ..SOLD }),
+    Columns::Line((1, 1), 22, 1, Sold { item: 6, ..SOLD }),
+];
+
+/// Rows that are put one after the other, and requests on what there is then.
+const CASES: [(&[Columns], &str); 4] = [
+    (&[], KNOWN),
+    (&[], UNKNOWN),
+    (&ORDERS, "D,1,5\nD,2,5"),
+    (&LINES, "S,1,1,10\nS,1,2,10"),
+];
+
+fn show_cases(
+    rt: &impl Print,
+    alloc: Global,
+    database: &mut Database,
+    cases: &[(&[Columns], &str)],
+) -> Option<()> {
+    for (rows, requests) in cases {
+        put_all(alloc, &mut database.store, *rows)?;
+        show_each(rt, alloc, database, *requests)?;
     }
     Some(())
 }
 
 pub fn show(rt: &impl Print, alloc: Global) -> Option<()> {
-    let mut database = Database::make(alloc, 2).ok()?;
-    show_each(rt, alloc, &database, KNOWN)?;
-    show_each(rt, alloc, &database, UNKNOWN)?;
-    put_orders(&mut database)?;
-    show_each(rt, alloc, &database, "D,1,5\nD,2,5")?;
-    put_lines(&mut database)?;
-    show_each(rt, alloc, &database, "S,1,1,10\nS,1,2,10")?;
+    show_cases(rt, alloc, &mut Database::make(alloc, 2).ok()?, &CASES)?;
     show_each(rt, alloc, &database_after(alloc, 1, SEVEN_ORDERS)?, "D,1,5")
 }

@@ -7,14 +7,16 @@ use tpcc_rows::footprint::Footprint;
 use tpcc_rows::granule::Granule;
 use tpcc_rows::id::{CustomerId, DistrictId, ItemId, WarehouseId};
 
-fn district(number: u8) -> Option<Granule> {
+/// A district of the first warehouse.
+pub fn district(number: u8) -> Option<Granule> {
     Some(Granule::District {
         warehouse: WarehouseId::new(1)?,
         district: DistrictId::new(number)?,
     })
 }
 
-fn book(number: u8) -> Option<Granule> {
+/// Its book.
+pub fn book(number: u8) -> Option<Granule> {
     Some(Granule::Book {
         warehouse: WarehouseId::new(1)?,
         district: DistrictId::new(number)?,
@@ -25,6 +27,12 @@ fn stock(item: u32) -> Option<Granule> {
     Some(Granule::Stock {
         warehouse: WarehouseId::new(1)?,
         item: ItemId::new(item)?,
+    })
+}
+
+fn warehouse() -> Option<Granule> {
+    Some(Granule::Warehouse {
+        warehouse: WarehouseId::new(1)?,
     })
 }
 
@@ -45,10 +53,7 @@ fn print_bit(rt: &impl Print, granule: Option<Granule>) {
 /// The bits of warehouse 1, of a customer, of the districts and their books, and of the items 1 to 50.
 pub fn show_bits(rt: &impl Print) {
     let _ = print!(rt; "bits of a warehouse and a customer:");
-    print_bit(
-        rt,
-        WarehouseId::new(1).map(|warehouse| Granule::Warehouse { warehouse }),
-    );
+    print_bit(rt, warehouse());
     print_bit(rt, customer());
     let _ = print!(rt; "\nbits of districts:");
     for number in 1..11 {
@@ -65,55 +70,134 @@ pub fn show_bits(rt: &impl Print) {
     let _ = println!(rt; "");
 }
 
+// ---- signatures
+
+fn show_meetings(rt: &impl Print, one: &Signature, two: &Signature, none: &Signature) {
+    let _ = println!(rt;
+        "meet: {} {} {}",
+        one.meets(one),
+        one.meets(two),
+        none.meets(none)
+    );
+    let both = one.union(two);
+    let _ = println!(rt; "meet a union: {} {}", both.meets(one), two.meets(&both));
+}
+
+fn show_highest(rt: &impl Print, all: &[Signature; 3], both: &Signature, three: &Signature) {
+    let found = [
+        highest_meeting(all, both),
+        highest_meeting(all, &all[0]),
+        highest_meeting(all, three),
+        highest_meeting(&[], three),
+    ];
+    let _ = println!(rt; "highest that meets: {found:?}");
+}
+
+/// The signatures of the stocks of three items, and of nothing.
 fn show_signatures(rt: &impl Print) -> Option<()> {
     let one = Signature::of(&[stock(1)?]);
     let two = Signature::of(&[stock(2)?]);
-    let none = Signature::of(&[]);
-    let _ = println!(rt;
-        "meet: {} {} {}",
-        one.meets(&one),
-        one.meets(&two),
-        none.meets(&none)
-    );
-    let both = one.union(&two);
-    let _ = println!(rt; "meet a union: {} {}", both.meets(&one), two.meets(&both));
     let three = Signature::of(&[stock(3)?]);
-    let all = [one, two, none];
-    let found = [
-        highest_meeting(&all, &both),
-        highest_meeting(&all, &all[0]),
-        highest_meeting(&all, &three),
-        highest_meeting(&[], &three),
-    ];
-    let _ = println!(rt; "highest that meets: {found:?}");
+    let none = Signature::of(&[]);
+    show_meetings(rt, &one, &two, &none);
+    let both = one.union(&two);
+    show_highest(rt, &[one, two, none], &both, &three);
     Some(())
 }
 
-/// Footprints that grow, and whether one covers the other.
-fn show_covering(rt: &impl Print, declared: &mut Footprint, touch: &mut Footprint) -> Option<()> {
-    let (one, two) = (stock(1)?, stock(2)?);
-    let _ = println!(rt; "nothing covers nothing: {}", declared.covers(touch));
-    touch.read(one).ok()?;
+// ---- footprints
+
+/// Whether one footprint covers the other, and the other way round.
+fn show_covering(rt: &impl Print, what: &str, declared: &Footprint, touch: &Footprint) {
     let _ = println!(rt;
-        "one is read: {} {}",
+        "{what}: {} {}",
         declared.covers(touch),
         touch.covers(declared)
     );
+}
+
+fn show_covered(rt: &impl Print, what: &str, declared: &Footprint, touch: &Footprint) {
+    let _ = println!(rt; "{what}: {}", declared.covers(touch));
+}
+
+/// Footprints that grow, and whether one covers the other.
+fn show_growing(rt: &impl Print, declared: &mut Footprint, touch: &mut Footprint) -> Option<()> {
+    let (one, two) = (stock(1)?, stock(2)?);
+    show_covered(rt, "nothing covers nothing", declared, touch);
+    touch.read(one).ok()?;
+    show_covering(rt, "one is read", declared, touch);
     declared.read(two).ok()?;
     declared.write(one).ok()?;
-    let _ = println!(rt;
-        "both are read, one is written: {} {}",
-        declared.covers(touch),
-        touch.covers(declared)
-    );
+    show_covering(rt, "both are read, one is written", declared, touch);
     touch.write(two).ok()?;
-    let _ = println!(rt; "another is written: {}", declared.covers(touch));
+    show_covered(rt, "another is written", declared, touch);
     let (reads, writes) = (declared.reads().len(), declared.writes().len());
     let _ = println!(rt; "read: {reads}, written: {writes}");
     Some(())
 }
 
-fn show_levels(rt: &impl Print, alloc: Global, name: &str, footprints: &[Footprint]) -> Option<()> {
+// ---- levels
+
+/// What a request of a batch touches.
+#[derive(Clone, Copy)]
+enum Touch {
+    Read(u8),
+    Write(u8),
+    WriteStock(u32),
+}
+
+/// Batches whose requests read or write a district, or write a stock.
+const BATCHES: [(&str, &[Touch]); 5] = [
+    ("levels of none", &[]),
+    ("levels of sixteen that share", &[Touch::Write(1); 16]),
+    (
+        "levels of ten that share nothing",
+        &[
+            Touch::Write(1),
+            Touch::Write(2),
+            Touch::Write(3),
+            Touch::Write(4),
+            Touch::Write(5),
+            Touch::Write(6),
+            Touch::Write(7),
+            Touch::Write(8),
+            Touch::Write(9),
+            Touch::Write(10),
+        ],
+    ),
+    (
+        "levels of two of one bit",
+        &[Touch::Write(5), Touch::WriteStock(14)],
+    ),
+    (
+        "levels of readers and a writer",
+        &[
+            Touch::Read(1),
+            Touch::Read(1),
+            Touch::Write(1),
+            Touch::Write(2),
+        ],
+    ),
+];
+
+fn add(footprint: &mut Footprint, touch: Touch) -> Option<()> {
+    match touch {
+        Touch::Read(number) => footprint.read(district(number)?).ok(),
+        Touch::Write(number) => footprint.write(district(number)?).ok(),
+        Touch::WriteStock(item) => footprint.write(stock(item)?).ok(),
+    }
+}
+
+fn push_each(alloc: Global, footprints: &mut Vec<Footprint>, touches: &[Touch]) -> Option<()> {
+    for touch in touches {
+        let mut footprint = Footprint::new(alloc);
+        add(&mut footprint, *touch)?;
+        footprints.push(footprint).ok()?;
+    }
+    Some(())
+}
+
+fn show_cut(rt: &impl Print, alloc: Global, name: &str, footprints: &[Footprint]) -> Option<()> {
     if footprints.len() > 1_024 {
         return None;
     }
@@ -121,50 +205,21 @@ fn show_levels(rt: &impl Print, alloc: Global, name: &str, footprints: &[Footpri
     Some(())
 }
 
-/// A footprint for each granule, which writes it, or only reads it.
-fn push_each(
-    alloc: Global,
-    footprints: &mut Vec<Footprint>,
-    granules: &[(Option<Granule>, bool)],
-) -> Option<()> {
-    footprints.clear();
-    for (granule, is_written) in granules {
-        let mut footprint = Footprint::new(alloc);
-        let pushed = match (granule, is_written) {
-            (Some(granule), true) => footprint.write(*granule),
-            (Some(granule), false) => footprint.read(*granule),
-            (None, _) => return None,
-        };
-        pushed.ok()?;
-        footprints.push(footprint).ok()?;
+fn show_levels(rt: &impl Print, alloc: Global, name: &str, touches: &[Touch]) -> Option<()> {
+    let mut footprints = Vec::new(alloc);
+    push_each(alloc, &mut footprints, touches)?;
+    show_cut(rt, alloc, name, &footprints)
+}
+
+fn show_batches(rt: &impl Print, alloc: Global, batches: &[(&str, &[Touch])]) -> Option<()> {
+    for (name, touches) in batches {
+        show_levels(rt, alloc, *name, *touches)?;
     }
     Some(())
 }
 
-fn show_cuts(rt: &impl Print, alloc: Global, list: &mut Vec<Footprint>) -> Option<()> {
-    show_levels(rt, alloc, "levels of none", list)?;
-    push_each(alloc, list, &[(district(1), true); 16])?;
-    show_levels(rt, alloc, "levels of sixteen that share", list)?;
-    let mut apart = [(district(1), true); 10];
-    for (granule, number) in apart.iter_mut().zip(1..11) {
-        granule.0 = district(number);
-    }
-    push_each(alloc, list, &apart)?;
-    show_levels(rt, alloc, "levels of ten that share nothing", list)?;
-    push_each(alloc, list, &[(district(5), true), (stock(14), true)])?;
-    show_levels(rt, alloc, "levels of two of one bit", list)?;
-    let readers = [(district(1), false), (district(1), false)];
-    let writers = [(district(1), true), (district(2), true)];
-    push_each(
-        alloc,
-        list,
-        &[readers[0], readers[1], writers[0], writers[1]],
-    )?;
-    show_levels(rt, alloc, "levels of readers and a writer", list)
-}
-
 pub fn show(rt: &impl Print, alloc: Global) -> Option<()> {
     show_signatures(rt)?;
-    show_covering(rt, &mut Footprint::new(alloc), &mut Footprint::new(alloc))?;
-    show_cuts(rt, alloc, &mut Vec::new(alloc))
+    show_growing(rt, &mut Footprint::new(alloc), &mut Footprint::new(alloc))?;
+    show_batches(rt, alloc, &BATCHES)
 }

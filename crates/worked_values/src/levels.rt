@@ -1,6 +1,6 @@
 //! Levels of few requests that workers execute on a made database of two warehouses, the first request with number 7: each
 //! customer has a balance of -1,000 cents, and no district an order.
-ghost use Rattle.std.specs.Prelude.{◌≡◌, length};
+ghost use Rattle.std.specs.Prelude.{◌≡◌, All, length};
 ghost use Rattle.tickets.specs.Seats.{IsNewSeatOf, places_of};
 
 use crate::batches::ORDER_AND_DELIVERY;
@@ -8,6 +8,7 @@ use crate::database::{Database, batch_of};
 use crate::gates::{CountingGate, MeetingGate};
 use requests::request::Batch;
 use requests::write_reply;
+use rollback::PointedStore;
 use std::alloc::Global;
 use std::thread;
 use std::thread::Threads;
@@ -15,8 +16,7 @@ use tickets::{Desk, Seat};
 use tpcc_rows::footprint::Footprint;
 use tpcc_rows::id::RequestNumber;
 use tpcc_rows::key::RowKey;
-use tpcc_rows::memory::Memory;
-use workers::{Gate, LevelEnd, NoGate, Outcome, PlaceOutcome, Workers, run_level, run_seat};
+use workers::{Gate, LevelEnd, NoGate, PlaceOutcome, Workers, run_level, run_seat};
 
 const TWO_PAYMENTS: &str = "P,1,1,1,1,I,1,1000\nP,2,3,2,3,I,2,1000";
 
@@ -128,13 +128,16 @@ fn show_outcome(rt: &impl Print, alloc: Global, outcome: &PlaceOutcome) -> Optio
     Some(())
 }
 
+fn show_outcomes(rt: &impl Print, alloc: Global, outcomes: &[PlaceOutcome]) -> Option<()> {
+    for outcome in outcomes {
+        show_outcome(rt, alloc, outcome)?;
+    }
+    Some(())
+}
+
 fn show_end(rt: &impl Print, alloc: Global, end: &LevelEnd) -> Option<()> {
     match end {
-        LevelEnd::Done(outcomes) => {
-            for outcome in outcomes {
-                show_outcome(rt, alloc, outcome)?;
-            }
-        }
+        LevelEnd::Done(outcomes) => show_outcomes(rt, alloc, outcomes)?,
         LevelEnd::Strayed(place) => {
             let _ = println!(rt; "place {place} strays");
         }
@@ -148,37 +151,100 @@ fn show_counts(rt: &impl Print, gate: &CountingGate) {
     let _ = println!(rt; "entered {entered:?}, left {left:?}");
 }
 
+/// All requests of a batch.
+fn show_all<R: Threads + Sync + Print, G: Gate>(
+    rt: &R,
+    alloc: Global,
+    database: &Database,
+    declared: &Declared,
+    count: usize,
+    gate: &G,
+) -> Option<()> {
+    let workers = Workers::new(count)?;
+    let end = run_all(rt, alloc, database, declared, workers, gate)?;
+    show_end(rt, alloc, &end)
+}
+
+/// All requests of a batch, and how often their places were entered and left.
+fn show_counted<R: Threads + Sync + Print>(
+    rt: &R,
+    alloc: Global,
+    database: &Database,
+    declared: &Declared,
+    count: usize,
+) -> Option<()> {
+    let gate = CountingGate::new();
+    show_all(rt, alloc, database, declared, count, &gate)?;
+    show_counts(rt, &gate);
+    Some(())
+}
+
+/// One request of a batch of two.
+fn show_one<R: Threads + Sync + Print, G: Gate>(
+    rt: &R,
+    alloc: Global,
+    database: &Database,
+    declared: &Declared,
+    place: usize,
+    gate: &G,
+) -> Option<()> {
+    let end = run_one(rt, alloc, database, declared, place, gate)?;
+    show_end(rt, alloc, &end)
+}
+
 // ---- any number of workers
 
-/// Two payments of different warehouses: each has the number of its place, and its gate. And a payment whose customer
-/// isn't declared.
+/// Two payments of different warehouses, whose second customer is declared or isn't.
+#[derive(Drop)]
+struct TwoPayments {
+    declared: Declared,
+    other: Declared,
+}
+
+fn two_payments(alloc: Global, database: &Database) -> Option<TwoPayments> {
+    Some(TwoPayments {
+        declared: declared_itself(alloc, database, TWO_PAYMENTS)?,
+        other: declared_as(alloc, database, TWO_PAYMENTS, OTHER_PAYMENTS)?,
+    })
+}
+
+/// Each payment has the number of its place, and its gate. Where the customer isn't declared, the place strays.
 fn show_payments<R: Threads + Sync + Print>(
     rt: &R,
     alloc: Global,
     database: &Database,
+    payments: &TwoPayments,
 ) -> Option<()> {
-    let paid = declared_itself(alloc, database, TWO_PAYMENTS)?;
-    let other = declared_as(alloc, database, TWO_PAYMENTS, OTHER_PAYMENTS)?;
     for count in WORKERS {
-        let workers = Workers::new(count)?;
         let _ = println!(rt; "by {count} workers");
-        let gate = CountingGate::new();
-        show_end(
-            rt,
-            alloc,
-            &run_all(rt, alloc, database, &paid, workers, &gate)?,
-        )?;
-        show_counts(rt, &gate);
-        show_end(
-            rt,
-            alloc,
-            &run_all(rt, alloc, database, &other, workers, &NoGate)?,
-        )?;
+        show_counted(rt, alloc, database, &payments.declared, count)?;
+        show_all(rt, alloc, database, &payments.other, count, &NoGate)?;
     }
     let gate = CountingGate::new();
-    show_end(rt, alloc, &run_one(rt, alloc, database, &paid, 1, &gate)?)?;
+    show_one(rt, alloc, database, &payments.declared, 1, &gate)?;
     show_counts(rt, &gate);
     Some(())
+}
+
+fn apply(store: &mut PointedStore, end: &LevelEnd) -> Option<()> {
+    if let LevelEnd::Done(outcomes) = end {
+        for outcome in outcomes {
+            store.apply(&outcome.changes).ok()?;
+        }
+    }
+    Some(())
+}
+
+/// Shows an order of a batch of two requests, and applies it.
+fn apply_order<R: Threads + Sync + Print>(
+    rt: &R,
+    alloc: Global,
+    database: &mut Database,
+    both: &Declared,
+) -> Option<()> {
+    let end = run_one(rt, alloc, database, both, 0, &NoGate)?;
+    show_end(rt, alloc, &end)?;
+    apply(&mut database.store, &end)
 }
 
 /// What was declared before an order of the same batch doesn't do for the delivery after it.
@@ -188,15 +254,9 @@ fn show_delivery<R: Threads + Sync + Print>(
     database: &mut Database,
 ) -> Option<()> {
     let both = declared_itself(alloc, database, ORDER_AND_DELIVERY)?;
-    show_end(rt, alloc, &run_one(rt, alloc, database, &both, 1, &NoGate)?)?;
-    let end = run_one(rt, alloc, database, &both, 0, &NoGate)?;
-    show_end(rt, alloc, &end)?;
-    if let LevelEnd::Done(outcomes) = &end {
-        for outcome in outcomes {
-            database.store.apply(&outcome.changes).ok()?;
-        }
-    }
-    show_end(rt, alloc, &run_one(rt, alloc, database, &both, 1, &NoGate)?)
+    show_one(rt, alloc, database, &both, 1, &NoGate)?;
+    apply_order(rt, alloc, database, &both)?;
+    show_one(rt, alloc, database, &both, 1, &NoGate)
 }
 
 // ---- one worker, and strays
@@ -211,7 +271,7 @@ const STRAYS: [&str; 3] = [
 /// All but the last one stray.
 const TWO_STRAY: &str = "P,1,1,1,1,I,2,1000\nP,2,3,2,3,I,1,1000\nP,1,2,1,2,I,1,1000";
 
-/// A worker draws no place after one that strays. Whatever the number of workers, the answer is a place that strays.
+/// A worker draws no place after one that strays.
 fn show_strays<R: Threads + Sync + Print>(
     rt: &R,
     alloc: Global,
@@ -219,14 +279,20 @@ fn show_strays<R: Threads + Sync + Print>(
 ) -> Option<()> {
     for others in STRAYS {
         let three = declared_as(alloc, database, THREE_PAYMENTS, others)?;
-        let gate = CountingGate::new();
-        let end = run_all(rt, alloc, database, &three, Workers::new(1)?, &gate)?;
-        show_end(rt, alloc, &end)?;
-        show_counts(rt, &gate);
+        show_counted(rt, alloc, database, &three, 1)?;
     }
-    let three = declared_as(alloc, database, THREE_PAYMENTS, TWO_STRAY)?;
+    Some(())
+}
+
+/// Whatever the number of workers, the answer is a place that strays.
+fn show_any_stray<R: Threads + Sync + Print>(
+    rt: &R,
+    alloc: Global,
+    database: &Database,
+    three: &Declared,
+) -> Option<()> {
     for count in WORKERS {
-        let end = run_all(rt, alloc, database, &three, Workers::new(count)?, &NoGate)?;
+        let end = run_all(rt, alloc, database, three, Workers::new(count)?, &NoGate)?;
         let strays = matches!(end, LevelEnd::Strayed(0) | LevelEnd::Strayed(1));
         let _ = println!(rt; "one of the first two strays by {count} workers: {strays}");
     }
@@ -237,7 +303,47 @@ fn show_strays<R: Threads + Sync + Print>(
 
 const BOTH: [usize; 2] = [0, 1];
 
-/// How many places two seats of one desk draw of two requests, each on a thread of its own.
+/// How many places each of the seats of one desk draws of two requests, each on a thread of its own.
+fn drawn_by_each<R: Threads + Sync, G: Gate>(
+    rt: &R,
+    alloc: Global,
+    database: &Database,
+    declared: &Declared,
+    desk: &Desk,
+    seats: Vec<Seat>,
+    gate: &G,
+) -> Option<Vec<Option<usize>>>
+    requires own { All (IsNewSeatOf desk.now) seats.items }
+    requires places { places_of desk.now ≡ 2 }
+    requires requests { length declared.now.batch.requests ≡ 2 }
+    requires footprints { length declared.now.footprints.items ≡ 2 }
+{
+    let Declared { batch, footprints } = declared;
+    let (catalog, store) = (&database.catalog, &database.store);
+    thread::map_vec(
+        rt,
+        seats,
+        &|mut seat: Seat| -> Option<usize>
+            requires { IsNewSeatOf desk.now seat × (places_of desk.now ≡ 2) × (length batch.now.requests ≡ 2) × (length footprints.now.items ≡ 2) }
+        {
+            let part = run_seat(
+                alloc, catalog, store, batch, 7, &BOTH, footprints, desk, &mut seat, gate,
+            );
+            Some(part.ok()?.len())
+        },
+    )
+    .ok()
+}
+
+fn sum(counts: &[Option<usize>]) -> Option<usize> {
+    let mut sum = 0usize;
+    for count in counts {
+        sum = sum.saturating_add((*count)?);
+    }
+    Some(sum)
+}
+
+/// How many places two seats of one desk draw of two requests.
 fn drawn_by_seats<R: Threads + Sync, G: Gate>(
     rt: &R,
     alloc: Global,
@@ -245,29 +351,12 @@ fn drawn_by_seats<R: Threads + Sync, G: Gate>(
     declared: &Declared,
     gate: &G,
 ) -> Option<usize> {
-    let Declared { batch, footprints } = declared;
-    if batch.requests.len() != 2 || footprints.len() != 2 {
+    if declared.batch.requests.len() != 2 || declared.footprints.len() != 2 {
         return None;
     }
     let (desk, seats) = Desk::new(alloc, 2, 2).ok()?;
-    let shared = &desk;
-    let (catalog, store) = (&database.catalog, &database.store);
-    let parts = thread::map_vec(
-        rt,
-        seats,
-        &|mut seat: Seat| -> Result<Vec<(usize, Outcome)>, Memory>
-            requires { IsNewSeatOf shared.now seat × (places_of shared.now ≡ 2) × (length batch.now.requests ≡ 2) × (length footprints.now.items ≡ 2) }
-        {
-            run_seat(
-                alloc, catalog, store, batch, 7, &BOTH, footprints, shared, &mut seat, gate,
-            )
-        },
-    );
-    let mut drawn = 0usize;
-    for part in parts.ok()? {
-        drawn = drawn.saturating_add(part.ok()?.len());
-    }
-    Some(drawn)
+    let drawn = drawn_by_each(rt, alloc, database, declared, &desk, seats, gate)?;
+    sum(&drawn)
 }
 
 /// Two workers, and two seats, are inside two places at once.
@@ -275,17 +364,13 @@ fn show_two_at_once<R: Threads + Sync + Print>(
     rt: &R,
     alloc: Global,
     database: &Database,
+    both: &Declared,
 ) -> Option<()> {
-    let both = declared_itself(alloc, database, TWO_PAYMENTS)?;
     let gate = MeetingGate::new();
-    show_end(
-        rt,
-        alloc,
-        &run_all(rt, alloc, database, &both, Workers::new(2)?, &gate)?,
-    )?;
+    show_all(rt, alloc, database, both, 2, &gate)?;
     let _ = println!(rt; "two workers at once: {}", gate.has_met());
     let gate = MeetingGate::new();
-    let drawn = drawn_by_seats(rt, alloc, database, &both, &gate)?;
+    let drawn = drawn_by_seats(rt, alloc, database, both, &gate)?;
     let _ = println!(rt;
         "places drawn by two seats: {drawn}, at once: {}",
         gate.has_met()
@@ -293,16 +378,54 @@ fn show_two_at_once<R: Threads + Sync + Print>(
     Some(())
 }
 
-pub fn show<R: Threads + Sync + Print>(rt: &R, alloc: Global) -> Option<()> {
-    let mut database = Database::make(alloc, 2).ok()?;
+fn show_workers(rt: &impl Print) {
     for count in [0, 1, 64, 65] {
-        let _ = println!(rt;
-            "{count} workers: {:?}",
-            Workers::new(count).map(Workers::count)
-        );
+        let workers = Workers::new(count).map(Workers::count);
+        let _ = println!(rt; "{count} workers: {workers:?}");
     }
-    show_payments(rt, alloc, &database)?;
-    show_strays(rt, alloc, &database)?;
-    show_two_at_once(rt, alloc, &database)?;
-    show_delivery(rt, alloc, &mut database)
+}
+
+// ---- all of them
+
+fn show_two_payments<R: Threads + Sync + Print>(
+    rt: &R,
+    alloc: Global,
+    database: &Database,
+) -> Option<()> {
+    show_payments(rt, alloc, database, &two_payments(alloc, database)?)
+}
+
+fn show_two_strays<R: Threads + Sync + Print>(
+    rt: &R,
+    alloc: Global,
+    database: &Database,
+) -> Option<()> {
+    let three = declared_as(alloc, database, THREE_PAYMENTS, TWO_STRAY)?;
+    show_any_stray(rt, alloc, database, &three)
+}
+
+fn show_both_at_once<R: Threads + Sync + Print>(
+    rt: &R,
+    alloc: Global,
+    database: &Database,
+) -> Option<()> {
+    let both = declared_itself(alloc, database, TWO_PAYMENTS)?;
+    show_two_at_once(rt, alloc, database, &both)
+}
+
+fn show_levels<R: Threads + Sync + Print>(
+    rt: &R,
+    alloc: Global,
+    database: &mut Database,
+) -> Option<()> {
+    show_two_payments(rt, alloc, database)?;
+    show_strays(rt, alloc, database)?;
+    show_two_strays(rt, alloc, database)?;
+    show_both_at_once(rt, alloc, database)?;
+    show_delivery(rt, alloc, database)
+}
+
+pub fn show<R: Threads + Sync + Print>(rt: &R, alloc: Global) -> Option<()> {
+    show_workers(rt);
+    show_levels(rt, alloc, &mut Database::make(alloc, 2).ok()?)
 }

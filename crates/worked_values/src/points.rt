@@ -1,13 +1,9 @@
 //! Marks, changes and goings back on a warehouse's row, whose sum is 500 at first, and a district's. Their leaves were
 //! worked out apart, from the codes' format.
-use crate::rows::{Pair, district, new_order, put_pointed, warehouse};
-use pages::RowStore;
+use crate::rows::{Change, Columns, apply, next_of, number_of, put_all, store_of, ytd_of};
 use rollback::PointedStore;
 use std::alloc::Global;
-use tpcc_rows::delta::Delta;
-use tpcc_rows::id::{CustomerId, DistrictId, OrderId, WarehouseId};
-use tpcc_rows::key::RowKey;
-use tpcc_rows::row::{Row, fits};
+use tpcc_rows::id::{CustomerId, DistrictId, WarehouseId};
 
 /// The leaf of the first warehouse.
 const WAREHOUSE_LEAF: usize = 2867;
@@ -15,67 +11,30 @@ const WAREHOUSE_LEAF: usize = 2867;
 /// The leaf of its first district.
 const DISTRICT_LEAF: usize = 2746;
 
-fn warehouse_key() -> Option<RowKey> {
-    Some(RowKey::Warehouse {
-        warehouse: WarehouseId::new(1)?,
-    })
-}
-
-fn district_key() -> Option<RowKey> {
-    Some(RowKey::District {
-        warehouse: WarehouseId::new(1)?,
-        district: DistrictId::new(1)?,
-    })
-}
-
-fn put(delta: &mut Delta, pair: Option<Pair>) -> Option<()> {
-    let (key, row) = pair?;
-    if fits(&key, &row) {
-        delta.put(key, row).ok()?;
-    }
-    Some(())
-}
-
 /// A row for the warehouse, and one for the district with 2 as its next order.
-fn push_both(delta: &mut Delta) -> Option<()> {
-    put(delta, warehouse(1, 500))?;
-    put(delta, district((1, 1), 500, 2))
-}
+const BOTH: [Change; 2] = [
+    Change::Put(Columns::Warehouse(1, 500)),
+    Change::Put(Columns::District((1, 1), 500, 2)),
+];
 
 /// Another sum for the warehouse, and no row for the district.
-fn push_other(delta: &mut Delta) -> Option<()> {
-    put(delta, warehouse(1, 700))?;
-    delta.remove(district_key()?).ok()
-}
+const OTHER: [Change; 2] = [
+    Change::Put(Columns::Warehouse(1, 700)),
+    Change::Remove(Columns::District((1, 1), 0, 1)),
+];
 
-/// A store with no points, and two lists of changes: of both rows, and to other ones.
-#[derive(Drop)]
-struct MarkedRows {
-    store: PointedStore,
-    both: Delta,
-    other: Delta,
-}
-
-fn marked_rows(alloc: Global) -> Option<MarkedRows> {
-    let mut rows = MarkedRows {
-        store: PointedStore::new(alloc, RowStore::new(alloc).ok()?),
-        both: Delta::new(alloc),
-        other: Delta::new(alloc),
-    };
-    push_both(&mut rows.both)?;
-    push_other(&mut rows.other)?;
-    rows.store.apply(&rows.both).ok()?;
-    Some(rows)
+/// A store with both rows, and no points.
+fn both_rows(alloc: Global) -> Option<PointedStore> {
+    let mut store = store_of(alloc, &[])?;
+    apply(alloc, &mut store, &BOTH)?;
+    Some(store)
 }
 
 /// The points, the warehouse's sum, and whether the district has a row.
 fn show_rows(rt: &impl Print, what: &str, store: &PointedStore) -> Option<()> {
-    let key = warehouse_key()?;
-    let sum = store
-        .get(&key)
-        .and_then(Row::as_warehouse)
-        .map(|row| row.ytd.amount());
-    let district = store.get(&district_key()?).is_some();
+    let warehouse = WarehouseId::new(1)?;
+    let sum = ytd_of(store.warehouse(warehouse));
+    let district = store.district(warehouse, DistrictId::new(1)?).is_some();
     let _ = println!(rt;
         "{what}: {} points, {sum:?} cents, a district: {district}",
         store.points()
@@ -93,106 +52,177 @@ fn show_dirty(rt: &impl Print, what: &str, store: &mut PointedStore) {
     );
 }
 
-fn show_first(rt: &impl Print, store: &mut PointedStore) -> Option<()> {
+// ---- no points
+
+fn show_kinds(rt: &impl Print, store: &PointedStore) -> Option<()> {
+    let (warehouse, district) = (WarehouseId::new(1)?, DistrictId::new(1)?);
+    let ytd = ytd_of(store.warehouse(warehouse));
+    let next = next_of(store.district(warehouse, district));
+    let _ = println!(rt; "rows: {}, by kind: {ytd:?} {next:?}", store.len());
+    Some(())
+}
+
+fn show_missing_rows(rt: &impl Print, store: &PointedStore) -> Option<()> {
     let (warehouse, district) = (WarehouseId::new(1)?, DistrictId::new(1)?);
     let customer = CustomerId::new(1)?;
-    let ytd = store.warehouse(warehouse).map(|row| row.ytd.amount());
-    let next = store
-        .district(warehouse, district)
-        .map(|row| row.next_order.number());
-    let _ = println!(rt; "rows: {}, by kind: {ytd:?} {next:?}", store.len());
     let no_customer = store.customer(warehouse, district, customer).is_none();
     let no_new = store.oldest_new(warehouse, district).is_none();
     let no_order = store.last_order(warehouse, district, customer).is_none();
     let _ = println!(rt;
         "no customer: {no_customer}, no new order: {no_new}, no order: {no_order}"
     );
+    Some(())
+}
+
+fn show_removed(rt: &impl Print, alloc: Global, store: &mut PointedStore) -> Option<()> {
+    let key = Columns::Warehouse(1, 0).key(alloc)?;
+    let removed = store.remove(&key)?.as_warehouse().is_some();
+    let left = store.page(DISTRICT_LEAF).len();
+    let _ = println!(rt; "removed a warehouse: {removed}, rows of the district's leaf: {left}");
+    Some(())
+}
+
+fn show_first(rt: &impl Print, alloc: Global, store: &mut PointedStore) -> Option<()> {
+    show_kinds(rt, store)?;
+    show_missing_rows(rt, store)?;
     show_dirty(rt, "at first", store);
     show_dirty(rt, "where nothing is changed", store);
-    let removed = store
-        .remove(&warehouse_key()?)
-        .is_some_and(|row| row.as_warehouse().is_some());
-    let _ = println!(rt;
-        "removed a warehouse: {removed}, rows of the district's leaf: {}",
-        store.page(DISTRICT_LEAF).len()
-    );
+    show_removed(rt, alloc, store)?;
     show_dirty(rt, "after a removal", store);
     Some(())
 }
 
-fn show_marked(rt: &impl Print, alloc: Global, rows: &mut MarkedRows) -> Option<()> {
-    let store = &mut rows.store;
-    let _ = println!(rt; "drop the oldest of no points: {:?}", store.drop_oldest());
-    let _ = println!(rt; "rewind to none of no points: {:?}", store.rewind(alloc, 0));
-    show_rows(rt, "at first", store)?;
-    let _ = store.take_dirty();
-    store.mark(alloc).ok()?;
-    show_dirty(rt, "after a mark", store);
-    store.apply(&rows.other).ok()?;
-    show_rows(rt, "changed", store)?;
-    for point in [1, usize::MAX] {
-        let _ = println!(rt;
-            "to a point that isn't there: {:?} {:?}",
-            store.back_to(point),
-            store.rewind(alloc, point)
-        );
-    }
-    show_rows(rt, "as it was", store)
+// ---- points
+
+/// A call of a store with points.
+#[derive(Clone, Copy)]
+enum Call {
+    Mark,
+    DropOldest,
+    BackTo(usize),
+    Rewind(usize),
 }
 
-fn show_back(rt: &impl Print, alloc: Global, rows: &mut MarkedRows) -> Option<()> {
-    let store = &mut rows.store;
-    let _ = store.take_dirty();
-    store.rewind(alloc, 0).ok()?;
-    show_rows(rt, "rewound", store)?;
-    show_dirty(rt, "after rewinding", store);
-    store.apply(&rows.other).ok()?;
-    let _ = store.take_dirty();
-    let _ = println!(rt; "back to the point: {:?}", store.back_to(0));
-    show_rows(rt, "back", store)?;
-    show_dirty(rt, "after going back", store);
-    let _ = println!(rt; "back once more: {:?}", store.back_to(0));
+/// What is done with a store, or shown of it.
+#[derive(Clone, Copy)]
+enum Step {
+    /// A call that succeeds.
+    Call(Call),
+    /// A call whose result is shown.
+    Show(&'static str, Call),
+    /// To a point that isn't there.
+    Missing(usize),
+    /// The rows are changed to the other ones.
+    Change,
+    /// The changed leaves are taken.
+    Take,
+    Rows(&'static str),
+    Dirty(&'static str),
+}
+
+/// No points; then one, rewound to and gone back to; then one where a second is refused. Where it is dropped, the changed
+/// rows are what a next point goes back to.
+const STEPS: [Step; 30] = [
+    Step::Show("drop the oldest of no points", Call::DropOldest),
+    Step::Show("rewind to none of no points", Call::Rewind(0)),
+    Step::Rows("at first"),
+    Step::Take,
+    Step::Call(Call::Mark),
+    Step::Dirty("after a mark"),
+    Step::Change,
+    Step::Rows("changed"),
+    Step::Missing(1),
+    Step::Missing(usize::MAX),
+    Step::Rows("as it was"),
+    Step::Take,
+    Step::Call(Call::Rewind(0)),
+    Step::Rows("rewound"),
+    Step::Dirty("after rewinding"),
+    Step::Change,
+    Step::Take,
+    Step::Show("back to the point", Call::BackTo(0)),
+    Step::Rows("back"),
+    Step::Dirty("after going back"),
+    Step::Show("back once more", Call::BackTo(0)),
+    Step::Call(Call::Mark),
+    Step::Change,
+    Step::Show("a second mark", Call::Mark),
+    Step::Rows("marked once"),
+    Step::Show("drop the oldest point", Call::DropOldest),
+    Step::Rows("dropped"),
+    Step::Call(Call::Mark),
+    Step::Call(Call::BackTo(0)),
+    Step::Rows("marked and back"),
+];
+
+fn carry_out(alloc: Global, store: &mut PointedStore, call: Call) -> Option<()> {
+    match call {
+        Call::Mark => store.mark(alloc).ok(),
+        Call::DropOldest => store.drop_oldest().ok(),
+        Call::BackTo(point) => store.back_to(point).ok(),
+        Call::Rewind(point) => store.rewind(alloc, point).ok(),
+    }
+}
+
+fn show_call(rt: &impl Print, alloc: Global, store: &mut PointedStore, what: &str, call: Call) {
+    let _ = match call {
+        Call::Mark => println!(rt; "{what}: {:?}", store.mark(alloc)),
+        Call::DropOldest => println!(rt; "{what}: {:?}", store.drop_oldest()),
+        Call::BackTo(point) => println!(rt; "{what}: {:?}", store.back_to(point)),
+        Call::Rewind(point) => println!(rt; "{what}: {:?}", store.rewind(alloc, point)),
+    };
+}
+
+/// Goes back to a point that isn't there, and rewinds to it.
+fn show_no_point(rt: &impl Print, alloc: Global, store: &mut PointedStore, point: usize) {
+    let (back, rewound) = (store.back_to(point), store.rewind(alloc, point));
+    let _ = println!(rt; "to a point that isn't there: {back:?} {rewound:?}");
+}
+
+fn follow(rt: &impl Print, alloc: Global, store: &mut PointedStore, step: Step) -> Option<()> {
+    match step {
+        Step::Call(made) => carry_out(alloc, store, made)?,
+        Step::Show(what, made) => show_call(rt, alloc, store, what, made),
+        Step::Missing(point) => show_no_point(rt, alloc, store, point),
+        Step::Change => apply(alloc, store, &OTHER)?,
+        Step::Take => {
+            let _ = store.take_dirty();
+        }
+        Step::Rows(what) => show_rows(rt, what, store)?,
+        Step::Dirty(what) => show_dirty(rt, what, store),
+    }
     Some(())
 }
 
-/// One point is kept; where it is dropped, the changed rows are what a next point goes back to.
-fn show_one_point(rt: &impl Print, alloc: Global, rows: &mut MarkedRows) -> Option<()> {
-    let store = &mut rows.store;
-    store.mark(alloc).ok()?;
-    store.apply(&rows.other).ok()?;
-    let _ = println!(rt; "a second mark: {:?}", store.mark(alloc));
-    show_rows(rt, "marked once", store)?;
-    let _ = println!(rt; "drop the oldest point: {:?}", store.drop_oldest());
-    show_rows(rt, "dropped", store)?;
-    store.mark(alloc).ok()?;
-    store.back_to(0).ok()?;
-    show_rows(rt, "marked and back", store)
+fn follow_all(rt: &impl Print, alloc: Global, store: &mut PointedStore) -> Option<()> {
+    for step in &STEPS {
+        follow(rt, alloc, store, *step)?;
+    }
+    Some(())
 }
 
+// ---- new orders
+
+const NEW_ORDERS: [Columns; 2] = [Columns::NewOrder((1, 1), 3), Columns::NewOrder((1, 1), 7)];
+
 fn show_oldest(rt: &impl Print, what: &str, store: &PointedStore) -> Option<()> {
-    let oldest = store
-        .oldest_new(WarehouseId::new(1)?, DistrictId::new(1)?)
-        .map(OrderId::number);
+    let oldest = number_of(store.oldest_new(WarehouseId::new(1)?, DistrictId::new(1)?));
     let _ = println!(rt; "oldest new order {what}: {oldest:?}");
     Some(())
 }
 
 /// New orders 3 and 7, of which the older one is removed after a mark.
 fn show_new_orders(rt: &impl Print, alloc: Global, store: &mut PointedStore) -> Option<()> {
-    put_pointed(store, new_order((1, 1), 3))?;
-    put_pointed(store, new_order((1, 1), 7))?;
+    put_all(alloc, store, &NEW_ORDERS)?;
     store.mark(alloc).ok()?;
-    let _ = store.remove(&new_order((1, 1), 3)?.0);
+    let _ = store.remove(&NEW_ORDERS[0].key(alloc)?);
     show_oldest(rt, "after a removal", store)?;
     store.back_to(0).ok()?;
     show_oldest(rt, "after going back", store)
 }
 
 pub fn show(rt: &impl Print, alloc: Global) -> Option<()> {
-    show_first(rt, &mut marked_rows(alloc)?.store)?;
-    let mut marked = marked_rows(alloc)?;
-    show_marked(rt, alloc, &mut marked)?;
-    show_back(rt, alloc, &mut marked)?;
-    show_one_point(rt, alloc, &mut marked)?;
-    show_new_orders(rt, alloc, &mut marked_rows(alloc)?.store)
+    show_first(rt, alloc, &mut both_rows(alloc)?)?;
+    follow_all(rt, alloc, &mut both_rows(alloc)?)?;
+    show_new_orders(rt, alloc, &mut both_rows(alloc)?)
 }

@@ -1,6 +1,6 @@
 //! Replies: their digests and a token, replies that come out of order, and changes that come together.
 use crate::printing::print_hash;
-use crate::rows::warehouse;
+use crate::rows::{Change, Columns, push_changes, ytd_of};
 use gather::{ReplyBook, merge};
 use hex::FromHex;
 use requests::{
@@ -14,14 +14,14 @@ use tpcc_rows::delta::Delta;
 use tpcc_rows::id::{CustomerId, ItemId, OrderId, RequestNumber, WarehouseId};
 use tpcc_rows::key::RowKey;
 use tpcc_rows::number::{Amount, Carrier, Cents, LineQuantity, Moment, StockQuantity};
-use tpcc_rows::row::{Row, fits};
+use tpcc_rows::row::Row;
 use tpcc_rows::text::Text;
 
 // ---- digests
 
 /// The digest of one reply, with the number of its request.
-fn show_digest(rt: &impl Print, name: &str, number: RequestNumber, reply: Option<Reply>) {
-    if let Some(reply) = reply {
+fn show_digest(rt: &impl Print, name: &str, number: u64, reply: Option<Reply>) {
+    if let (Some(number), Some(reply)) = (RequestNumber::new(number), reply) {
         print_hash(rt, name, &reply_digest(number.number(), &[reply]));
     }
 }
@@ -140,89 +140,78 @@ fn stock_level(low_stock: u32) -> Reply {
     Reply::StockLevel(StockLevelReply { low_stock })
 }
 
-fn show_queries(rt: &impl Print, two: RequestNumber, three: RequestNumber, four: RequestNumber) {
-    show_digest(
-        rt,
-        "digest of a customer without orders",
-        three,
-        order_status(None),
-    );
-    show_digest(
-        rt,
-        "digest of an order without carrier",
-        three,
-        order_without_carrier(),
-    );
-    show_digest(rt, "digest of a delivered order", four, delivered_order());
-    show_digest(rt, "digest of a stock level", two, Some(stock_level(17)));
-}
-
-fn show_refusals(rt: &impl Print, number: RequestNumber) {
-    let cases = [
-        (
-            "new order, item",
-            RequestKind::NewOrder,
-            RequestRefusal::ItemNotValid,
-        ),
-        (
-            "payment, limit",
-            RequestKind::Payment,
-            RequestRefusal::LimitReached,
-        ),
-        (
-            "order status, key",
-            RequestKind::OrderStatus,
-            RequestRefusal::UnknownKey,
-        ),
-        (
-            "delivery, limit",
-            RequestKind::Delivery,
-            RequestRefusal::LimitReached,
-        ),
-        (
-            "stock level, key",
-            RequestKind::StockLevel,
-            RequestRefusal::UnknownKey,
-        ),
-    ];
-    for (name, kind, refusal) in cases {
-        show_digest(rt, name, number, Some(refused(kind, refusal)));
-    }
-}
-
-fn show_digests(rt: &impl Print) -> Option<()> {
-    let one = RequestNumber::new(1)?;
-    show_digest(
-        rt,
-        "digest of a new order",
-        RequestNumber::new(12)?,
-        new_order(),
-    );
+fn show_changes_of_rows(rt: &impl Print) {
+    show_digest(rt, "digest of a new order", 12, new_order());
     show_digest(
         rt,
         "digest of a payment of good credit",
-        one,
+        1,
         payment(37, ShownCredit::Good),
     );
     show_digest(
         rt,
         "digest of a payment of bad credit",
-        one,
+        1,
         payment_of_bad_credit(),
+    );
+    show_digest(rt, "digest of a delivery", 8, Some(delivery()));
+}
+
+fn show_queries(rt: &impl Print) {
+    show_digest(
+        rt,
+        "digest of a customer without orders",
+        3,
+        order_status(None),
     );
     show_digest(
         rt,
-        "digest of a delivery",
-        RequestNumber::new(8)?,
-        Some(delivery()),
+        "digest of an order without carrier",
+        3,
+        order_without_carrier(),
     );
-    show_queries(
-        rt,
-        RequestNumber::new(2)?,
-        RequestNumber::new(3)?,
-        RequestNumber::new(4)?,
-    );
-    show_refusals(rt, one);
+    show_digest(rt, "digest of a delivered order", 4, delivered_order());
+    show_digest(rt, "digest of a stock level", 2, Some(stock_level(17)));
+}
+
+const REFUSALS: [(&str, RequestKind, RequestRefusal); 5] = [
+    (
+        "new order, item",
+        RequestKind::NewOrder,
+        RequestRefusal::ItemNotValid,
+    ),
+    (
+        "payment, limit",
+        RequestKind::Payment,
+        RequestRefusal::LimitReached,
+    ),
+    (
+        "order status, key",
+        RequestKind::OrderStatus,
+        RequestRefusal::UnknownKey,
+    ),
+    (
+        "delivery, limit",
+        RequestKind::Delivery,
+        RequestRefusal::LimitReached,
+    ),
+    (
+        "stock level, key",
+        RequestKind::StockLevel,
+        RequestRefusal::UnknownKey,
+    ),
+];
+
+fn show_refusals(rt: &impl Print) {
+    for (name, kind, refusal) in REFUSALS {
+        show_digest(rt, name, 1, Some(refused(kind, refusal)));
+    }
+}
+
+fn show_digests(rt: &impl Print) {
+    show_changes_of_rows(rt);
+    show_queries(rt);
+    show_refusals(rt);
     print_hash(rt, "digest of no reply", &reply_digest(1, &[]));
     let several = [
         stock_level(17),
@@ -230,7 +219,6 @@ fn show_digests(rt: &impl Print) -> Option<()> {
         refused(RequestKind::Delivery, RequestRefusal::UnknownKey),
     ];
     print_hash(rt, "digest of several replies", &reply_digest(7, &several));
-    Some(())
 }
 
 /// The 32 bytes that are written in hexadecimal digits.
@@ -294,72 +282,89 @@ fn show_book(
     Some(())
 }
 
-/// Replies out of order; strangers and twins, which change nothing; a reply that is missing; a book of none; and a book
-/// whose second request has no number.
+const LAST: u64 = 999_999_999_999_999;
+
+/// Books, by their first number and how many they take, and what is filed in them: replies out of order; strangers and
+/// twins, which change nothing; a reply that is missing; a book of none; and a book whose second request has no number.
+const BOOKS: [(u64, usize, &[(u64, u32)]); 5] = [
+    (7, 3, &[(9, 90), (7, 70), (8, 80)]),
+    (
+        7,
+        2,
+        &[(8, 80), (6, 60), (9, 90), (8, 81), (7, 70), (7, 71)],
+    ),
+    (1, 3, &[(1, 10), (3, 30)]),
+    (1, 0, &[(1, 10)]),
+    (LAST, 2, &[(LAST, 10), (LAST, 11), (1, 12)]),
+];
+
 fn show_books(rt: &impl Print, alloc: Global) -> Option<()> {
-    show_book(rt, alloc, 7, 3, &[(9, 90), (7, 70), (8, 80)])?;
-    let numbers = [(8, 80), (6, 60), (9, 90), (8, 81), (7, 70), (7, 71)];
-    show_book(rt, alloc, 7, 2, &numbers)?;
-    show_book(rt, alloc, 1, 3, &[(1, 10), (3, 30)])?;
-    show_book(rt, alloc, 1, 0, &[(1, 10)])?;
-    let last = 999_999_999_999_999;
-    show_book(rt, alloc, last, 2, &[(last, 10), (last, 11), (1, 12)])
+    for (first, count, numbers) in BOOKS {
+        show_book(rt, alloc, first, count, numbers)?;
+    }
+    Some(())
 }
 
 // ---- changes
 
-/// Each warehouse gets a row with so many cents, or none.
-fn push_changes(delta: &mut Delta, changes: &[(u8, Option<i64>)]) -> Option<()> {
-    for (number, cents) in changes {
-        let (key, row) = warehouse(*number, cents.unwrap_or(0))?;
-        if cents.is_none() {
-            delta.remove(key).ok()?;
-        } else if fits(&key, &row) {
-            delta.put(key, row).ok()?;
-        }
+/// None; one; and three, of which the second removes a row of the first, and the third changes the other one again.
+const CHANGES: [&[&[Change]]; 3] = [
+    &[],
+    &[&[
+        Change::Put(Columns::Warehouse(1, 100)),
+        Change::Remove(Columns::Warehouse(2, 0)),
+    ]],
+    &[
+        &[
+            Change::Put(Columns::Warehouse(1, 100)),
+            Change::Put(Columns::Warehouse(2, 200)),
+        ],
+        &[
+            Change::Remove(Columns::Warehouse(2, 0)),
+            Change::Put(Columns::Warehouse(3, 300)),
+        ],
+        &[Change::Put(Columns::Warehouse(1, 101))],
+    ],
+];
+
+fn push_lists(alloc: Global, deltas: &mut Vec<Delta>, lists: &[&[Change]]) -> Option<()> {
+    for list in lists {
+        let mut delta = Delta::new(alloc);
+        push_changes(alloc, &mut delta, *list)?;
+        deltas.push(delta).ok()?;
     }
     Some(())
 }
 
-fn show_merged(rt: &impl Print, alloc: Global, lists: &[&[(u8, Option<i64>)]]) -> Option<()> {
+fn merged(alloc: Global, lists: &[&[Change]]) -> Option<Delta> {
     let mut deltas = Vec::new(alloc);
-    for list in lists {
-        let mut delta = Delta::new(alloc);
-        push_changes(&mut delta, *list)?;
-        deltas.push(delta).ok()?;
-    }
-    let merged = merge(alloc, deltas).ok()?;
+    push_lists(alloc, &mut deltas, lists)?;
+    merge(alloc, deltas).ok()
+}
+
+fn cents_of(row: &Option<Row>) -> Option<i64> {
+    ytd_of(row.as_ref()?.as_warehouse())
+}
+
+fn show_merged(rt: &impl Print, merged: &Delta) {
     let _ = print!(rt; "merged:");
-    for (key, change) in merged.iter() {
+    for (key, row) in merged.iter() {
         if let RowKey::Warehouse { warehouse } = key {
-            let cents = change
-                .as_ref()
-                .and_then(Row::as_warehouse)
-                .map(|row| row.ytd.amount());
-            let _ = print!(rt; " {} {cents:?}", warehouse.number());
+            let _ = print!(rt; " {} {:?}", warehouse.number(), cents_of(row));
         }
     }
     let _ = println!(rt; "");
+}
+
+fn show_changes(rt: &impl Print, alloc: Global) -> Option<()> {
+    for lists in CHANGES {
+        show_merged(rt, &merged(alloc, lists)?);
+    }
     Some(())
 }
 
-/// None; one; and three, of which the second removes a row of the first, and the third changes the other one again.
-fn show_changes(rt: &impl Print, alloc: Global) -> Option<()> {
-    show_merged(rt, alloc, &[])?;
-    show_merged(rt, alloc, &[&[(1, Some(100)), (2, None)]])?;
-    show_merged(
-        rt,
-        alloc,
-        &[
-            &[(1, Some(100)), (2, Some(200))],
-            &[(2, None), (3, Some(300))],
-            &[(1, Some(101))],
-        ],
-    )
-}
-
 pub fn show(rt: &impl Print, alloc: Global) -> Option<()> {
-    show_digests(rt)?;
+    show_digests(rt);
     show_token(rt)?;
     show_books(rt, alloc)?;
     show_changes(rt, alloc)

@@ -1,73 +1,67 @@
 //! Stores of pages, with rows of each kind, seven of them on one leaf.
-use crate::rows::{
-    Pair, Pairs, customer, district, history, new_order, order, order_line, put_all, stock,
-    warehouse,
-};
+use crate::row_bytes::put_plain;
+use crate::rows::{Columns, Pair, Sold, next_of, number_of, ytd_of};
 use pages::RowStore;
 use std::alloc::Global;
-use tpcc_rows::id::{CustomerId, DistrictId, OrderId, WarehouseId};
-use tpcc_rows::key::RowKey;
+use tpcc_rows::id::{CustomerId, DistrictId, WarehouseId};
 use tpcc_rows::plain;
 use tpcc_rows::row::fits;
 
-/// The leaf of the rows of `push_one_leaf`.
+/// The leaf of the first seven rows.
 const LEAF: usize = 2867;
 
-fn push(pairs: &mut Pairs, pair: Option<Pair>) -> Option<()> {
-    pairs.push(pair?).ok()
-}
+const SOLD: Sold = Sold {
+    item: 1,
+    supply: 1,
+    delivery: None,
+    quantity: 1,
+    amount: 100,
+    info: b"info",
+};
 
-/// Seven rows of one leaf, one of each kind but the district's, in key order.
-fn push_one_leaf(alloc: Global, pairs: &mut Pairs) -> Option<()> {
-    push(pairs, warehouse(1, 500))?;
-    push(
-        pairs,
-        customer(alloc, (1, 2), 1_178, (500, 500), (1, 1), b"data"),
-    )?;
-    push(pairs, stock(1, 1_088, 10, (1, 1, 1)))?;
-    push(pairs, order((1, 1), 6_464, 1, 7, 0, 5))?;
-    push(pairs, new_order((1, 1), 6_404))?;
-    push(
-        pairs,
-        order_line((1, 1), (200, 7), (1, 1), None, (1, 100), b"info"),
-    )?;
-    push(pairs, history(3_762, 1, ((1, 1), (1, 1)), 7, 100, b"data"))
-}
+/// The row of a customer, which is removed later.
+const CUSTOMER: Columns = Columns::Customer((1, 2), 1_178, (500, 500), (1, 1), b"data");
 
-/// A row of each kind but the customer's and the history's, with this number, on other leaves.
-fn push_others(pairs: &mut Pairs, number: u8) -> Option<()> {
-    let (place, order_number) = ((2, number), u32::from(number));
-    push(pairs, warehouse(number, 500))?;
-    push(pairs, district(place, 500, 1))?;
-    push(pairs, stock(2, order_number, 10, (1, 1, 1)))?;
-    push(pairs, order(place, order_number, 1, 7, 0, 5))?;
-    push(pairs, new_order(place, order_number))?;
-    let line = (order_number, number);
-    push(
-        pairs,
-        order_line(place, line, (1, 1), None, (1, 100), b"info"),
-    )
-}
+/// Seven rows of one leaf, one of each kind but the district's, in key order. Behind them twelve on other leaves: two of
+/// each kind but the customer's and the history's.
+const ROWS: [Columns; 19] = [
+    Columns::Warehouse(1, 500),
+    CUSTOMER,
+    Columns::Stock(1, 1_088, 10, (1, 1, 1)),
+    Columns::Order((1, 1), 6_464, 1, 7, 0, 5),
+    Columns::NewOrder((1, 1), 6_404),
+    Columns::Line((1, 1), 200, 7, SOLD),
+    Columns::History(3_762, 1, ((1, 1), (1, 1)), (7, 100), b"data"),
+    Columns::Warehouse(2, 500),
+    Columns::District((2, 2), 500, 1),
+    Columns::Stock(2, 2, 10, (1, 1, 1)),
+    Columns::Order((2, 2), 2, 1, 7, 0, 5),
+    Columns::NewOrder((2, 2), 2),
+    Columns::Line((2, 2), 2, 2, SOLD),
+    Columns::Warehouse(3, 500),
+    Columns::District((2, 3), 500, 1),
+    Columns::Stock(2, 3, 10, (1, 1, 1)),
+    Columns::Order((2, 3), 3, 1, 7, 0, 5),
+    Columns::NewOrder((2, 3), 3),
+    Columns::Line((2, 3), 3, 3, SOLD),
+];
 
-fn push_rows(alloc: Global, pairs: &mut Pairs) -> Option<()> {
-    push_one_leaf(alloc, pairs)?;
-    push_others(pairs, 2)?;
-    push_others(pairs, 3)
-}
-
-fn put_plain(store: &mut plain::RowStore, pairs: &Pairs) -> Option<()> {
-    for (key, row) in pairs {
-        let row = row.copied().ok()?;
-        if fits(key, &row) {
-            store.put(*key, row).ok()?;
-        }
+fn put(store: &mut RowStore, pair: Pair) -> Option<()> {
+    let (key, row) = pair;
+    if fits(&key, &row) {
+        store.put(key, row).ok()?;
     }
     Some(())
 }
 
-fn show_moved(rt: &impl Print, alloc: Global, pairs: &Pairs) -> Option<()> {
-    let mut plain = plain::RowStore::new(alloc);
-    put_plain(&mut plain, pairs)?;
+fn put_all(alloc: Global, store: &mut RowStore, rows: &[Columns]) -> Option<()> {
+    for columns in rows {
+        put(store, columns.row(alloc)?)?;
+    }
+    Some(())
+}
+
+fn show_moved(rt: &impl Print, alloc: Global, plain: plain::RowStore) -> Option<()> {
     let count = plain.len();
     let moved = RowStore::from_plain(alloc, plain).ok()?;
     let _ = println!(rt;
@@ -77,54 +71,52 @@ fn show_moved(rt: &impl Print, alloc: Global, pairs: &Pairs) -> Option<()> {
     Some(())
 }
 
-/// The numbers of the page's rows' keys among all, and that they stand in order.
-fn show_page(rt: &impl Print, store: &RowStore, pairs: &Pairs) {
-    let page = store.page(LEAF);
-    let is_in_order = page
-        .iter()
-        .zip(pairs)
-        .all(|(found, pair)| *found.0 == pair.0);
+/// Whether a page's rows have the keys of these rows, in their order.
+fn is_in_order(alloc: Global, page: &plain::RowStore, rows: &[Columns]) -> Option<bool> {
+    let mut rest = rows.iter();
+    for (key, _) in page.iter() {
+        if rest.next()?.key(alloc)? != *key {
+            return Some(false);
+        }
+    }
+    Some(true)
+}
+
+fn show_page(
+    rt: &impl Print,
+    alloc: Global,
+    page: &plain::RowStore,
+    rows: &[Columns],
+) -> Option<()> {
+    let is_in_order = is_in_order(alloc, page, rows)?;
     let _ = println!(rt;
         "rows of a leaf: {}, in key order: {is_in_order}",
         page.len()
     );
+    Some(())
 }
 
 fn show_kinds(rt: &impl Print, store: &RowStore) -> Option<()> {
     let (warehouse, district) = (WarehouseId::new(2)?, DistrictId::new(2)?);
     let customer = CustomerId::new(1)?;
-    let ytd = store.warehouse(warehouse).map(|row| row.ytd.amount());
-    let next = store
-        .district(warehouse, district)
-        .map(|row| row.next_order.number());
+    let ytd = ytd_of(store.warehouse(warehouse));
+    let next = next_of(store.district(warehouse, district));
     let no_customer = store.customer(warehouse, district, customer).is_none();
     let _ = println!(rt; "by kind: {ytd:?} {next:?}, no customer: {no_customer}");
-    let oldest = store.oldest_new(warehouse, district).map(OrderId::number);
-    let latest = store
-        .last_order(warehouse, district, customer)
-        .map(OrderId::number);
+    let oldest = number_of(store.oldest_new(warehouse, district));
+    let latest = number_of(store.last_order(warehouse, district, customer));
     let _ = println!(rt; "oldest and last order: {oldest:?} {latest:?}");
     Some(())
 }
 
-fn customer_key() -> Option<RowKey> {
-    Some(RowKey::Customer {
-        warehouse: WarehouseId::new(1)?,
-        district: DistrictId::new(2)?,
-        customer: CustomerId::new(1_178)?,
-    })
-}
-
 /// The customer's row is removed, asked for, and removed again.
-fn show_removed(rt: &impl Print, store: &mut RowStore) -> Option<()> {
-    let key = customer_key()?;
-    let is_customer = store
-        .remove(&key)
-        .is_some_and(|row| row.as_customer().is_some());
+fn show_removed(rt: &impl Print, alloc: Global, store: &mut RowStore) -> Option<()> {
+    let key = CUSTOMER.key(alloc)?;
+    let is_customer = store.remove(&key)?.as_customer().is_some();
     let is_gone = store.get(&key).is_none() && store.remove(&key).is_none();
+    let left = store.page(LEAF).len();
     let _ = println!(rt;
-        "removed a customer: {is_customer}, it is gone: {is_gone}, rows of its leaf: {}",
-        store.page(LEAF).len()
+        "removed a customer: {is_customer}, it is gone: {is_gone}, rows of its leaf: {left}"
     );
     Some(())
 }
@@ -137,40 +129,49 @@ fn show_copy(rt: &impl Print, store: &RowStore, copy: &RowStore) {
     );
 }
 
-fn show_store(rt: &impl Print, alloc: Global, store: &mut RowStore, pairs: &Pairs) -> Option<()> {
-    put_all(store, pairs)?;
-    let _ = println!(rt; "rows of pages: {}", store.len());
-    show_page(rt, store, pairs);
-    show_kinds(rt, store)?;
-    let copy = store.copied(alloc).ok()?;
-    show_removed(rt, store)?;
-    show_copy(rt, store, &copy);
-    Some(())
-}
-
 /// One order put twice, the second time with another customer.
-fn show_another_customer(rt: &impl Print, store: &mut RowStore, pairs: &mut Pairs) -> Option<()> {
-    push(pairs, order((1, 1), 5, 1, 7, 0, 5))?;
-    push(pairs, order((1, 1), 5, 2, 7, 0, 5))?;
-    put_all(store, pairs)?;
+const ANOTHER_CUSTOMER: [Columns; 2] = [
+    Columns::Order((1, 1), 5, 1, 7, 0, 5),
+    Columns::Order((1, 1), 5, 2, 7, 0, 5),
+];
+
+fn show_another_customer(rt: &impl Print, alloc: Global, store: &mut RowStore) -> Option<()> {
+    put_all(alloc, store, &ANOTHER_CUSTOMER)?;
     let (warehouse, district) = (WarehouseId::new(1)?, DistrictId::new(1)?);
-    let one = store
-        .last_order(warehouse, district, CustomerId::new(1)?)
-        .map(OrderId::number);
-    let two = store
-        .last_order(warehouse, district, CustomerId::new(2)?)
-        .map(OrderId::number);
+    let (one, two) = (CustomerId::new(1)?, CustomerId::new(2)?);
+    let one = number_of(store.last_order(warehouse, district, one));
+    let two = number_of(store.last_order(warehouse, district, two));
     let _ = println!(rt; "last orders after an order's customer changed: {one:?} {two:?}");
     Some(())
 }
 
+fn show_plain(rt: &impl Print, alloc: Global, rows: &[Columns]) -> Option<()> {
+    let mut plain = plain::RowStore::new(alloc);
+    put_plain(alloc, &mut plain, rows)?;
+    show_moved(rt, alloc, plain)
+}
+
+fn show_rows(rt: &impl Print, alloc: Global, store: &mut RowStore, rows: &[Columns]) -> Option<()> {
+    put_all(alloc, store, rows)?;
+    let _ = println!(rt; "rows of pages: {}", store.len());
+    show_page(rt, alloc, store.page(LEAF), rows)?;
+    show_kinds(rt, store)
+}
+
+fn show_removal(rt: &impl Print, alloc: Global, store: &mut RowStore) -> Option<()> {
+    let copy = store.copied(alloc).ok()?;
+    show_removed(rt, alloc, store)?;
+    show_copy(rt, store, &copy);
+    Some(())
+}
+
+fn show_store(rt: &impl Print, alloc: Global, store: &mut RowStore) -> Option<()> {
+    show_rows(rt, alloc, store, &ROWS)?;
+    show_removal(rt, alloc, store)
+}
+
 pub fn show(rt: &impl Print, alloc: Global) -> Option<()> {
-    let mut pairs = Vec::new(alloc);
-    push_rows(alloc, &mut pairs)?;
-    show_moved(rt, alloc, &pairs)?;
-    let mut store = RowStore::new(alloc).ok()?;
-    show_store(rt, alloc, &mut store, &pairs)?;
-    let mut store = RowStore::new(alloc).ok()?;
-    pairs.clear();
-    show_another_customer(rt, &mut store, &mut pairs)
+    show_plain(rt, alloc, &ROWS)?;
+    show_store(rt, alloc, &mut RowStore::new(alloc).ok()?)?;
+    show_another_customer(rt, alloc, &mut RowStore::new(alloc).ok()?)
 }

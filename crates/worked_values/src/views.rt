@@ -1,97 +1,116 @@
 //! Two views of one small store: district 1 of warehouse 1, in whose book customer 2 has the orders 4 and 6, both new, and
 //! a row of HISTORY.
-use crate::rows::{district, history, new_order, order, put_pointed, warehouse};
-use pages::RowStore;
+use crate::granules::{book, district};
+use crate::rows::{Columns, number_of, store_of};
 use rollback::PointedStore;
 use std::alloc::Global;
 use tpcc_rows::footprint::Footprint;
-use tpcc_rows::granule::Granule;
-use tpcc_rows::id::{CustomerId, DistrictId, WarehouseId};
+use tpcc_rows::id::{CustomerId, DistrictId, OrderId, WarehouseId};
 use worker_rows::{Loan, RowView, Strayed, Whole};
 
-fn put_rows(store: &mut PointedStore) -> Option<()> {
-    put_pointed(store, district((1, 1), 500, 7))?;
-    put_pointed(store, order((1, 1), 4, 2, 1, 0, 5))?;
-    put_pointed(store, order((1, 1), 6, 2, 1, 0, 5))?;
-    put_pointed(store, new_order((1, 1), 4))?;
-    put_pointed(store, new_order((1, 1), 6))?;
-    put_pointed(store, history(9, 2, ((1, 1), (1, 1)), 1, 100, b""))
+const ROWS: [Columns; 6] = [
+    Columns::District((1, 1), 500, 7),
+    Columns::Order((1, 1), 4, 2, 1, 0, 5),
+    Columns::Order((1, 1), 6, 2, 1, 0, 5),
+    Columns::NewOrder((1, 1), 4),
+    Columns::NewOrder((1, 1), 6),
+    Columns::History(9, 2, ((1, 1), (1, 1)), (1, 100), b""),
+];
+
+/// Rows with the keys that are read: of the warehouse, the district, an order and HISTORY.
+const READ: [Columns; 4] = [
+    Columns::Warehouse(1, 0),
+    Columns::District((1, 1), 0, 1),
+    Columns::NewOrder((1, 1), 4),
+    Columns::History(9, 1, ((1, 1), (1, 1)), (0, 0), b""),
+];
+
+/// Whether there is a row of the key.
+fn has_row<V: RowView>(alloc: Global, view: &V, columns: Columns) -> Option<Result<bool, Strayed>> {
+    let key = columns.key(alloc)?;
+    Some(view.read(&key).map(|row| row.is_some()))
 }
 
-fn own() -> Option<Granule> {
-    Some(Granule::District {
-        warehouse: WarehouseId::new(1)?,
-        district: DistrictId::new(1)?,
-    })
-}
-
-fn book() -> Option<Granule> {
-    Some(Granule::Book {
-        warehouse: WarehouseId::new(1)?,
-        district: DistrictId::new(1)?,
-    })
-}
-
-/// Whether there are rows of the warehouse, the district, an order and HISTORY.
-fn show_rows<V: RowView>(rt: &impl Print, what: &str, view: &V) -> Option<()> {
-    let keys = [
-        warehouse(1, 0)?.0,
-        district((1, 1), 0, 1)?.0,
-        new_order((1, 1), 4)?.0,
-        history(9, 1, ((1, 1), (1, 1)), 0, 0, b"")?.0,
-    ];
-    for key in &keys {
-        let found: Result<bool, Strayed> = view.read(key).map(|row| row.is_some());
+fn show_rows<V: RowView>(rt: &impl Print, alloc: Global, what: &str, view: &V) -> Option<()> {
+    for columns in &READ {
+        let found = has_row(alloc, view, *columns)?;
         let _ = println!(rt; "{what} reads: {found:?}");
     }
     Some(())
 }
 
-/// The oldest new order and the last orders of customers, by district.
-fn show_orders<V: RowView>(rt: &impl Print, what: &str, view: &V) -> Option<()> {
-    let one = WarehouseId::new(1)?;
-    for number in 1..3 {
-        let district = DistrictId::new(number)?;
-        let oldest = view
-            .oldest_new(one, district)
-            .map(|order| order.map(|order| order.number()));
-        let last = view.last_order(one, district, CustomerId::new(2)?);
-        let last = last.map(|order| order.map(|order| order.number()));
-        let _ = println!(rt; "{what}, district {number}: {oldest:?} {last:?}");
-    }
-    let no_order = view.last_order(one, DistrictId::new(1)?, CustomerId::new(3)?);
-    let no_order = no_order.map(|order| order.is_none());
+fn shown(order: Result<Option<OrderId>, Strayed>) -> Result<Option<u32>, Strayed> {
+    Ok(number_of(order?))
+}
+
+/// The oldest new order of a district, and the last order of its second customer.
+fn show_orders<V: RowView>(rt: &impl Print, what: &str, view: &V, number: u8) -> Option<()> {
+    let (warehouse, district) = (WarehouseId::new(1)?, DistrictId::new(number)?);
+    let oldest = shown(view.oldest_new(warehouse, district));
+    let last = shown(view.last_order(warehouse, district, CustomerId::new(2)?));
+    let _ = println!(rt; "{what}, district {number}: {oldest:?} {last:?}");
+    Some(())
+}
+
+fn show_no_order<V: RowView>(rt: &impl Print, what: &str, view: &V) -> Option<()> {
+    let (warehouse, district) = (WarehouseId::new(1)?, DistrictId::new(1)?);
+    let last = view.last_order(warehouse, district, CustomerId::new(3)?);
+    let no_order = last.map(|order| order.is_none());
     let _ = println!(rt; "{what}, a customer without orders: {no_order:?}");
     Some(())
 }
 
-fn show_view<V: RowView>(rt: &impl Print, what: &str, view: &V) -> Option<()> {
-    show_rows(rt, what, view)?;
-    show_orders(rt, what, view)?;
-    let (own, book) = (view.may_write(&own()?), view.may_write(&book()?));
+fn show_writes<V: RowView>(rt: &impl Print, what: &str, view: &V) -> Option<()> {
+    let (own, book) = (view.may_write(&district(1)?), view.may_write(&book(1)?));
     let _ = println!(rt; "{what}: the district may be written: {own}, the book: {book}");
     Some(())
 }
 
-fn show_views(rt: &impl Print, store: &PointedStore, footprint: &mut Footprint) -> Option<()> {
-    let whole = Whole { store };
-    show_view(rt, "all rows", &whole)?;
-    footprint.read(own()?).ok()?;
-    let footprint = &*footprint;
-    let loan = Loan { store, footprint };
-    show_view(rt, "a district that is lent", &loan)
+fn show_view<V: RowView>(rt: &impl Print, alloc: Global, what: &str, view: &V) -> Option<()> {
+    show_rows(rt, alloc, what, view)?;
+    show_orders(rt, what, view, 1)?;
+    show_orders(rt, what, view, 2)?;
+    show_no_order(rt, what, view)?;
+    show_writes(rt, what, view)
 }
 
-fn show_book(rt: &impl Print, store: &PointedStore, footprint: &mut Footprint) -> Option<()> {
-    footprint.write(book()?).ok()?;
-    let footprint = &*footprint;
-    let loan = Loan { store, footprint };
-    show_view(rt, "a book that is lent", &loan)
+fn show_loan(
+    rt: &impl Print,
+    alloc: Global,
+    what: &str,
+    store: &PointedStore,
+    footprint: &Footprint,
+) -> Option<()> {
+    show_view(rt, alloc, what, &Loan { store, footprint })
+}
+
+fn show_district(
+    rt: &impl Print,
+    alloc: Global,
+    store: &PointedStore,
+    footprint: &mut Footprint,
+) -> Option<()> {
+    footprint.read(district(1)?).ok()?;
+    show_loan(rt, alloc, "a district that is lent", store, footprint)
+}
+
+fn show_book(
+    rt: &impl Print,
+    alloc: Global,
+    store: &PointedStore,
+    footprint: &mut Footprint,
+) -> Option<()> {
+    footprint.write(book(1)?).ok()?;
+    show_loan(rt, alloc, "a book that is lent", store, footprint)
+}
+
+/// All rows; those where the district is only read; and those where its book is written.
+fn show_views(rt: &impl Print, alloc: Global, store: &PointedStore) -> Option<()> {
+    show_view(rt, alloc, "all rows", &Whole { store })?;
+    show_district(rt, alloc, store, &mut Footprint::new(alloc))?;
+    show_book(rt, alloc, store, &mut Footprint::new(alloc))
 }
 
 pub fn show(rt: &impl Print, alloc: Global) -> Option<()> {
-    let mut store = PointedStore::new(alloc, RowStore::new(alloc).ok()?);
-    put_rows(&mut store)?;
-    show_views(rt, &store, &mut Footprint::new(alloc))?;
-    show_book(rt, &store, &mut Footprint::new(alloc))
+    show_views(rt, alloc, &store_of(alloc, &ROWS)?)
 }

@@ -1,10 +1,20 @@
 //! Worlds of workers that draw places, after some events.
 use std::alloc::Global;
 use tickets::Event::{Draw, Finish, Look, Raise};
-use tickets::{Event, World};
+use tickets::{Event, MOST_PLACES, MOST_WORKERS, Worker, World};
 
-/// What each worker has: the places that it drew, the one in its hand, those that it finished, the one that it raised, and
-/// whether it has stopped.
+/// The places that a worker drew, the one in its hand, those that it finished, the one that it raised, and whether it has
+/// stopped.
+fn show_worker(rt: &impl Print, number: usize, worker: &Worker) {
+    let (drawn, finished) = (worker.drawn(), worker.finished());
+    let _ = println!(rt;
+        "worker {number}: {drawn:?} {:?} {finished:?} {:?} {}",
+        worker.hand(),
+        worker.raised(),
+        worker.has_stopped()
+    );
+}
+
 fn show_world(rt: &impl Print, what: &str, world: &World) {
     let _ = println!(rt;
         "{what}: {} places, next {}, halt {}",
@@ -14,80 +24,94 @@ fn show_world(rt: &impl Print, what: &str, world: &World) {
     );
     for number in 0..4 {
         if let Some(worker) = world.worker(number) {
-            let (drawn, finished) = (worker.drawn(), worker.finished());
-            let _ = println!(rt;
-                "worker {number}: {drawn:?} {:?} {finished:?} {:?} {}",
-                worker.hand(),
-                worker.raised(),
-                worker.has_stopped()
-            );
+            show_worker(rt, number, worker);
         }
     }
 }
 
-fn play(rt: &impl Print, what: &str, world: &mut World, events: &[Event]) {
-    world.play(events);
-    show_world(rt, what, world);
+/// Events, and what they come to.
+type Turn = (&'static str, &'static [Event]);
+
+/// Worlds of so many places and workers, and what happens in each, turn by turn.
+const WORLDS: [(usize, usize, &[Turn]); 5] = [
+    // Two workers draw and finish three places, and each draws once more.
+    (
+        3,
+        2,
+        &[
+            ("nothing yet", &[]),
+            (
+                "all finished",
+                &[Draw(0), Draw(1), Finish(0), Draw(0), Finish(1), Finish(0)],
+            ),
+            ("past the end", &[Draw(0), Draw(1)]),
+        ],
+    ),
+    // Nothing to finish or to raise, none told to stop, a place in hand already, and a worker that isn't there.
+    (
+        2,
+        2,
+        &[
+            ("nothing in hand", &[Finish(0), Raise(1), Look(0)]),
+            (
+                "a place in hand",
+                &[Draw(0), Draw(0), Draw(2), Finish(2), Raise(2), Look(2)],
+            ),
+        ],
+    ),
+    // One raises, the others look: one has a place in its hand, which it finishes, and the other has none. Then nothing
+    // is drawn any more.
+    (
+        3,
+        3,
+        &[
+            ("raised", &[Draw(0), Draw(1), Raise(0), Look(1), Look(2)]),
+            (
+                "halted",
+                &[Finish(1), Draw(1), Draw(2), Draw(0), Finish(0), Raise(1)],
+            ),
+        ],
+    ),
+    // A worker that has stopped with a place in its hand may still raise it.
+    (
+        2,
+        2,
+        &[(
+            "raised twice",
+            &[Draw(0), Draw(1), Raise(0), Look(1), Raise(1)],
+        )],
+    ),
+    (0, 1, &[("no places", &[Draw(0), Finish(0), Draw(0)])]),
+];
+
+fn play(rt: &impl Print, world: &mut World, turns: &[Turn]) {
+    for (what, events) in turns {
+        world.play(*events);
+        show_world(rt, *what, world);
+    }
 }
 
-/// Two workers draw and finish three places, and each draws once more.
-fn show_past_the_end(rt: &impl Print, alloc: Global) -> Option<()> {
-    let mut world = World::new(alloc, 3, 2).ok()?;
-    show_world(rt, "nothing yet", &world);
-    let events = [Draw(0), Draw(1), Finish(0), Draw(0), Finish(1), Finish(0)];
-    play(rt, "all finished", &mut world, &events);
-    play(rt, "past the end", &mut world, &[Draw(0), Draw(1)]);
-    Some(())
-}
-
-/// Nothing to finish or to raise, none told to stop, a place in hand already, and a worker that isn't there.
-fn show_misfits(rt: &impl Print, alloc: Global) -> Option<()> {
-    let mut world = World::new(alloc, 2, 2).ok()?;
-    play(
-        rt,
-        "nothing in hand",
-        &mut world,
-        &[Finish(0), Raise(1), Look(0)],
-    );
-    let events = [Draw(0), Draw(0), Draw(2), Finish(2), Raise(2), Look(2)];
-    play(rt, "a place in hand", &mut world, &events);
-    Some(())
-}
-
-/// One raises, the others look: one has a place in its hand, which it finishes, and the other has none. Then nothing is
-/// drawn any more.
-fn show_halt(rt: &impl Print, alloc: Global) -> Option<()> {
-    let mut world = World::new(alloc, 3, 3).ok()?;
-    let events = [Draw(0), Draw(1), Raise(0), Look(1), Look(2)];
-    play(rt, "raised", &mut world, &events);
-    let events = [Finish(1), Draw(1), Draw(2), Draw(0), Finish(0), Raise(1)];
-    play(rt, "halted", &mut world, &events);
-    Some(())
-}
-
-/// A worker that has stopped with a place in its hand may still raise it.
-fn show_raised_twice(rt: &impl Print, alloc: Global) -> Option<()> {
-    let mut world = World::new(alloc, 2, 2).ok()?;
-    let events = [Draw(0), Draw(1), Raise(0), Look(1), Raise(1)];
-    play(rt, "raised twice", &mut world, &events);
-    Some(())
-}
-
-fn show_no_places(rt: &impl Print, alloc: Global) -> Option<()> {
-    let mut world = World::new(alloc, 0, 1).ok()?;
-    play(rt, "no places", &mut world, &[Draw(0), Finish(0), Draw(0)]);
+fn show_turns(
+    rt: &impl Print,
+    alloc: Global,
+    places: usize,
+    workers: usize,
+    turns: &[Turn],
+) -> Option<()> {
+    if MOST_PLACES < places || workers == 0 || MOST_WORKERS < workers {
+        return None;
+    }
+    play(rt, &mut World::new(alloc, places, workers).ok()?, turns);
     Some(())
 }
 
 /// Forty places, all of them drawn and finished by one of three workers.
-fn show_many(rt: &impl Print, alloc: Global) -> Option<()> {
-    let mut world = World::new(alloc, 40, 3).ok()?;
+fn show_many(rt: &impl Print, world: &mut World) -> Option<()> {
     for _ in 0..40 {
         world.play(&[Draw(1), Finish(1)]);
     }
-    let many = world
-        .worker(1)
-        .map(|worker| (worker.drawn().len(), worker.finished().len()));
+    let worker = world.worker(1)?;
+    let many = Some((worker.drawn().len(), worker.finished().len()));
     let _ = println!(rt;
         "forty places: next {}, drawn and finished: {many:?}",
         world.next()
@@ -95,11 +119,14 @@ fn show_many(rt: &impl Print, alloc: Global) -> Option<()> {
     Some(())
 }
 
+fn show_worlds(rt: &impl Print, alloc: Global, worlds: &[(usize, usize, &[Turn])]) -> Option<()> {
+    for (places, workers, turns) in worlds {
+        show_turns(rt, alloc, *places, *workers, *turns)?;
+    }
+    Some(())
+}
+
 pub fn show(rt: &impl Print, alloc: Global) -> Option<()> {
-    show_past_the_end(rt, alloc)?;
-    show_misfits(rt, alloc)?;
-    show_halt(rt, alloc)?;
-    show_raised_twice(rt, alloc)?;
-    show_no_places(rt, alloc)?;
-    show_many(rt, alloc)
+    show_worlds(rt, alloc, &WORLDS)?;
+    show_many(rt, &mut World::new(alloc, 40, 3).ok()?)
 }
