@@ -6,18 +6,17 @@ use requests::request::{Batch, Delivery, Request, Requests, Verdict};
 use std::alloc::Global;
 use std::thread::Threads;
 use tpcc_rows::id::WarehouseId;
-use tpcc_rows::memory::Memory;
 use tpcc_rows::number::{Carrier, Moment};
 
-pub(crate) const NO_REQUESTS: &str = "B,0,commit,0\n";
+pub const NO_REQUESTS: &str = "B,0,commit,0\n";
 
-pub(crate) const ORDER: &str = "B,100,commit,1\nN,1,1,1,1,1,1,2,1,1,3,1,1,4,1,1,5,1,1\n";
+pub const ORDER: &str = "B,100,commit,1\nN,1,1,1,1,1,1,2,1,1,3,1,1,4,1,1,5,1,1\n";
 
 /// The delivery of an order of its batch, which it doesn't declare.
-pub(crate) const STRAY: &str = "B,0,commit,2\nN,1,1,1,1,1,1,2,1,1,3,1,1,4,1,1,5,1,1\nD,1,5\n";
+pub const STRAY: &str = "B,0,commit,2\nN,1,1,1,1,1,1,2,1,1,3,1,1,4,1,1,5,1,1\nD,1,5\n";
 
 /// Orders of ten districts in one level.
-pub(crate) const TEN_ORDERS: &str = "\
+pub const TEN_ORDERS: &str = "\
 B,0,commit,10
 N,1,1,1,1,1,1,2,1,1,3,1,1,4,1,1,5,1,1
 N,1,2,1,6,1,1,7,1,1,8,1,1,9,1,1,10,1,1
@@ -32,22 +31,19 @@ N,1,10,1,46,1,1,47,1,1,48,1,1,49,1,1,50,1,1
 ";
 
 /// The made database before any batch.
-pub(crate) fn opened<R: Threads + Sync>(rt: &R, alloc: Global) -> Result<Executor, Memory> {
-    let (catalog, store) = make(alloc, 1, 2, 50)?;
-    Executor::new(rt, alloc, catalog, store)
+pub fn opened<R: Threads + Sync>(rt: &R, alloc: Global) -> Option<Executor> {
+    let (catalog, store) = make(alloc, 1, 2, 50).ok()?;
+    Executor::new(rt, alloc, catalog, store).ok()
 }
 
 /// The first batch of a text.
-pub(crate) fn batch_of(alloc: Global, text: &str) -> Option<Batch> {
-    if text.len() > 10_000 {
-        return None;
-    }
+pub fn batch_of(alloc: Global, text: &str) -> Option<Batch> {
     let mut reader = BatchReader::new(alloc, text.as_bytes()).ok()?;
     reader.next_batch(alloc).ok()?
 }
 
 /// So many deliveries.
-pub(crate) fn deliveries(alloc: Global, count: usize) -> Option<Batch> {
+pub fn deliveries(alloc: Global, count: usize) -> Option<Batch> {
     let delivery = Delivery {
         warehouse: WarehouseId::new(1)?,
         carrier: Carrier::new(1)?,

@@ -5,7 +5,6 @@ use executor::Executor;
 use requests::request::Verdict;
 use std::alloc::Global;
 use std::sync::atomic::{AtomicU64, Ordering};
-use std::test::Fail;
 use std::thread::Threads;
 use workers::{Gate, Workers};
 
@@ -103,10 +102,7 @@ fn are_told<R: Threads + Sync>(rt: &R, alloc: Global, executor: &mut Executor) -
     Some(all)
 }
 
-#[test]
-fn the_gate_is_told(rt: HostRuntime) -> Result<(), Fail> {
-    let alloc = rt.alloc();
-    let mut executor = opened(&rt, alloc)?;
-    assert_eq!(rt; are_told(&rt, alloc, &mut executor), Some(true));
-    Ok(())
+pub fn is_told_of_each<R: Threads + Sync>(rt: &R, alloc: Global) -> Option<bool> {
+    let mut executor = opened(rt, alloc)?;
+    are_told(rt, alloc, &mut executor)
 }

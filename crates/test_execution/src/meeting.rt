@@ -6,7 +6,6 @@ use requests::request::Batch;
 use std::alloc::Global;
 use std::hint::spin_loop;
 use std::sync::atomic::{AtomicBool, Ordering};
-use std::test::Fail;
 use std::thread::Threads;
 use workers::{Gate, Workers};
 
@@ -67,12 +66,8 @@ fn meets<R: Threads + Sync>(
     Some(record.path == Path::Parallel && gate.has_met())
 }
 
-#[test]
-fn two_at_once(rt: HostRuntime) -> Result<(), Fail> {
-    let alloc = rt.alloc();
-    let mut executor = opened(&rt, alloc)?;
-    let batch = batch_of(alloc, TEN_ORDERS).ok_or("a batch")?;
-    let gate = MeetingGate::new();
-    assert_eq!(rt; meets(&rt, alloc, &mut executor, &batch, &gate), Some(true));
-    Ok(())
+pub fn two_at_once<R: Threads + Sync>(rt: &R, alloc: Global) -> Option<bool> {
+    let batch = batch_of(alloc, TEN_ORDERS)?;
+    let mut executor = opened(rt, alloc)?;
+    meets(rt, alloc, &mut executor, &batch, &MeetingGate::new())
 }

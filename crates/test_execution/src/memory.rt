@@ -5,15 +5,13 @@ use executor::{Executor, Refusal};
 use loader::make;
 use requests::request::Batch;
 use std::alloc::Global;
-use std::test::Fail;
 use std::thread::Threads;
-use tpcc_rows::memory::Memory;
 use workers::{NoGate, Workers};
 
 /// A made database with two customers in each district, and five items.
-fn opened_small<R: Threads + Sync>(rt: &R, alloc: Global) -> Result<Executor, Memory> {
-    let (catalog, store) = make(alloc, 1, 2, 5)?;
-    Executor::new(rt, alloc, catalog, store)
+fn opened_small<R: Threads + Sync>(rt: &R, alloc: Global) -> Option<Executor> {
+    let (catalog, store) = make(alloc, 1, 2, 5).ok()?;
+    Executor::new(rt, alloc, catalog, store).ok()
 }
 
 /// A batch that runs in parallel, one that strays, and one without a request.
@@ -54,13 +52,9 @@ fn is_whole_or_refused<R: Threads + Sync>(
     )
 }
 
-#[test]
-fn a_run_is_whole_or_refused(rt: HostRuntime) -> Result<(), Fail> {
-    let alloc = rt.alloc();
-    let mut executor = opened_small(&rt, alloc)?;
-    let mut other = opened_small(&rt, alloc)?;
-    let batches = three_batches(alloc).ok_or("batches")?;
-    let answer = is_whole_or_refused(&rt, alloc, &mut executor, &mut other, batches.as_slice());
-    assert!(rt; answer != Some(false));
-    Ok(())
+pub fn is_a_run_whole_or_refused<R: Threads + Sync>(rt: &R, alloc: Global) -> Option<bool> {
+    let batches = three_batches(alloc)?;
+    let mut executor = opened_small(rt, alloc)?;
+    let mut other = opened_small(rt, alloc)?;
+    is_whole_or_refused(rt, alloc, &mut executor, &mut other, batches.as_slice())
 }

@@ -5,7 +5,6 @@ use loader::{load, make, store_image};
 use requests::BytesSource;
 use requests::request::Batch;
 use std::alloc::Global;
-use std::test::Fail;
 use std::thread::Threads;
 use workers::{NoGate, Workers};
 
@@ -56,21 +55,15 @@ fn counts_points<R: Threads + Sync>(
     )
 }
 
-#[test]
-fn one_batch_is_uncommitted(rt: HostRuntime) -> Result<(), Fail> {
-    let alloc = rt.alloc();
-    let mut executor = opened(&rt, alloc)?;
-    assert_eq!(rt; counts_points(&rt, alloc, &mut executor), Some(true));
-    Ok(())
+pub fn one_batch_is_uncommitted<R: Threads + Sync>(rt: &R, alloc: Global) -> Option<bool> {
+    let mut executor = opened(rt, alloc)?;
+    counts_points(rt, alloc, &mut executor)
 }
 
-#[test]
-fn as_many_requests_as_may_be(rt: HostRuntime) -> Result<(), Fail> {
-    let alloc = rt.alloc();
-    let mut executor = opened(&rt, alloc)?;
-    let batch = deliveries(alloc, 1024).ok_or("a batch")?;
-    assert_eq!(rt; executed(&rt, alloc, &mut executor, &batch), Some((1, 1)));
-    Ok(())
+pub fn as_many_requests_as_may_be<R: Threads + Sync>(rt: &R, alloc: Global) -> Option<bool> {
+    let batch = deliveries(alloc, 1024)?;
+    let mut executor = opened(rt, alloc)?;
+    Some(executed(rt, alloc, &mut executor, &batch)? == (1, 1))
 }
 
 /// The image of a made database with a payment of the number that is the last but one.
@@ -85,10 +78,10 @@ fn image_with_payment(alloc: Global) -> Option<Vec<u8>> {
     Some(image)
 }
 
-fn opened_with_payment<R: Threads + Sync>(rt: &R, alloc: Global) -> Result<Executor, Fail> {
-    let image = image_with_payment(alloc).ok_or("an image")?;
-    let (catalog, store) = load(alloc, &mut BytesSource::new(image.as_slice(), 4096))?;
-    Ok(Executor::new(rt, alloc, catalog, store)?)
+fn opened_with_payment<R: Threads + Sync>(rt: &R, alloc: Global) -> Option<Executor> {
+    let image = image_with_payment(alloc)?;
+    let (catalog, store) = load(alloc, &mut BytesSource::new(image.as_slice(), 4096)).ok()?;
+    Executor::new(rt, alloc, catalog, store).ok()
 }
 
 /// One number is left, and then none.
@@ -113,10 +106,7 @@ fn uses_numbers_up<R: Threads + Sync>(
     )
 }
 
-#[test]
-fn one_number_is_left(rt: HostRuntime) -> Result<(), Fail> {
-    let alloc = rt.alloc();
-    let mut executor = opened_with_payment(&rt, alloc)?;
-    assert_eq!(rt; uses_numbers_up(&rt, alloc, &mut executor), Some(true));
-    Ok(())
+pub fn one_number_is_left<R: Threads + Sync>(rt: &R, alloc: Global) -> Option<bool> {
+    let mut executor = opened_with_payment(rt, alloc)?;
+    uses_numbers_up(rt, alloc, &mut executor)
 }

@@ -3,7 +3,6 @@ use crate::batches::{ORDER, batch_of, deliveries, opened};
 use executor::{Executor, Refusal};
 use requests::request::Batch;
 use std::alloc::Global;
-use std::test::Fail;
 use std::thread::Threads;
 use workers::{NoGate, Workers};
 
@@ -45,10 +44,7 @@ fn runs<R: Threads + Sync>(rt: &R, alloc: Global, executor: &mut Executor) -> Op
     )
 }
 
-#[test]
-fn runs_end(rt: HostRuntime) -> Result<(), Fail> {
-    let alloc = rt.alloc();
-    let mut executor = opened(&rt, alloc)?;
-    assert_eq!(rt; runs(&rt, alloc, &mut executor), Some(true));
-    Ok(())
+pub fn runs_end<R: Threads + Sync>(rt: &R, alloc: Global) -> Option<bool> {
+    let mut executor = opened(rt, alloc)?;
+    runs(rt, alloc, &mut executor)
 }
