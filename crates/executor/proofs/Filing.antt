@@ -1,8 +1,8 @@
 -- Replies that are filed one after the other.
-use Rattle.std.proofs.Common.{◌≡◌, ◌↔◌, inl, inr, ℕ, zero, suc, ◌+◌, ◌-◌, ◌<◌, ◌≤◌, true, false, cond, List, [], ◌∷◌, ◌++◌, length, replicate, get_or, set, Option, Some, None, Result, Ok, Err, IsOk, OnOk, refl, sym, ap, subst, ◌∙◌, append_assoc, map, arith}
+use Rattle.std.proofs.Common.{◌≡◌, ◌↔◌, inl, inr, ℕ, suc, ◌+◌, ◌-◌, ◌<◌, ◌≤◌, true, false, cond, List, [], ◌∷◌, ◌++◌, length, get_or, set, Option, Some, None, Result, Ok, Err, IsOk, OnOk, refl, sym, ap, subst, ◌∙◌, append_assoc, map, arith}
 use Rattle.std.proofs.lemmas.Bool.{cases_Bool, cond-false, cond-true}
 use Rattle.std.proofs.lemmas.Bool.Decides.{nat_tests}
-use Rattle.std.proofs.lemmas.List.{get_or-map, get_or-set_same, get_or-set_other, length-map, length-set, length-replicate}
+use Rattle.std.proofs.lemmas.List.{get_or-map, get_or-set_same, get_or-set_other, length-map, length-set}
 use Rattle.std.proofs.lemmas.Option.{get_or_from_slice_get, slice_get-get_or}
 use Rattle.std.specs.FinMap.{find, nat_cmp-IsAntisymmetric}
 use Rattle.std.specs.List.{All, AllPairs, slice_get}
@@ -11,7 +11,7 @@ use Rattle.std.specs.Ordering.{eq_by_cmp, nat_cmp}
 use Rattle.serializability.specs.Footprints.{Has}
 use Rattle.serializability.proofs.Changes.{same_key}
 use Rattle.requests.specs.declared.reply.Reply.{Reply}
-use Rattle.gather.specs.Books.{Book, blank, Expects, HasFiled, with_reply}
+use Rattle.gather.specs.Books.{Book, Expects, HasFiled, with_reply}
 use Rattle.gather.specs.declared.reply_book.FileError.{FileError}
 use Rattle.gather.specs.declared.reply_book.FileError.TheVariants as file_error
 use Rattle.workers.specs.declared.placed_request.PlaceOutcome.{PlaceOutcome}
@@ -183,17 +183,6 @@ files_none told left old now none rest = record {
       ∙ ap (λ (l : List (ℕ × Reply)). option_or (reply_at now place) (find nat_cmp (old.first + place) l)) (sym none)
       ∙ rest.replies place below;
 }
-
-get_or-blank : (count place : ℕ) → get_or (let blanks : List (Option Reply) = replicate count None in blanks) place None ≡ None
-get_or-blank zero place = refl
-get_or-blank (suc count) zero = refl
-get_or-blank (suc count) (suc place) = get_or-blank count place
-
--- a book in which nothing was filed before
-pub files_blank : (told : List (ℕ × Reply)) (first count : ℕ) (now : Book) → FilesEach told (blank first count) now → (place : ℕ) → place < count → reply_at now place ≡ find nat_cmp (first + place) told
-files_blank told first count now each place below =
-    each.replies place (omega (arith, below, length-replicate {A = Option Reply} count None))
-    ∙ ap (λ (o : Option Reply). option_or o (find nat_cmp (first + place) told)) (get_or-blank count place)
 
 -- one reply more is filed, and its changes are kept
 pub kept_more : {X Y : Type 0} (f : X → Y) (made more whole : List Y) (before left : List X) (x : X) → more ≡ made ++ f x ∷ [] → before ≡ x ∷ left → made ++ map f before ≡ whole → more ++ map f left ≡ whole

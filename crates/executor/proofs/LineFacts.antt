@@ -2,11 +2,9 @@
 use Rattle.std.proofs.Common.{◌≡◌, ◌<◌, ◌+◌, ℕ, suc, true, false, List, [], ◌∷◌, ◌++◌, length, map, get_or, Some, nat_lt, slice_get, refl, ap, sym, ◌∙◌, arith}
 use Rattle.std.proofs.lemmas.Bool.Decides.{nat_tests}
 use Rattle.std.proofs.lemmas.List.{length_push}
-use Rattle.tpcc_model.specs.Serial.{State, after_batch, batch_rows}
-use Rattle.catalog.specs.CardMap.{Cards}
-use Rattle.requests.specs.declared.request.Batch.{Batch}
+use Rattle.tpcc_model.specs.Serial.{State}
 use Rattle.tpcc_rows.specs.RowMap.{Rows}
-use Rattle.executor.specs.Lines.{Line, extended, state_of, states_of}
+use Rattle.executor.specs.Lines.{state_of, states_of}
 use Rattle.executor.specs.declared.stamp.Stamp.{Stamp}
 
 pub length-states_of : (points : List Rows) (stamps : List Stamp) → length stamps ≡ length points → length (states_of points stamps) ≡ length stamps

@@ -1,5 +1,5 @@
 -- The levels of a batch by what its requests declared, on the rows of a database.
-use Rattle.std.specs.Prelude.{◌≡◌, ℕ, Bool, List, map}
+use Rattle.std.specs.Prelude.{ℕ, Bool, List}
 use Rattle.std.specs.List.{list_any}
 use Rattle.serializability.specs.Footprints.{Has}
 use Rattle.serializability.specs.Levels as levels

@@ -1,5 +1,5 @@
 -- A batch that was executed, and its record.
-use Rattle.std.proofs.Common.{◌≡◌, ◌∙◌, ◌+◌, ◌++◌, ℕ, Bool, true, false, List, length, Some, None, inl, inr, refl, ap, subst}
+use Rattle.std.proofs.Common.{◌≡◌, ◌∙◌, ◌+◌, ◌++◌, ℕ, Bool, true, false, length, Some, None, inl, inr, refl, ap, subst}
 use Rattle.std.specs.Prelude.{nat_lt, if◌then◌else◌}
 use Rattle.std.proofs.lemmas.Bool.{cases_Bool, ltb-false}
 use Rattle.serializability.proofs.Folding.{length-fold_replies}
@@ -13,10 +13,9 @@ use Rattle.executor.specs.declared.path.Path.{Path}
 use Rattle.executor.specs.declared.record.Record.{Record}
 use Rattle.executor.specs.declared.refusal.Refusal.TheVariants as refusal
 use Rattle.requests.specs.declared.request.Batch.{Batch}
-use Rattle.requests.specs.declared.reply.Reply.{Reply}
 use Rattle.runner.specs.Runs.{Completes, NumbersFit}
 use Rattle.runner.specs.Text.{batch_record_text, batch_text, completed_text, replies_text}
-use Rattle.tpcc_model.specs.Serial.{State, batch_replies}
+use Rattle.tpcc_model.specs.Serial.{State}
 use Rattle.tpcc_model.specs.Steps.{steps_at}
 use Rattle.workers.specs.declared.batch_level.TheConstants.{END_OF_NUMBERS}
 

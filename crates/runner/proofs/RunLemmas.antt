@@ -24,9 +24,8 @@ use Rattle.runner.specs.Runs.{AllFit, AreCompleted, Began, Completes, IsOfRecord
 use Rattle.runner.specs.Text.{batch_text, text}
 use Rattle.runner.specs.declared.fault.RunFault.{RunFault}
 use Rattle.runner.specs.declared.fault.RunFault.TheVariants as run_fault
-use Rattle.tpcc_model.specs.Serial.{State, after_batch, next_number, opening, serial}
+use Rattle.tpcc_model.specs.Serial.{State, after_batch, serial}
 use Rattle.tpcc_model.specs.Soundness.{IsSound}
-use Rattle.tpcc_rows.specs.RowMap.{Rows}
 
 -- nothing was appended
 pub then_kept : (old mid new : Option (List ℕ)) (bytes : List ℕ) → Appends old mid bytes → Keeps mid new → Appends old new bytes
@@ -46,11 +45,6 @@ serial-more cards state (b ∷ done) batch = serial-more cards (after_batch card
 
 pub line-more : (cards : Cards) (state : State) (done : List Batch) (batch : Batch) → committed (extended (line_on cards state done) batch) ≡ line_on cards state (done ++ batch ∷ [])
 line-more cards state done batch = ap (λ (s : State). let l : Line = record { cards = cards; earlier = []; present = s } in l) (sym (serial-more cards state done batch))
-
--- the numbers of requests begin at 1
-pub next-opening : (cards : Cards) (rows : Rows) → 1 ≤ (opening cards rows).next
-unfolding next_number
-next-opening cards rows = omega arith
 
 pub next-serial : (cards : Cards) (state : State) (done : List Batch) → 1 ≤ state.next → 1 ≤ (serial cards state done).next
 next-serial cards state [] low = low

@@ -38,14 +38,6 @@ gathers_one given rest later seats more_seats drawn more_drawn part next seated 
   drawn_are = listed ∙ ap (λ before. before ++ part.1.items) so_far.drawn_are ∙ ap (λ last. flat_map drawn_in so_far.parts ++ last) (sym (append-nil part.1.items)) ∙ sym (flat_map-append drawn_in so_far.parts (part ∷ []));
 }
 
-pub gathered_all : (given rest : List (Result Part Memory)) (seats : List Seat) (drawn : List Drawn) → rest ≡ [] → IsGathering given rest seats drawn → AreGathered given seats drawn
-gathered_all given rest seats drawn none all = record {
-  parts = all.parts;
-  given_are = all.given_are ∙ ap (λ left. map Ok all.parts ++ left) none ∙ append-nil (map Ok all.parts);
-  seats_are = all.seats_are;
-  drawn_are = all.drawn_are;
-}
-
 -- ---- lists of parts
 module _ {A : Type 0} (P : A → Type 0) where
   all_left : (xs ys : List A) → All P (xs ++ ys) → All P xs
