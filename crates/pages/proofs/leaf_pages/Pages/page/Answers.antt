@@ -4,7 +4,7 @@ use Rattle.std.specs.FinMap as map
 use Rattle.tpcc_rows.specs.Leaves.{page_rows}
 use Rattle.tpcc_rows.specs.RowMap.{Rows}
 use Rattle.pages.proofs.Paging.{page-union}
-use Rattle.pages.proofs.store.RowStore.page.Goals as goal
+use Rattle.pages.proofs.leaf_pages.Pages.page.Goals as goal
 
 pub returns : goal.returns
 returns c =

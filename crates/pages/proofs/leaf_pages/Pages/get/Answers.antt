@@ -4,7 +4,7 @@ use Rattle.std.specs.FinMap as map
 use Rattle.tpcc_rows.specs.RowMap.{Rows}
 use Rattle.pages.specs.Paged.{page_at}
 use Rattle.pages.proofs.Paging.{get-union}
-use Rattle.pages.proofs.store.RowStore.get.Goals as goal
+use Rattle.pages.proofs.leaf_pages.Pages.get.Goals as goal
 
 pub returns-clause-value : goal.returns-clause-value
 returns-clause-value c =

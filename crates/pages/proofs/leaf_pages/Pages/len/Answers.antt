@@ -3,7 +3,7 @@ use Rattle.std.specs.FinMap as map
 use Rattle.tpcc_rows.specs.LeafPicks.{length_below}
 use Rattle.tpcc_rows.specs.RowMap.{Rows}
 use Rattle.tpcc_rows.proofs.LeafPicks.{length_below-zero, length_below-more, length-leaves}
-use Rattle.pages.proofs.store.RowStore.len.Goals as goal
+use Rattle.pages.proofs.leaf_pages.Pages.len.Goals as goal
 
 pub loop-leaf-init : goal.loop-leaf-init
 loop-leaf-init c = record { sum = sym (length_below-zero c.args.self.now); few = omega arith }
