@@ -1,3 +1,4 @@
-pub mod Paging
-pub mod Moving
+pub mod Indexing
 pub mod Listing
+pub mod Moving
+pub mod Paging

@@ -1,26 +1,34 @@
-//! Rows by leaf.
-ghost use Rattle.std.specs.Prelude.{◌≡◌, ◌<◌, IfOk, IfSome, OnOk, OnErr, length, option_copied, true};
+//! Rows by leaf, and the indexes of the orders' numbers.
+ghost use Rattle.std.specs.Prelude.{◌≡◌, ◌<◌, ℕ, IfNone, IfOk, IfSome, OnOk, OnErr, false, length, option_copied, true};
+ghost use Rattle.std.specs.BTreeSet.{contains};
 ghost use Rattle.std.specs.FinMap as map;
+ghost use Rattle.std.specs.Ordering.{nat_cmp};
+ghost use Rattle.indexes.specs.Indexed.{AreOf};
+ghost use Rattle.indexes.specs.Owners.{owner_at};
+ghost use Rattle.indexes.specs.Numbers.{is_customer_number, is_new_number};
 ghost use Rattle.tpcc_rows.specs.Leaves.{page_rows};
 ghost use Rattle.tpcc_rows.specs.Picks.{latest, oldest};
 ghost use Rattle.tpcc_rows.specs.RowKinds.{fits};
 ghost use Rattle.tpcc_rows.specs.Rows.{customer_row, district_row, warehouse_row};
 
-use crate::leaf_lists::LeafLists;
-use crate::searching::{larger_of, lesser_of};
+use crate::leaf_pages::Pages;
+use indexes::Indexes;
+use indexes::owner::{Owner, is_nobody, owner_of, same_owner};
 use std::alloc::Global;
+use std::collections::BTreeSet;
 use std::marker::Model;
-use tpcc_rows::codes::{LEAVES, leaf};
+use tpcc_rows::codes::LEAVES;
 use tpcc_rows::id::{CustomerId, DistrictId, OrderId, WarehouseId};
 use tpcc_rows::key::RowKey;
 use tpcc_rows::memory::Memory;
 use tpcc_rows::plain;
 use tpcc_rows::row::{CustomerRow, DistrictRow, Row, WarehouseRow};
 
-/// A finite map from keys to rows, each row of its key's kind and on the page of its key's leaf.
+/// A finite map from keys to rows, each row of its key's kind, with the indexes of its orders and new orders.
 #[derive(Drop)]
 pub struct RowStore {
-    pages: Vec<plain::RowStore>,
+    pages: Pages,
+    indexes: Indexes,
 }
 
 impl Model for RowStore {
@@ -30,11 +38,32 @@ impl Model for RowStore {
 
     ghost coded = { rows_code };
 
-    ghost use Rattle.pages.specs.Paged.{IsPaged, union};
+    ghost use Rattle.indexes.specs.Indexed.{AreOf};
 
-    ghost view = { λ s. union s.pages.items };
+    ghost view = { λ s. s.pages };
 
-    ghost invariant = { λ s. IsPaged s.pages.items };
+    ghost invariant = { λ s. AreOf s.pages s.indexes };
+}
+
+/// Whose the number of the key's row is.
+fn owner_at(pages: &Pages, key: &RowKey) -> Owner
+    ensures { result ≡ owner_at (map.get pages.now key.now) }
+{
+    match pages.get(key) {
+        Some(row) => owner_of(row),
+        None => Owner::Nobody,
+    }
+}
+
+/// The indexes of the rows on the pages.
+fn indexes_of(alloc: Global, pages: &Pages) -> Result<Indexes, Memory>
+    ensures { IfOk result (λ indexes. AreOf pages.now indexes) }
+{
+    let mut indexes = Indexes::new(alloc);
+    for leaf in 0..LEAVES {
+        indexes.add_page(pages.page(leaf))?;
+    }
+    Ok(indexes)
 }
 
 impl RowStore {
@@ -42,41 +71,34 @@ impl RowStore {
     pub fn new(alloc: Global) -> Result<RowStore, Memory>
         ensures { IfOk result (λ store. store ≡ map.empty) }
     {
-        let mut pages = Vec::with_capacity(alloc, LEAVES)?;
-        for _ in 0..LEAVES {
-            pages.push(plain::RowStore::new(alloc))?;
-        }
-        Ok(RowStore { pages })
+        let pages = Pages::new(alloc)?;
+        let indexes = Indexes::new(alloc);
+        Ok(RowStore { pages, indexes })
     }
 
     /// The rows of a plain store, each moved to its page.
     pub fn from_plain(alloc: Global, rows: plain::RowStore) -> Result<RowStore, Memory>
         ensures { IfOk result (λ store. store ≡ rows) }
     {
-        let mut lists = LeafLists::new(alloc)?;
-        for (key, row) in rows.into_rows() {
-            lists.push(key, row)?;
-        }
-        let pages = lists.into_pages(alloc)?;
-        Ok(RowStore { pages })
+        let pages = Pages::from_plain(alloc, rows)?;
+        let indexes = indexes_of(alloc, &pages)?;
+        Ok(RowStore { pages, indexes })
     }
 
     /// A store with the same rows.
     pub fn copied(&self, alloc: Global) -> Result<RowStore, Memory>
         ensures { IfOk result (λ store. store ≡ self.now) }
     {
-        let mut pages = Vec::with_capacity(alloc, LEAVES)?;
-        for page in &self.pages {
-            pages.push(page.copied(alloc)?)?;
-        }
-        Ok(RowStore { pages })
+        let pages = self.pages.copied(alloc)?;
+        let indexes = indexes_of(alloc, &pages)?;
+        Ok(RowStore { pages, indexes })
     }
 
     pub fn get(&self, key: &RowKey) -> Option<&Row>
         ensures value { option_copied result ≡ map.get self.now key.now }
         ensures kind { IfSome (option_copied result) (λ row. fits key.now row ≡ true) }
     {
-        self.pages[leaf(key)].get(key)
+        self.pages.get(key)
     }
 
     /// The key has this row from now on.
@@ -85,9 +107,25 @@ impl RowStore {
         ensures ok { OnOk result (self.new ≡ map.insert self.old key row) }
         ensures err { OnErr result (self.new ≡ self.old) }
     {
-        let n = leaf(&key);
-        let page = &mut self.pages[n];
-        page.put(key, row)
+        let owner = owner_of(&row);
+        if is_nobody(&owner) {
+            return self.pages.put(key, row);
+        }
+        let was = owner_at(&self.pages, &key);
+        if same_owner(&was, &owner) {
+            return self.pages.put(key, row);
+        }
+        self.indexes.add(&key, &owner)?;
+        match self.pages.put(key, row) {
+            Ok(()) => {
+                self.indexes.take_out(&key, &was);
+                Ok(())
+            }
+            Err(refused) => {
+                self.indexes.take_out(&key, &owner);
+                Err(refused)
+            }
+        }
     }
 
     /// The key has no row from now on; the answer is the one that it had.
@@ -95,8 +133,9 @@ impl RowStore {
         ensures value { result ≡ map.get self.old key.now }
         ensures after { self.new ≡ map.remove self.old key.now }
     {
-        let n = leaf(key);
-        self.pages[n].remove(key)
+        let was = owner_at(&self.pages, key);
+        self.indexes.take_out(key, &was);
+        self.pages.remove(key)
     }
 
     /// The rows of a leaf.
@@ -104,7 +143,7 @@ impl RowStore {
         requires { leaf < LEAVES }
         ensures { result.now ≡ page_rows self.now leaf }
     {
-        &self.pages[leaf]
+        self.pages.page(leaf)
     }
 
     pub fn warehouse(&self, warehouse: WarehouseId) -> Option<&WarehouseRow>
@@ -143,22 +182,43 @@ impl RowStore {
     pub fn len(&self) -> u128
         ensures { result ≡ length (map.entries self.now) }
     {
-        let mut len = 0u128;
-        for leaf in 0..LEAVES {
-            len += self.page(leaf).len() as u128;
-        }
-        len
+        self.pages.len()
+    }
+
+    /// The numbers of the district's new orders, where there are any.
+    pub fn open_numbers(
+        &self,
+        warehouse: WarehouseId,
+        district: DistrictId,
+    ) -> Option<&BTreeSet<OrderId>>
+        ensures some { IfSome result (λ numbers. (o : ℕ) → contains nat_cmp numbers.now o ≡ is_new_number self.now warehouse district o) }
+        ensures filled { IfSome result (λ numbers. 0 < length numbers.now.keys) }
+        ensures none { IfNone result ((o : ℕ) → is_new_number self.now warehouse district o ≡ false) }
+    {
+        self.indexes.open_numbers(warehouse, district)
+    }
+
+    /// The numbers of the customer's orders, where there are any.
+    pub fn order_numbers(
+        &self,
+        warehouse: WarehouseId,
+        district: DistrictId,
+        customer: CustomerId,
+    ) -> Option<&BTreeSet<OrderId>>
+        ensures some { IfSome result (λ numbers. (o : ℕ) → contains nat_cmp numbers.now o ≡ is_customer_number self.now warehouse district customer o) }
+        ensures filled { IfSome result (λ numbers. 0 < length numbers.now.keys) }
+        ensures none { IfNone result ((o : ℕ) → is_customer_number self.now warehouse district customer o ≡ false) }
+    {
+        self.indexes.order_numbers(warehouse, district, customer)
     }
 
     /// The least number of the district's new orders.
     pub fn oldest_new(&self, warehouse: WarehouseId, district: DistrictId) -> Option<OrderId>
         ensures { result ≡ oldest self.now warehouse district }
     {
-        let mut oldest = None;
-        for leaf in 0..LEAVES {
-            oldest = lesser_of(oldest, self.page(leaf).oldest_new(warehouse, district));
-        }
-        oldest
+        let numbers = self.open_numbers(warehouse, district)?;
+        let first = numbers.first()?;
+        Some(*first)
     }
 
     /// The greatest number of the customer's orders.
@@ -170,11 +230,8 @@ impl RowStore {
     ) -> Option<OrderId>
         ensures { result ≡ latest self.now warehouse district customer }
     {
-        let mut latest = None;
-        for leaf in 0..LEAVES {
-            let on_page = self.page(leaf).last_order(warehouse, district, customer);
-            latest = larger_of(latest, on_page);
-        }
-        latest
+        let numbers = self.order_numbers(warehouse, district, customer)?;
+        let last = numbers.last()?;
+        Some(*last)
     }
 }

@@ -1,12 +1,11 @@
-use Rattle.std.proofs.Common.{arith, length-append}
-use Rattle.pages.proofs.Paging.{AreEmpty-push, paged_empty, union_empty}
+use Rattle.std.proofs.Common.{sym, ap, ◌∙◌}
+use Rattle.std.specs.FinMap.{get, get-empty}
+use Rattle.tpcc_rows.specs.RowMap.{Rows, row_key_cmp}
+use Rattle.indexes.specs.Owners.{owner_at, owns}
+use Rattle.indexes.proofs.Adding.{nobody}
 use Rattle.pages.proofs.store.RowStore.new.Goals as goal
 
-pub loop-preserved : goal.loop-preserved
-loop-preserved c = rw c.in_ok-push.ensures.items (record { len = simp length-append (omega arith); empty = AreEmpty-push _ _ c.new.ensures c.loop.invariant.empty })
-
-pub returns : goal.returns
-returns c = union_empty _ c.loop.invariant.empty
-
 pub invariant_of-result : goal.invariant_of-result
-invariant_of-result c = record { full = omega arith; fits = paged_empty _ c.loop.invariant.empty }
+invariant_of-result c = record {
+  same = λ b q. c.new-indexes.ensures b q ∙ sym (ap (λ (rows : Rows). owns b q (owner_at (get rows q))) c.in_ok-pages.ensures ∙ ap (λ o. owns b q (owner_at o)) (get-empty row_key_cmp q) ∙ nobody b q);
+}

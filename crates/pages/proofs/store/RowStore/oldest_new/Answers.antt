@@ -1,24 +1,14 @@
-use Rattle.std.proofs.Common.{◌≡◌, sym, ap, ap₂, ◌∙◌, arith}
-use Rattle.tpcc_rows.specs.LeafPicks.{least_below}
-use Rattle.tpcc_rows.specs.Picks.{lesser_of, new_pick, oldest}
-use Rattle.tpcc_rows.specs.RowMap.{Rows}
-use Rattle.tpcc_rows.proofs.LeafPicks.{least_below-zero, least_below-more, least-leaves}
+use Rattle.std.proofs.Common.{◌≡◌, None, rules, ◌∙◌}
+use Rattle.indexes.proofs.Ends.{first-oldest, none-oldest}
 use Rattle.pages.proofs.store.RowStore.oldest_new.Goals as goal
 
-pub loop-leaf-init : goal.loop-leaf-init
-loop-leaf-init c = sym (least_below-zero (new_pick c.args.warehouse c.args.district) c.args.self.now)
-
-pub loop-leaf-preserved : goal.loop-leaf-preserved
-unfolding oldest
-loop-leaf-preserved c =
-    let pick = new_pick c.args.warehouse c.args.district in
-    c.lesser_of-oldest.ensures
-    ∙ ap₂ lesser_of c.loop-leaf.invariant (c.oldest_new.ensures ∙ ap (λ (rows : Rows). oldest rows c.args.warehouse c.args.district) c.page.ensures)
-    ∙ sym (least_below-more pick c.args.self.now c.loop-leaf.leaf)
+pub returns-in_err-numbers : goal.returns-in_err-numbers
+returns-in_err-numbers c =
+    let none : c.from_residual.result ≡ None = search rules in
+    none ∙ none-oldest c.args.self.now c.args.warehouse c.args.district c.in_err-numbers.ensures.none
 
 pub returns : goal.returns
-unfolding oldest
 returns c =
-    let pick = new_pick c.args.warehouse c.args.district in
-    let last : c.loop-leaf.leaf ≡ 4096 = omega arith in
-    c.loop-leaf.invariant ∙ ap (least_below pick c.args.self.now) last ∙ least-leaves pick c.args.self.now
+    let numbers = c.in_ok-numbers.numbers.now in
+    let found = c.in_ok-first.ensures in
+    first-oldest c.args.self.now c.args.warehouse c.args.district numbers (record { members = c.in_ok-numbers.ensures.some; filled = c.in_ok-numbers.ensures.filled }) c.in_ok-first.first.now found.member found.least

@@ -1,21 +1,51 @@
-use Rattle.std.proofs.Common.{◌≡◌, Some, sym, ap, subst, ◌∙◌}
-use Rattle.std.specs.FinMap as map
+use Rattle.std.proofs.Common.{◌≡◌, Bool, false, true, ◌&&◌, cond, sym, ap, ap₂, subst, ◌∙◌}
 use Rattle.std.proofs.lemmas.Result.{on_ok_weaker, on_err_weaker}
-use Rattle.tpcc_rows.specs.RowMap.{Rows}
-use Rattle.pages.specs.Paged.{IsPaged, union}
-use Rattle.pages.proofs.Paging.{IsChange, full-change, union-change, set-same, either}
+use Rattle.std.specs.BTreeMap.{is_at}
+use Rattle.std.specs.FinMap.{get}
+use Rattle.tpcc_rows.specs.RowMap.{Rows, row_key_cmp}
+use Rattle.indexes.specs.declared.owner.Owner.{Owner}
+use Rattle.indexes.specs.declared.owner.Owner.TheVariants.{Nobody}
+use Rattle.indexes.specs.Indexed.{AreOf, has}
+use Rattle.indexes.specs.Owners.{owner_at, owner_of, owns, same_owner}
+use Rattle.indexes.proofs.Changing.{plain-row, put-changed, put-refused, put-same, same-owner}
+use Rattle.pages.proofs.Paging.{either}
 use Rattle.pages.proofs.store.RowStore.put.Goals as goal
 
-change : (c : goal.After-self-1) → c.put.new.self ≡ map.insert c.index_mut-page.result.now c.args.key c.args.row → IsChange c.self.inside.pages.items c.leaf-n.result c.index_mut-page.result.now c.put.new.self c.args.key (Some c.args.row)
-change c e = record { place = c.leaf-n.ensures.value; small = rw c.self.invariant.full c.leaf-n.ensures.below; here = c.index_mut-page.ensures.value; change = e }
-
 pub invariant_of-self : goal.invariant_of-self
-invariant_of-self c = either c.put.result
-    (on_ok_weaker c.put.result (λ e. full-change _ c.self.invariant _ _ _ _ _ (change c e)) c.put.ensures.ok)
-    (on_err_weaker c.put.result (λ e. subst IsPaged (sym (set-same c.self.inside.pages.items c.leaf-n.result _ _ c.index_mut-page.ensures.value e)) c.self.invariant) c.put.ensures.err)
+invariant_of-self c =
+    let old = c.self.inside.indexes in
+    let none : owner_of c.args.row ≡ Nobody = sym c.owner_of-owner.ensures ∙ same-owner c.owner_of-owner.result Nobody (sym c.is_nobody.ensures ∙ c.if-is_nobody.true) in
+    let plain = plain-row c.args.key c.args.row c.requires none in
+    either c.put.result
+    (on_ok_weaker c.put.result (λ e. subst (λ (rows : Rows). AreOf rows old) (sym e) (put-same c.self.inside.pages old old c.self.invariant c.args.key c.args.row (λ b. plain b _ ∙ sym (plain b _)))) c.put.ensures.ok)
+    (on_err_weaker c.put.result (λ e. subst (λ (rows : Rows). AreOf rows old) (sym e) c.self.invariant) c.put.ensures.err)
 
-pub returns-clause-ok : goal.returns-clause-ok
-returns-clause-ok c = on_ok_weaker c.put.result (λ e. union-change _ c.self.invariant.fits _ _ _ _ _ (change c e) ∙ ap (λ (rows : Rows). map.insert rows c.args.key c.args.row) c.self.view_is) c.put.ensures.ok
+pub invariant_of-self-then-same_owner : goal.invariant_of-self-then-same_owner
+invariant_of-self-then-same_owner c =
+    let old = c.self.inside.indexes in
+    let result = c.put-then-same_owner.result in
+    let same : owner_at (get c.self.inside.pages c.args.key) ≡ owner_of c.args.row =
+    sym c.owner_at-was.ensures ∙ same-owner c.owner_at-was.result c.owner_of-owner.result (sym c.same_owner.ensures ∙ c.if-same_owner.true) ∙ c.owner_of-owner.ensures in
+    either result
+    (on_ok_weaker result (λ e. subst (λ (rows : Rows). AreOf rows old) (sym e) (put-same c.self.inside.pages old old c.self.invariant c.args.key c.args.row (λ b. ap (owns b c.args.key) same))) c.put-then-same_owner.ensures.ok)
+    (on_err_weaker result (λ e. subst (λ (rows : Rows). AreOf rows old) (sym e) c.self.invariant) c.put-then-same_owner.ensures.err)
 
-pub returns-clause-err : goal.returns-clause-err
-returns-clause-err c = on_err_weaker c.put.result (λ e. ap union (set-same c.self.inside.pages.items c.leaf-n.result _ _ c.index_mut-page.ensures.value e) ∙ c.self.view_is) c.put.ensures.err
+pub invariant_of-self-in-Ok : goal.invariant_of-self-in-Ok
+invariant_of-self-in-Ok c =
+    let old = c.self.inside.indexes in
+    let new = c.take_out.new.self in
+    let differ = ap₂ same_owner (sym c.owner_at-was.ensures) (sym c.owner_of-owner.ensures) ∙ sym c.same_owner.ensures ∙ c.if-same_owner.false in
+    subst (λ (rows : Rows). AreOf rows new) (sym c.in-Ok.ensures.ok) (put-changed c.self.inside.pages old new c.self.invariant c.args.key c.args.row differ (λ b q.
+    c.take_out.ensures b q
+    ∙ ap₂ (λ (o : Owner) (t : Bool). cond (owns b q o && is_at (row_key_cmp c.args.key) q) false t) c.owner_at-was.ensures
+    (c.in_ok-add.ensures.ok b q ∙ ap (λ (o : Owner). cond (owns b q o && is_at (row_key_cmp c.args.key) q) true (has old b q)) c.owner_of-owner.ensures)))
+
+pub invariant_of-self-in-Err : goal.invariant_of-self-in-Err
+invariant_of-self-in-Err c =
+    let old = c.self.inside.indexes in
+    let new = c.take_out-in-Err.new.self in
+    let owner = c.owner_of-owner.result in
+    let differ = ap (λ (o : Owner). same_owner o owner) (sym c.owner_at-was.ensures) ∙ sym c.same_owner.ensures ∙ c.if-same_owner.false in
+    subst (λ (rows : Rows). AreOf rows new) (sym c.in-Err.ensures.err) (put-refused c.self.inside.pages old new c.self.invariant c.args.key owner differ (λ b q.
+    c.take_out-in-Err.ensures b q
+    ∙ ap (λ (t : Bool). cond (owns b q owner && is_at (row_key_cmp c.args.key) q) false t) (c.in_ok-add.ensures.ok b q)))

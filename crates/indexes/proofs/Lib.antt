@@ -1,0 +1,5 @@
+pub mod Adding
+pub mod Changing
+pub mod Ends
+pub mod Placing
+pub mod Written

@@ -1,0 +1,4 @@
+pub mod Owners
+pub mod Pages
+pub mod Indexed
+pub mod Numbers

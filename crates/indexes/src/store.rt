@@ -1,0 +1,199 @@
+//! The indexes of all districts.
+ghost use Rattle.std.specs.Prelude.{◌≡◌, ◌<◌, ◌&&◌, ◌||◌, ℕ, IfNone, IfSome, IsSome, OnErr, OnOk, cond, false, length, true};
+ghost use Rattle.std.specs.BTreeMap.{get, is_at};
+ghost use Rattle.std.specs.BTreeSet.{contains};
+ghost use Rattle.std.specs.FinMap as map;
+ghost use Rattle.std.specs.Ordering.{nat_cmp};
+ghost use Rattle.tpcc_rows.specs.RowMap.{row_key_cmp};
+ghost use Rattle.tpcc_rows.specs.declared.key.RowKey.{RowKey};
+ghost use Rattle.tpcc_rows.specs.declared.key.RowKey.TheVariants as key;
+ghost use Rattle.indexes.specs.declared.owner.Owner.TheVariants as owner;
+ghost use Rattle.indexes.specs.Indexed.{district_cmp, has, new_in, order_in};
+ghost use Rattle.indexes.specs.Owners.{owner_at, owns};
+
+use crate::district::DistrictIndex;
+use crate::owner::{Owner, owner_of};
+use std::alloc::Global;
+use std::collections::{BTreeMap, BTreeSet};
+use tpcc_rows::id::{CustomerId, DistrictId, OrderId, WarehouseId};
+use tpcc_rows::key::RowKey;
+use tpcc_rows::memory::Memory;
+use tpcc_rows::plain;
+
+/// An index for each district that has numbers.
+#[derive(Drop)]
+pub struct Indexes {
+    alloc: Global,
+    districts: BTreeMap<(WarehouseId, DistrictId), DistrictIndex>,
+}
+
+impl Indexes {
+    /// No numbers.
+    pub fn new(alloc: Global) -> Indexes
+        ensures { (c : ℕ) (q : RowKey) → has result c q ≡ false }
+    {
+        Indexes {
+            alloc,
+            districts: BTreeMap::new(alloc),
+        }
+    }
+
+    /// The numbers of the district's new orders, where there are any.
+    pub fn open_numbers(
+        &self,
+        warehouse: WarehouseId,
+        district: DistrictId,
+    ) -> Option<&BTreeSet<OrderId>>
+        ensures some { IfSome result (λ numbers. (c o : ℕ) → contains nat_cmp numbers.now o ≡ has self.now c (key.NewOrder warehouse district o)) }
+        ensures filled { IfSome result (λ numbers. 0 < length numbers.now.keys) }
+        ensures none { IfNone result ((c o : ℕ) → has self.now c (key.NewOrder warehouse district o) ≡ false) }
+    {
+        let index = self.districts.get(&(warehouse, district))?;
+        index.open_numbers()
+    }
+
+    /// The numbers of the customer's orders, where there are any.
+    pub fn order_numbers(
+        &self,
+        warehouse: WarehouseId,
+        district: DistrictId,
+        customer: CustomerId,
+    ) -> Option<&BTreeSet<OrderId>>
+        ensures some { IfSome result (λ numbers. (o : ℕ) → contains nat_cmp numbers.now o ≡ has self.now customer (key.Order warehouse district o)) }
+        ensures filled { IfSome result (λ numbers. 0 < length numbers.now.keys) }
+        ensures none { IfNone result ((o : ℕ) → has self.now customer (key.Order warehouse district o) ≡ false) }
+    {
+        let index = self.districts.get(&(warehouse, district))?;
+        index.order_numbers(customer)
+    }
+
+    /// A place for the district's numbers.
+    fn add_district(&mut self, warehouse: WarehouseId, district: DistrictId) -> Result<(), Memory>
+        ensures new { (o w d : ℕ) → new_in o (get district_cmp self.new.districts (w, d)) ≡ new_in o (get district_cmp self.old.districts (w, d)) }
+        ensures orders { (c o w d : ℕ) → order_in c o (get district_cmp self.new.districts (w, d)) ≡ order_in c o (get district_cmp self.old.districts (w, d)) }
+        ensures there { OnOk result (IsSome (get district_cmp self.new.districts (warehouse, district))) }
+    {
+        let place = (warehouse, district);
+        if !self.districts.contains_key(&place) {
+            let index = DistrictIndex::new(self.alloc);
+            self.districts.insert(place, index)?;
+        }
+        Ok(())
+    }
+
+    fn add_new(
+        &mut self,
+        warehouse: WarehouseId,
+        district: DistrictId,
+        order: OrderId,
+    ) -> Result<(), Memory>
+        ensures ok { OnOk result ((c : ℕ) (q : RowKey) → has self.new c q ≡ cond (owns c q owner.District && is_at (row_key_cmp (key.NewOrder warehouse district order)) q) true (has self.old c q)) }
+        ensures err { OnErr result ((c : ℕ) (q : RowKey) → has self.new c q ≡ has self.old c q) }
+    {
+        self.add_district(warehouse, district)?;
+        if let Some(index) = self.districts.get_mut(&(warehouse, district)) {
+            index.add_new(order)?;
+        }
+        Ok(())
+    }
+
+    fn add_order(
+        &mut self,
+        warehouse: WarehouseId,
+        district: DistrictId,
+        customer: CustomerId,
+        order: OrderId,
+    ) -> Result<(), Memory>
+        ensures ok { OnOk result ((c : ℕ) (q : RowKey) → has self.new c q ≡ cond (owns c q (owner.Customer customer) && is_at (row_key_cmp (key.Order warehouse district order)) q) true (has self.old c q)) }
+        ensures err { OnErr result ((c : ℕ) (q : RowKey) → has self.new c q ≡ has self.old c q) }
+    {
+        self.add_district(warehouse, district)?;
+        if let Some(index) = self.districts.get_mut(&(warehouse, district)) {
+            index.add_order(customer, order)?;
+        }
+        Ok(())
+    }
+
+    /// The key's number is one of this owner's from now on.
+    pub fn add(&mut self, key: &RowKey, owner: &Owner) -> Result<(), Memory>
+        ensures ok { OnOk result ((c : ℕ) (q : RowKey) → has self.new c q ≡ cond (owns c q owner.now && is_at (row_key_cmp key.now) q) true (has self.old c q)) }
+        ensures err { OnErr result ((c : ℕ) (q : RowKey) → has self.new c q ≡ has self.old c q) }
+    {
+        match (key, owner) {
+            (
+                RowKey::NewOrder {
+                    warehouse,
+                    district,
+                    order,
+                },
+                Owner::District,
+            ) => self.add_new(*warehouse, *district, *order),
+            (
+                RowKey::Order {
+                    warehouse,
+                    district,
+                    order,
+                },
+                Owner::Customer(customer),
+            ) => self.add_order(*warehouse, *district, *customer, *order),
+            _ => Ok(()),
+        }
+    }
+
+    /// The numbers of the page's rows from now on too.
+    pub fn add_page(&mut self, page: &plain::RowStore) -> Result<(), Memory>
+        ensures { OnOk result ((c : ℕ) (q : RowKey) → has self.new c q ≡ (owns c q (owner_at (map.get page.now q)) || has self.old c q)) }
+    {
+        for (key, row) in page.iter() {
+            self.add(key, &owner_of(row))?;
+        }
+        Ok(())
+    }
+
+    fn drop_new(&mut self, warehouse: WarehouseId, district: DistrictId, order: OrderId)
+        ensures { (c : ℕ) (q : RowKey) → has self.new c q ≡ cond (owns c q owner.District && is_at (row_key_cmp (key.NewOrder warehouse district order)) q) false (has self.old c q) }
+    {
+        if let Some(index) = self.districts.get_mut(&(warehouse, district)) {
+            index.drop_new(order);
+        }
+    }
+
+    fn drop_order(
+        &mut self,
+        warehouse: WarehouseId,
+        district: DistrictId,
+        customer: CustomerId,
+        order: OrderId,
+    )
+        ensures { (c : ℕ) (q : RowKey) → has self.new c q ≡ cond (owns c q (owner.Customer customer) && is_at (row_key_cmp (key.Order warehouse district order)) q) false (has self.old c q) }
+    {
+        if let Some(index) = self.districts.get_mut(&(warehouse, district)) {
+            index.drop_order(customer, order);
+        }
+    }
+
+    /// The key's number is none of this owner's from now on.
+    pub fn take_out(&mut self, key: &RowKey, owner: &Owner)
+        ensures { (c : ℕ) (q : RowKey) → has self.new c q ≡ cond (owns c q owner.now && is_at (row_key_cmp key.now) q) false (has self.old c q) }
+    {
+        match (key, owner) {
+            (
+                RowKey::NewOrder {
+                    warehouse,
+                    district,
+                    order,
+                },
+                Owner::District,
+            ) => self.drop_new(*warehouse, *district, *order),
+            (
+                RowKey::Order {
+                    warehouse,
+                    district,
+                    order,
+                },
+                Owner::Customer(customer),
+            ) => self.drop_order(*warehouse, *district, *customer, *order),
+            _ => {}
+        }
+    }
+}

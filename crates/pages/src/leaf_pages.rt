@@ -1,0 +1,116 @@
+//! A page of rows for each leaf.
+ghost use Rattle.std.specs.Prelude.{◌≡◌, ◌<◌, IfOk, IfSome, OnOk, OnErr, length, option_copied, true};
+ghost use Rattle.std.specs.FinMap as map;
+ghost use Rattle.tpcc_rows.specs.Leaves.{page_rows};
+ghost use Rattle.tpcc_rows.specs.RowKinds.{fits};
+
+use crate::leaf_lists::LeafLists;
+use std::alloc::Global;
+use std::marker::Model;
+use tpcc_rows::codes::{LEAVES, leaf};
+use tpcc_rows::key::RowKey;
+use tpcc_rows::memory::Memory;
+use tpcc_rows::plain;
+use tpcc_rows::row::Row;
+
+/// Rows of their keys' kinds, each on the page of its key's leaf.
+#[derive(Drop)]
+pub(crate) struct Pages {
+    pages: Vec<plain::RowStore>,
+}
+
+impl Model for Pages {
+    ghost use Rattle.tpcc_rows.specs.RowMap.{Rows, rows_code};
+
+    ghost Value = { Rows };
+
+    ghost coded = { rows_code };
+
+    ghost use Rattle.pages.specs.Paged.{IsPaged, union};
+
+    ghost view = { λ s. union s.pages.items };
+
+    ghost invariant = { λ s. IsPaged s.pages.items };
+}
+
+impl Pages {
+    /// No rows, and a place for each page.
+    pub(crate) fn new(alloc: Global) -> Result<Pages, Memory>
+        ensures { IfOk result (λ store. store ≡ map.empty) }
+    {
+        let mut pages = Vec::with_capacity(alloc, LEAVES)?;
+        for _ in 0..LEAVES {
+            pages.push(plain::RowStore::new(alloc))?;
+        }
+        Ok(Pages { pages })
+    }
+
+    /// The rows of a plain store, each moved to its page.
+    pub(crate) fn from_plain(alloc: Global, rows: plain::RowStore) -> Result<Pages, Memory>
+        ensures { IfOk result (λ store. store ≡ rows) }
+    {
+        let mut lists = LeafLists::new(alloc)?;
+        for (key, row) in rows.into_rows() {
+            lists.push(key, row)?;
+        }
+        let pages = lists.into_pages(alloc)?;
+        Ok(Pages { pages })
+    }
+
+    /// A store with the same rows.
+    pub(crate) fn copied(&self, alloc: Global) -> Result<Pages, Memory>
+        ensures { IfOk result (λ store. store ≡ self.now) }
+    {
+        let mut pages = Vec::with_capacity(alloc, LEAVES)?;
+        for page in &self.pages {
+            pages.push(page.copied(alloc)?)?;
+        }
+        Ok(Pages { pages })
+    }
+
+    pub(crate) fn get(&self, key: &RowKey) -> Option<&Row>
+        ensures value { option_copied result ≡ map.get self.now key.now }
+        ensures kind { IfSome (option_copied result) (λ row. fits key.now row ≡ true) }
+    {
+        self.pages[leaf(key)].get(key)
+    }
+
+    /// The key has this row from now on.
+    pub(crate) fn put(&mut self, key: RowKey, row: Row) -> Result<(), Memory>
+        requires { fits key row ≡ true }
+        ensures ok { OnOk result (self.new ≡ map.insert self.old key row) }
+        ensures err { OnErr result (self.new ≡ self.old) }
+    {
+        let n = leaf(&key);
+        let page = &mut self.pages[n];
+        page.put(key, row)
+    }
+
+    /// The key has no row from now on; the answer is the one that it had.
+    pub(crate) fn remove(&mut self, key: &RowKey) -> Option<Row>
+        ensures value { result ≡ map.get self.old key.now }
+        ensures after { self.new ≡ map.remove self.old key.now }
+    {
+        let n = leaf(key);
+        self.pages[n].remove(key)
+    }
+
+    /// The rows of a leaf.
+    pub(crate) fn page(&self, leaf: usize) -> &plain::RowStore
+        requires { leaf < LEAVES }
+        ensures { result.now ≡ page_rows self.now leaf }
+    {
+        &self.pages[leaf]
+    }
+
+    /// How many rows there are: a sum over the pages, and so wider than the length of one.
+    pub(crate) fn len(&self) -> u128
+        ensures { result ≡ length (map.entries self.now) }
+    {
+        let mut len = 0u128;
+        for leaf in 0..LEAVES {
+            len += self.page(leaf).len() as u128;
+        }
+        len
+    }
+}
