@@ -1,25 +1,24 @@
 -- One step of the loops that find levels and cut them.
-use Rattle.std.proofs.Common.{◌≡◌, ℕ, suc, ◌+◌, ◌-◌, ◌<◌, Bool, max, if◌then◌else◌, List, [], ◌∷◌, ◌++◌, length, get_or, drop, map, sym, ap, ◌∙◌, arith}
+use Rattle.std.proofs.Common.{◌≡◌, ℕ, suc, ◌+◌, ◌-◌, ◌<◌, Bool, List, [], ◌∷◌, ◌++◌, length, get_or, drop, map, refl, sym, ap, ◌∙◌, arith}
 use Rattle.std.proofs.lemmas.List.{drop_more, map-append, append_assoc}
 use Rattle.std.specs.List.{zip}
 use Rattle.serializability.specs.Levels.{level_after, levels_after, at_level, cut_from}
 use Rattle.mixer.proofs.Lists.{zip_more}
 
-module _ {F : Type 0} (meets : F → F → Bool) where
-  -- the level behind those from place i on, from that behind those after it
-  pub level_step : (levels : List ℕ) (fs : List F) (f e : F) (i d : ℕ) → i < length levels → i < length fs → e ≡ get_or fs i e → level_after meets (zip (drop i levels) (drop i fs)) f
-      ≡ (if meets e f then max (get_or levels i d + 1) (level_after meets (zip (drop (i + 1) levels) (drop (i + 1) fs)) f) else level_after meets (zip (drop (i + 1) levels) (drop (i + 1) fs)) f)
-  level_step levels fs f e i d h k is =
-      (λ j. level_after meets (zip (drop_more levels i d h j) (drop_more fs i e k j)) f)
-      ∙ ap (λ x. level_after meets (zip (get_or levels i d ∷ drop (i + 1) levels) (x ∷ drop (i + 1) fs)) f) (sym is)
+-- the levels found so far with their footprints, when one more is
+pub done_step : {F : Type 0} (levels more : List ℕ) (fs : List F) (f : F) (level i : ℕ) → i < length fs → length levels ≡ i → f ≡ get_or fs i f → more ≡ levels ++ level ∷ []
+    → zip more fs ≡ zip levels fs ++ (level, f) ∷ []
+done_step levels more fs f level i h count is grown =
+    let below : length levels < length fs = omega (arith, h, count) in
+    ap (λ xs. zip xs fs) grown ∙ zip_more levels fs level f below ∙ ap (λ x. zip levels fs ++ (level, x) ∷ []) (ap (λ n. get_or fs n f) count ∙ sym is)
 
+module _ {F : Type 0} (meets : F → F → Bool) where
   -- the levels of all, when that of the next one is found
   pub levels_step : (levels more : List ℕ) (fs : List F) (f : F) (level i : ℕ) (whole : List ℕ) → i < length fs → length levels ≡ i → f ≡ get_or fs i f
       → level ≡ level_after meets (zip levels fs) f → more ≡ levels ++ level ∷ [] → levels ++ levels_after meets (zip levels fs) (drop i fs) ≡ whole
       → more ++ levels_after meets (zip more fs) (drop (i + 1) fs) ≡ whole
   levels_step levels more fs f level i whole h count is told grown all =
-      let below : length levels < length fs = omega (arith, h, count) in
-      let done : zip (levels ++ level ∷ []) fs ≡ zip levels fs ++ (level, f) ∷ [] = zip_more levels fs level f below ∙ ap (λ x. zip levels fs ++ (level, x) ∷ []) (ap (λ n. get_or fs n f) count ∙ sym is) in
+      let done = done_step levels (levels ++ level ∷ []) fs f level i h count is refl in
       (λ j. grown j ++ levels_after meets (zip (grown j) fs) (drop (i + 1) fs))
       ∙ ap (λ d. (levels ++ level ∷ []) ++ levels_after meets d (drop (i + 1) fs)) done
       ∙ append_assoc levels (level ∷ []) (levels_after meets (zip levels fs ++ (level, f) ∷ []) (drop (i + 1) fs))

@@ -1,3 +1,5 @@
-pub mod Lists
+pub mod LevelRows
 pub mod LevelSteps
+pub mod Lists
+pub mod RowSteps
 pub mod Signed

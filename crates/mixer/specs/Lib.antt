@@ -1,1 +1,2 @@
+pub mod LevelRows
 pub mod Signed

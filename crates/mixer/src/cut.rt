@@ -6,7 +6,6 @@ ghost use Rattle.serializability.specs.Signatures.{meets_by};
 ghost use Rattle.signatures_simd.specs.Bits.{bit};
 
 use crate::levels::{depth_of, levels_of, places_of};
-use crate::signing::sign_all;
 use std::alloc::Global;
 use std::marker::Model;
 use tpcc_rows::footprint::Footprint;
@@ -60,7 +59,6 @@ pub fn mix(alloc: Global, footprints: &[Footprint]) -> Result<Cut, Memory>
     requires { length footprints.now ≤ 1024 }
     ensures { IfOk result (λ c. c ≡ cut (levels (meets_by bit) footprints.now)) }
 {
-    let signed = sign_all(alloc, footprints)?;
-    let levels = levels_of(alloc, &signed)?;
+    let levels = levels_of(alloc, footprints)?;
     cut_of(alloc, &levels)
 }

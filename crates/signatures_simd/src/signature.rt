@@ -4,21 +4,23 @@ ghost use Rattle.signatures_simd.specs.Bits.{bit};
 ghost use Rattle.signatures_simd.specs.Signatures.{IsSignatureOf, has, meet, last_from};
 
 use crate::bit::granule_bit;
+use crate::lanes::{either, have_common};
 use std::marker::Model;
 use tpcc_rows::granule::Granule;
 
-/// The bits of some granules.
+/// The bits of some granules: bit b is in word b / 64.
 #[derive(Drop)]
 pub struct Signature {
-    bits: [bool; 512],
+    words: [u64; 8],
 }
 
 impl Model for Signature {
     ghost use Rattle.std.specs.Prelude.{Bool, List};
+    ghost use Rattle.signatures_simd.specs.Words.{words_bits};
 
     ghost Value = { List Bool };
 
-    ghost view = { λ s. s.bits };
+    ghost view = { λ s. words_bits s.words };
 }
 
 impl Signature {
@@ -26,33 +28,28 @@ impl Signature {
     pub fn of(granules: &[Granule]) -> Signature
         ensures { IsSignatureOf result (map bit granules.now) }
     {
-        let mut bits = [false; 512];
+        let mut words = [0u64; 8];
         for granule in granules {
-            bits[granule_bit(granule)] = true;
+            let bit = granule_bit(granule);
+            words[bit / 64] |= 1 << (bit % 64);
         }
-        Signature { bits }
+        Signature { words }
     }
 
     /// The bits of either.
     pub fn union(&self, other: &Signature) -> Signature
         ensures { (b : ℕ) → has result b ≡ (has self.now b || has other.now b) }
     {
-        let mut bits = [false; 512];
-        for bit in 0..512 {
-            bits[bit] = self.bits[bit] | other.bits[bit];
+        Signature {
+            words: either(&self.words, &other.words),
         }
-        Signature { bits }
     }
 
     /// Whether some bit is in both.
     pub fn meets(&self, other: &Signature) -> bool
         ensures { result ≡ meet self.now other.now }
     {
-        let mut shared = false;
-        for bit in 0..512 {
-            shared |= self.bits[bit] & other.bits[bit];
-        }
-        shared
+        have_common(&self.words, &other.words)
     }
 }
 
@@ -60,11 +57,10 @@ impl Signature {
 pub fn highest_meeting(signatures: &[Signature], other: &Signature) -> Option<usize>
     ensures { result ≡ last_from 0 (meet other.now) signatures.now }
 {
-    let mut highest = None;
-    for (place, signature) in signatures.iter().enumerate() {
-        if other.meets(signature) {
-            highest = Some(place);
+    for place in (0..signatures.len()).rev() {
+        if other.meets(&signatures[place]) {
+            return Some(place);
         }
     }
-    highest
+    None
 }

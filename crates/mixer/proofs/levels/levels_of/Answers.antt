@@ -1,16 +1,21 @@
-use Rattle.std.proofs.Common.{rules, ap, ◌∙◌}
+use Rattle.std.proofs.Common.{◌≤◌, rules, length, sym, subst, arith}
 use Rattle.std.specs.List.{zip}
-use Rattle.serializability.specs.Levels.{level_after}
-use Rattle.mixer.specs.Signed.{signed_meet}
-use Rattle.mixer.proofs.LevelSteps.{levels_step}
+use Rattle.serializability.specs.Signatures.{meets_by}
+use Rattle.signatures_simd.specs.Bits.{bit}
+use Rattle.mixer.specs.LevelRows.{AreRows}
+use Rattle.mixer.proofs.LevelSteps.{levels_step, done_step}
+use Rattle.mixer.proofs.Lists.{below_push}
 use Rattle.mixer.proofs.levels.levels_of.Goals as goal
 
--- src/levels.rt:34:5
-pub loop-own-preserved : goal.loop-own-preserved
-loop-own-preserved c =
-    let level = c.level_of-level.ensures.level ∙ ap (λ levels. level_after signed_meet (zip levels c.args.signed.now) c.own-item.result) c.deref.ensures.value in
+pub loop-footprint-preserved : goal.loop-footprint-preserved
+loop-footprint-preserved c =
+    let low : c.in_ok-level.level ≤ length c.loop-footprint.levels.items = omega (arith, c.in_ok-level.ensures.bound, c.loop-footprint.invariant.count, c.loop-footprint.invariant.reads, c.loop-footprint.invariant.writes) in
+    let done = zip c.loop-footprint.levels.items c.args.footprints.now in
     record {
-      told = levels_step signed_meet c.loop-own.levels.items _ c.args.signed.now c.own-item.result c.level_of-level.result c.loop-own.own-index _ c.loop-own-test.true c.loop-own.invariant.count c.own-item.is level c.in_ok-push.ensures.items c.loop-own.invariant.told;
+      told = levels_step (meets_by bit) c.loop-footprint.levels.items _ c.args.footprints.now c.footprint-item.result c.in_ok-level.level c.loop-footprint.footprint-index _ c.loop-footprint-test.true c.loop-footprint.invariant.count c.footprint-item.is (c.in_ok-level.ensures.level done c.loop-footprint.invariant.rows) c.in_ok-push.ensures.items c.loop-footprint.invariant.told;
+      rows = subst (AreRows c.place.new.self) (sym (done_step c.loop-footprint.levels.items c.push.new.self.items c.args.footprints.now c.footprint-item.result c.in_ok-level.level c.loop-footprint.footprint-index c.loop-footprint-test.true c.loop-footprint.invariant.count c.footprint-item.is c.in_ok-push.ensures.items)) (c.in_ok-level.ensures.rows done c.loop-footprint.invariant.rows);
       count = search rules;
-      below = search rules;
+      reads = omega (arith, c.in_ok-level.ensures.reads, c.loop-footprint.invariant.reads);
+      writes = omega (arith, c.in_ok-level.ensures.writes, c.loop-footprint.invariant.writes);
+      below = below_push c.loop-footprint.levels.items c.push.new.self.items c.in_ok-level.level low c.in_ok-push.ensures.items c.loop-footprint.invariant.below;
     }
