@@ -1,0 +1,68 @@
+//! Groups of messages of all kinds of lengths.
+use crate::printing::print_digest;
+use sha2_lanes::digests;
+use std::alloc::Global;
+
+/// How many bytes the messages of each group have.
+const GROUPS: [&[usize]; 27] = [
+    &[],
+    &[0],
+    &[1],
+    &[54],
+    &[55],
+    &[56],
+    &[57],
+    &[63],
+    &[64],
+    &[65],
+    &[118],
+    &[119],
+    &[120],
+    &[121],
+    &[4096],
+    &[65, 65, 65, 65],
+    &[0, 4096, 55, 64],
+    &[4096, 0, 64, 56],
+    &[119, 63, 4096, 1],
+    &[57, 120, 121, 4096],
+    &[54, 55, 56, 57],
+    &[121, 120, 119, 118],
+    &[64, 63, 65, 0],
+    &[1, 118],
+    &[4096, 65, 0],
+    &[0, 64, 128, 192, 4096],
+    &[55, 56, 4096, 0, 120, 119, 64],
+];
+
+/// Bytes, of which the messages of a group are parts: the first from the first byte on, the second from the second.
+fn all_bytes(alloc: Global) -> Option<Vec<u8>> {
+    let mut bytes = Vec::new(alloc);
+    for i in 0..4_160u64 {
+        bytes.push(((31 * i + 7) % 251) as u8).ok()?;
+    }
+    Some(bytes)
+}
+
+fn show_group(rt: &impl Print, alloc: Global, bytes: &[u8], lengths: &[usize]) -> Option<()> {
+    let _ = println!(rt; "messages: {}", lengths.len());
+    let mut messages = Vec::new(alloc);
+    for (place, length) in lengths.iter().enumerate() {
+        messages.push(bytes.get(place..)?.get(..*length)?).ok()?;
+    }
+    let mut each = vec![in alloc; [0u8; 32]; messages.len()].ok()?;
+    digests(&messages, &mut each);
+    for (message, digest) in messages.iter().zip(each.iter()) {
+        let name = format!(in alloc; "  {} bytes", message.len()).ok()?;
+        print_digest(rt, &name, message, digest);
+    }
+    Some(())
+}
+
+/// Shows each group.
+pub fn show(rt: &impl Print, alloc: Global) -> Option<()> {
+    let bytes = all_bytes(alloc)?;
+    for lengths in GROUPS {
+        show_group(rt, alloc, &bytes, lengths)?;
+    }
+    Some(())
+}
