@@ -13,7 +13,7 @@ use Rattle.merkle.specs.Nodes.{at, rehashed, IsOf, IsOfClean}
 pub kept-clean : (leaves : List (List ℕ)) (old new : Pointed) → KeepsCleanLeaves old new → IsOfClean leaves old.dirty old.rows → IsOfClean leaves new.dirty new.rows
 unfolding leaf_hash
 kept-clean leaves old new keeps of_old = record {
-  each = λ n small clean. of_old.each n small (keeps n clean).0 ∙ ap (λ page. sha256 (0 ∷ rows_bytes (map.entries page))) (sym (keeps n clean).1)
+  each = λ n small clean. of_old.each n small (keeps n clean).0 ∙ ap (λ page. sha256 (0 ∷ rows_bytes (map.entries page))) (sym (keeps n clean).1);
 }
 
 -- where it was right on the clean leaves, it is right on all

@@ -32,5 +32,5 @@ loop-i-preserved c =
         | inr t ↦ let ne : j ≢ i = t.1 in c.loop-i.invariant.done j (omega arith) b
       ];
       left = λ j a b. c.loop-i.invariant.left j a (omega arith);
-      leaves = c.loop-i.invariant.leaves
+      leaves = c.loop-i.invariant.leaves;
     }
