@@ -1,7 +1,7 @@
 use Rattle.std.proofs.Common.{◌∷◌, ◌++◌, [], sym, ap, ◌∙◌, append-nil, append_assoc}
 use Rattle.sha2.specs.Sha256.{sha256}
 use Rattle.tpcc_rows.specs.Encodings.{row_bytes, rows_bytes}
-use Rattle.merkle.proofs.hashing.hash_with_room.Goals as goal
+use Rattle.merkle.proofs.hashing.hash_leaf.Goals as goal
 
 pub loop-key-init : goal.loop-key-init
 loop-key-init c = (0 ∷ [], c.make_room.ensures.fed (0 ∷ []) c.of_leaf-gathered.ensures, ap (λ es. 0 ∷ rows_bytes es) (c.into_iter-key-iterator.ensures.into_iter_gives ∙ c.iter-key-items.ensures))
