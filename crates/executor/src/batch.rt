@@ -17,7 +17,7 @@ use crate::sequential::execute_sequential;
 use crate::stamp::Stamp;
 use requests::reply::Reply;
 use requests::request::Verdict;
-use rollback::{MarkError, POINTS, PointedStore, RewindError};
+use rollback::{POINTS, PointedStore};
 use std::alloc::Global;
 use std::thread::Threads;
 use token::{TokenParts, reply_digest};
@@ -26,32 +26,23 @@ use transactions::ExecError;
 use workers::{END_OF_NUMBERS, Gate, Workers};
 
 /// The present rows become the newest point, for which there is a place.
-fn mark(alloc: Global, store: &mut PointedStore) -> Result<(), Memory>
+fn mark(store: &mut PointedStore)
     requires { length store.old.points < POINTS }
-    ensures points { OnOk result (store.new.points ≡ store.old.points ++ store.old.rows ∷ []) }
+    ensures points { store.new.points ≡ store.old.points ++ store.old.rows ∷ [] }
     ensures rows { store.new.rows ≡ store.old.rows }
-    ensures err { OnErr result (store.new.points ≡ store.old.points) }
     ensures clean { KeepsCleanLeaves store.old store.new }
 {
-    match store.mark(alloc) {
-        Ok(()) => Ok(()),
-        Err(MarkError::Memory) => Err(Memory),
-        Err(MarkError::PointsFull) => unreachable!(),
-    }
+    store.mark().unwrap();
 }
 
 /// The rows are again those of the newest point, which stays.
-fn rewind(alloc: Global, store: &mut PointedStore, point: usize) -> Result<(), Memory>
+fn rewind(store: &mut PointedStore, point: usize)
     requires { length store.old.points ≡ point + 1 }
-    ensures rows { OnOk result (slice_get store.old.points point ≡ Some store.new.rows) }
+    ensures rows { slice_get store.old.points point ≡ Some store.new.rows }
     ensures points { store.new.points ≡ store.old.points }
     ensures clean { KeepsCleanLeaves store.old store.new }
 {
-    match store.rewind(alloc, point) {
-        Ok(()) => Ok(()),
-        Err(RewindError::Memory) => Err(Memory),
-        Err(RewindError::NoSuchPoint) => unreachable!(),
-    }
+    store.rewind(point).unwrap();
 }
 
 /// How many threads the leaves are hashed on at most: as many as there are workers, or one.
@@ -99,7 +90,7 @@ impl Engine {
             },
             Err(ExecError::Memory) => return Err(Memory),
         };
-        rewind(alloc, &mut self.store, point)?;
+        rewind(&mut self.store, point);
         let replies = execute_sequential(alloc, &self.catalog, &mut self.store, next, gate)?;
         Ok((replies, path))
     }
@@ -183,7 +174,7 @@ impl Engine {
         ensures old_points { OnErr result (self.new.store.points ≡ self.old.store.points) }
     {
         let point = self.store.points();
-        mark(alloc, &mut self.store)?;
+        mark(&mut self.store);
         let outcome = self.recorded(rt, alloc, next, workers, gate, point);
         if outcome.is_err() {
             self.store.back_to(point).unwrap();
