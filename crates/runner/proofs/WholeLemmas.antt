@@ -1,5 +1,5 @@
 -- A run on the database of an image.
-use Rattle.std.proofs.Common.{◌≡◌, ℕ, List, [], sym, append-nil, Option, Some, None, Result, Ok, Err, IfOk, IfErr, IfSome}
+use Rattle.std.proofs.Common.{◌≡◌, ℕ, List, [], sym, append-nil, refl, true, false, Option, Some, None, Result, Ok, Err, IfOk, IfErr, IfSome, OnErr, OnOk, is_err}
 use Rattle.std.specs.Io.KnownBytes.{Appends, Keeps}
 use Rattle.executor.specs.States.{IsSoundState}
 use Rattle.executor.specs.declared.refusal.Refusal.TheVariants as refusal
@@ -45,6 +45,19 @@ left_run (Err e) (Some bytes) None db old new is kind left = tt
 left_run (Err e) (Some bytes) (Some batch_bytes) db old new is kind left = left_by e bytes batch_bytes db old new is kind left
 
 -- ---- the line of an image
+pub where_failed : {A E P : Type 0} (r : Result A E) → OnErr r P → is_err r ≡ true → P
+where_failed (Ok a) h failed = cc
+where_failed (Err e) h failed = h
+
+pub where_fine : {A E P : Type 0} (r : Result A E) → OnOk r P → is_err r ≡ false → P
+where_fine (Ok a) h fine = h
+where_fine (Err e) h fine = cc
+
+pub leaves_all : (images : Option (List ℕ)) (taken : Taken) → IfSome images (λ image_bytes. LeavesCheck run_fault.Memory image_bytes taken taken)
+leaves_all None taken = tt
+leaves_all (Some bytes) None = tt
+leaves_all (Some bytes) (Some taken) = refl
+
 pub checks_image : (images : Option (List ℕ)) (db : Database) (old new : Taken) → IfSome images (λ image_bytes. image image_bytes ≡ Ok db) → Appends old new (opening_text db)
     → IfSome images (λ image_bytes. ChecksImage image_bytes old new)
 checks_image None db old new is written = tt
