@@ -179,12 +179,17 @@ fn order_delivered<V: RowView>(
         lent: Lent { view },
         changes: &*changes,
     };
-    let row = order_row(&rows, p.warehouse, district, order);
-    let row = *row.ok_or(RequestRefusal::UnknownKey)?;
-    let old = customer_row(&rows, p.warehouse, district, row.customer);
-    let old = old.ok_or(RequestRefusal::UnknownKey)?;
+    let Some(row) = order_row(&rows, p.warehouse, district, order) else {
+        return Err(Fault::Refused(RequestRefusal::UnknownKey));
+    };
+    let row = *row;
+    let Some(old) = customer_row(&rows, p.warehouse, district, row.customer) else {
+        return Err(Fault::Refused(RequestRefusal::UnknownKey));
+    };
     let amount = lines_amount(view, changes, p, district, order, row.line_count);
-    let new = credited(old, amount).ok_or(RequestRefusal::LimitReached)?;
+    let Some(new) = credited(old, amount) else {
+        return Err(Fault::Refused(RequestRefusal::LimitReached));
+    };
     carried(p, district, order, row, changes)?;
     lines_dated(view, p, moment, district, order, row.line_count, changes)?;
     let customer_key = RowKey::Customer {
@@ -311,9 +316,9 @@ fn delivery<V: RowView>(
 ) -> Result<(DeliveryReply, Delta), Fault>
     ensures { AnswersOn delivered_of (λ db. delivery_touch db p.now) (λ db. delivery db p.now moment) catalog.now (V.sees view.now) result }
 {
-    catalog
-        .warehouse(p.warehouse)
-        .ok_or(RequestRefusal::UnknownKey)?;
+    let Some(_) = catalog.warehouse(p.warehouse) else {
+        return Err(Fault::Refused(RequestRefusal::UnknownKey));
+    };
     let orders = oldest_orders(view, p)?;
     let mut changes = Delta::new(alloc);
     districts_delivered(alloc, view, p, moment, &orders, &mut changes)?;

@@ -1,15 +1,15 @@
 //! New-Order (TPC-C clause 2.4): the cards of its keys are found, then the row of its district, then its lines are done
 //! in order, each on the rows as the earlier ones leave them.
-ghost use Rattle.std.specs.Prelude.{◌≡◌, ◌<◌, ◌≤◌, ◌+◌, pos, [], length, map, IfOk, OnOk};
+ghost use Rattle.std.specs.Prelude.{◌≡◌, ◌<◌, ◌≤◌, ◌+◌, [], length, map, IfOk, OnOk};
 ghost use Rattle.std.specs.List.{list_all, sum_by};
 ghost use Rattle.requests.specs.declared.request.RequestKind.TheVariants as kind;
 ghost use Rattle.tpcc_model.specs.NewOrders.{all_local, line_done, lines_done, new_order, opened, order_of, raised_district};
+ghost use Rattle.tpcc_model.specs.Staging.{within};
 ghost use Rattle.tpcc_model.specs.Steps.{new_order_outcome};
 ghost use Rattle.tpcc_model.specs.Touches.{new_order_touch, ordered_touch, placed_touch};
-ghost use Rattle.tpcc_rows.specs.Prices.{total_cents};
 ghost use Rattle.transactions.specs.Faults.{AnswersBy};
 ghost use Rattle.transactions.specs.Lending.{lent};
-ghost use Rattle.transactions.specs.NewOrderParts.{line_cards_of, placed_order_of, so_far_of};
+ghost use Rattle.transactions.specs.NewOrderParts.{AreOwnCards, line_cards_of, placed_order_of, so_far_of, total_of};
 ghost use Rattle.transactions.specs.OnViews.{AnswersOn, ExecutesOn};
 ghost use Rattle.transactions.specs.Outcomes.{concluded};
 ghost use Rattle.worker_rows.specs.Views.{covers};
@@ -34,12 +34,36 @@ use tpcc_rows::row::{DistrictRow, OrderRow, Row, StockRow};
 use tpcc_rows::total::total_cents;
 use worker_rows::{RowView, district_row, stock_row};
 
-#[tactic(auto, unfolding(tpcc_model::specs::NewOrders::raised_district))]
-fn raised_district(old: &DistrictRow) -> Result<DistrictRow, RequestRefusal>
-    ensures { result ≡ raised_district old.now }
+/// The cards of a new order's own keys.
+#[derive(Drop)]
+pub(crate) struct OwnCards<'a> {
+    pub warehouse: &'a WarehouseCard,
+    pub district: &'a DistrictCard,
+    pub customer: &'a CustomerCard,
+}
+
+/// None where one is unknown.
+#[tactic(auto, unfolding(tpcc_model::specs::NewOrders::found_cards))]
+fn own_cards<'a>(catalog: &'a Catalog, p: &NewOrder) -> Option<OwnCards<'a>>
+    ensures { AreOwnCards catalog.now p.now result }
 {
-    let next_order = old.next_order.next().ok_or(RequestRefusal::LimitReached)?;
-    Ok(DistrictRow { next_order, ..*old })
+    let warehouse = catalog.warehouse(p.warehouse)?;
+    let district = catalog.district(p.warehouse, p.district)?;
+    let customer = catalog.customer(p.warehouse, p.district, p.customer)?;
+    Some(OwnCards {
+        warehouse,
+        district,
+        customer,
+    })
+}
+
+/// None where the limit is passed.
+#[tactic(auto, unfolding(tpcc_model::specs::NewOrders::raised_district))]
+fn raised_district(old: &DistrictRow) -> Option<DistrictRow>
+    ensures { within result ≡ raised_district old.now }
+{
+    let next_order = old.next_order.next()?;
+    Some(DistrictRow { next_order, ..*old })
 }
 
 fn all_local(warehouse: WarehouseId, lines: &[OrderedLine]) -> bool
@@ -179,20 +203,15 @@ fn sum_of(lines: &[LineReply]) -> u32
     lines.iter().map(|line| line.amount.cents()).sum()
 }
 
-fn total_of(
-    warehouse: &WarehouseCard,
-    district: &DistrictCard,
-    customer: &CustomerCard,
-    lines: &[LineReply],
-) -> Cents
+fn total_of(own: &OwnCards<'_>, lines: &[LineReply]) -> Cents
     requires { length lines.now ≤ 15 }
-    ensures { result ≡ pos (total_cents (sum_by (λ line. line.amount) lines.now) customer.now.discount warehouse.now.tax district.now.tax) }
+    ensures { result ≡ total_of own.now lines.now }
 {
     let total = total_cents(
         sum_of(lines),
-        customer.discount,
-        warehouse.tax,
-        district.tax,
+        own.customer.discount,
+        own.warehouse.tax,
+        own.district.tax,
     );
     Cents::new(total).unwrap()
 }
@@ -243,25 +262,24 @@ fn new_order<V: RowView>(
 ) -> Result<(NewOrderReply, Delta), Fault>
     ensures { AnswersOn placed_order_of (λ db. new_order_touch db p.now) (λ db. new_order db p.now moment) catalog.now (V.sees view.now) result }
 {
-    let warehouse = catalog
-        .warehouse(p.warehouse)
-        .ok_or(RequestRefusal::UnknownKey)?;
-    let district = catalog
-        .district(p.warehouse, p.district)
-        .ok_or(RequestRefusal::UnknownKey)?;
-    let customer = catalog
-        .customer(p.warehouse, p.district, p.customer)
-        .ok_or(RequestRefusal::UnknownKey)?;
+    let Some(own) = own_cards(catalog, p) else {
+        return Err(Fault::Refused(RequestRefusal::UnknownKey));
+    };
     let lines = found_lines(alloc, catalog, p.lines.as_slice())?;
     if !may_place(view, p) {
         return Err(Fault::Strayed);
     }
     let rows = Lent { view };
-    let old = district_row(&rows, p.warehouse, p.district).ok_or(RequestRefusal::UnknownKey)?;
+    let Some(old) = district_row(&rows, p.warehouse, p.district) else {
+        return Err(Fault::Refused(RequestRefusal::UnknownKey));
+    };
+    let Some(raised) = raised_district(old) else {
+        return Err(Fault::Refused(RequestRefusal::LimitReached));
+    };
     let order = old.next_order;
-    let mut so_far = opened(alloc, p, moment, order, raised_district(old)?)?;
+    let mut so_far = opened(alloc, p, moment, order, raised)?;
     lines_done(view, p, order, &lines, &mut so_far)?;
-    let total = total_of(warehouse, district, customer, so_far.lines.as_slice());
+    let total = total_of(&own, so_far.lines.as_slice());
     let OrderSoFar { changes, lines } = so_far;
     Ok((
         NewOrderReply {
