@@ -9,7 +9,7 @@ use tpcc_rows::number::{Price, Rate};
 use tpcc_rows::text::Text;
 
 /// The key of a card. The derived order is that of the keys' codes: the kind first, then the columns from the left.
-#[derive(Clone, Copy, Debug, PartialEq, Eq, PartialOrd, Ord)]
+#[derive(Clone, Copy, PartialEq, Eq, PartialOrd, Ord)]
 pub enum CardKey {
     Warehouse {
         warehouse: WarehouseId,
@@ -33,7 +33,7 @@ pub enum CardKey {
 }
 
 /// C_CREDIT.
-#[derive(Clone, Copy, Debug, PartialEq, Eq)]
+#[derive(Clone, Copy, PartialEq, Eq)]
 pub enum Credit {
     /// `GC`
     Good,

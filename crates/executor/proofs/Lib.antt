@@ -14,3 +14,4 @@ pub mod LevelResults
 pub mod Admissions
 pub mod Running
 pub mod Headlines
+pub mod CleanLeaves

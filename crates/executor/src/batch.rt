@@ -3,6 +3,7 @@ ghost use Rattle.std.specs.Prelude.{◌≡◌, ◌+◌, ◌<◌, ◌≤◌, ◌+
 ghost use Rattle.catalog.specs.CardBytes.{catalog_digest};
 ghost use Rattle.executor.specs.Engines.{IsRecordBy, met_by, path_by_workers, replies_by, rows_by};
 ghost use Rattle.executor.specs.States.{IsSoundState};
+ghost use Rattle.rollback.specs.Pointed.{KeepsCleanLeaves};
 ghost use Rattle.tpcc_model.specs.Roots.{root};
 ghost use Rattle.tpcc_model.specs.Tokens.{replies_digest, token_of};
 
@@ -14,7 +15,6 @@ use crate::path::Path;
 use crate::record::Record;
 use crate::sequential::execute_sequential;
 use crate::stamp::Stamp;
-use merkle::Tree;
 use requests::reply::Reply;
 use requests::request::Verdict;
 use rollback::{MarkError, POINTS, PointedStore, RewindError};
@@ -31,6 +31,7 @@ fn mark(alloc: Global, store: &mut PointedStore) -> Result<(), Memory>
     ensures points { OnOk result (store.new.points ≡ store.old.points ++ store.old.rows ∷ []) }
     ensures rows { store.new.rows ≡ store.old.rows }
     ensures err { OnErr result (store.new.points ≡ store.old.points) }
+    ensures clean { KeepsCleanLeaves store.old store.new }
 {
     match store.mark(alloc) {
         Ok(()) => Ok(()),
@@ -44,11 +45,20 @@ fn rewind(alloc: Global, store: &mut PointedStore, point: usize) -> Result<(), M
     requires { length store.old.points ≡ point + 1 }
     ensures rows { OnOk result (slice_get store.old.points point ≡ Some store.new.rows) }
     ensures points { store.new.points ≡ store.old.points }
+    ensures clean { KeepsCleanLeaves store.old store.new }
 {
     match store.rewind(alloc, point) {
         Ok(()) => Ok(()),
         Err(RewindError::Memory) => Err(Memory),
         Err(RewindError::NoSuchPoint) => unreachable!(),
+    }
+}
+
+/// How many threads the leaves are hashed on at most: as many as there are workers, or one.
+fn threads_of(workers: &Option<Workers>) -> usize {
+    match workers {
+        Some(workers) => workers.count(),
+        None => 1,
     }
 }
 
@@ -94,28 +104,33 @@ impl Engine {
         Ok((replies, path))
     }
 
-    /// The token of a batch that met the state with this stamp, made these replies and left the present rows.
+    /// The token of a batch that met the state with this stamp, made these replies and left the present rows, of which no leaf
+    /// is dirty from now on. The dirty leaves are hashed on so many threads at most.
     fn token_of<R: Threads + Sync>(
-        &self,
+        &mut self,
         rt: &R,
-        alloc: Global,
         stamp: &Stamp,
         replies: &[Reply],
-    ) -> Result<[u8; 32], Memory>
+        threads: usize,
+    ) -> [u8; 32]
         requires sequence { stamp.now.sequence < LAST_NUMBER }
         requires numbers { stamp.now.next + length replies.now ≤ END_OF_NUMBERS }
-        ensures { IfOk result (λ token. token ≡ token_of (stamp.now.sequence + 1) stamp.now.token (catalog_digest self.now.catalog)
-            (root self.now.store.rows) (replies_digest stamp.now.next replies.now)) }
+        ensures token { result ≡ token_of (stamp.now.sequence + 1) stamp.now.token (catalog_digest self.old.catalog)
+            (root self.old.store.rows) (replies_digest stamp.now.next replies.now) }
+        ensures rows { self.new.store.rows ≡ self.old.store.rows }
+        ensures points { self.new.store.points ≡ self.old.store.points }
+        ensures cards { self.new.catalog ≡ self.old.catalog }
     {
-        let tree = Tree::build(rt, alloc, &self.store)?;
+        let dirty = self.store.take_dirty();
+        self.tree.refresh(rt, &self.store, &dirty, threads);
         let parts = TokenParts {
             sequence: stamp.sequence + 1,
             prior: stamp.token,
             catalog: self.digest,
-            root: tree.root(),
+            root: self.tree.root(),
             replies: reply_digest(stamp.next, replies),
         };
-        Ok(parts.token())
+        parts.token()
     }
 
     /// Executes a batch on the rows of the newest point, and records it.
@@ -136,8 +151,9 @@ impl Engine {
         ensures points { self.new.store.points ≡ self.old.store.points }
         ensures cards { self.new.catalog ≡ self.old.catalog }
     {
+        let threads = threads_of(&workers);
         let (replies, path) = self.replies_of(rt, alloc, next, workers, gate, point)?;
-        let token = self.token_of(rt, alloc, &next.stamp, &replies)?;
+        let token = self.token_of(rt, &next.stamp, &replies, threads);
         Ok(Record {
             sequence: next.stamp.sequence + 1,
             first: next.stamp.next,

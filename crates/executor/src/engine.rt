@@ -1,15 +1,19 @@
 //! A database on which batches are executed.
 ghost use Rattle.std.specs.Prelude.{◌≡◌};
 ghost use Rattle.catalog.specs.CardBytes.{catalog_digest};
+ghost use Rattle.merkle.specs.Nodes.{IsOfClean};
 
 use catalog::Catalog;
+use merkle::Tree;
 use rollback::PointedStore;
 
-/// The cards of a database with their digest, and its rows.
+/// The cards of a database with their digest, and its rows with their tree, whose hashes of the dirty leaves may be old.
 #[derive(Drop)]
 pub(crate) struct Engine {
     pub catalog: Catalog,
     pub digest: [u8; 32],
     pub store: PointedStore,
+    pub tree: Tree,
     pub ghost of_catalog: { digest ≡ catalog_digest catalog },
+    pub ghost of_rows: { IsOfClean tree store.dirty store.rows },
 }

@@ -83,6 +83,7 @@ impl Executor {
                 catalog,
                 digest,
                 store,
+                tree,
             },
             earlier: ArrayVec::new(),
             present: Stamp {

@@ -8,6 +8,7 @@ ghost use Rattle.executor.specs.LevelRuns.{declared_footprints, strays};
 ghost use Rattle.executor.specs.Lines.{state_of};
 ghost use Rattle.executor.specs.PlannedLevels.{AwaitsOthers, level_replies, level_rows, level_strays, plan_replies, plan_rows, plan_strays};
 ghost use Rattle.executor.specs.States.{IsSoundState};
+ghost use Rattle.rollback.specs.Pointed.{KeepsCleanLeaves};
 ghost use Rattle.tpcc_model.specs.Serial.{batch_replies, batch_rows};
 ghost use Rattle.workers.specs.LevelEnds.{StraysWhere};
 
@@ -88,6 +89,7 @@ fn settle_level<R: Threads + Sync, G: Gate>(
     ensures others { OnOk result (AwaitsOthers level.now.places.now book.old book.new) }
     ensures err { IfErr result (StraysWhere (level_strays catalog.now store.old.rows level.now)) }
     ensures points { store.new.points ≡ store.old.points }
+    ensures clean { KeepsCleanLeaves store.old store.new }
 {
     let plan = level.plan;
     match run_level(
@@ -127,6 +129,7 @@ fn run_levels<R: Threads + Sync, G: Gate>(
         → reply_at book place ≡ find nat_cmp (plan.now.first + place) (plan_replies catalog.now store.old.rows plan.now)) }
     ensures err { IfErr result (StraysWhere (plan_strays catalog.now store.old.rows plan.now)) }
     ensures points { store.new.points ≡ store.old.points }
+    ensures clean { KeepsCleanLeaves store.old store.new }
 {
     cuts();
     let cut = mix(alloc, plan.footprints)?;
@@ -158,6 +161,7 @@ pub(crate) fn execute_parallel<R: Threads + Sync, G: Gate>(
     ensures rows { OnOk result (store.new.rows ≡ batch_rows catalog.now (state_of store.old.rows next.now.stamp) next.now.batch.now) }
     ensures err { IfErr result (StraysWhere (strays catalog.now (state_of store.old.rows next.now.stamp) next.now.batch.now)) }
     ensures points { store.new.points ≡ store.old.points }
+    ensures clean { KeepsCleanLeaves store.old store.new }
 {
     if next.batch.requests.is_empty() {
         return Ok(Vec::new(alloc));

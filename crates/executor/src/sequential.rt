@@ -1,6 +1,7 @@
 //! The requests of a batch, executed one after the other.
 ghost use Rattle.std.specs.Prelude.{◌≡◌, IfOk, OnOk};
 ghost use Rattle.executor.specs.Lines.{state_of};
+ghost use Rattle.rollback.specs.Pointed.{KeepsCleanLeaves};
 ghost use Rattle.tpcc_model.specs.Serial.{batch_replies, batch_rows};
 ghost use Rattle.tpcc_model.specs.Steps.{step};
 ghost use Rattle.transactions.specs.Outcomes.{IsOutcome};
@@ -50,6 +51,7 @@ pub(crate) fn execute_sequential<G: Gate>(
     ensures replies { IfOk result (λ replies. replies.items ≡ batch_replies catalog.now (state_of store.old.rows next.now.stamp) next.now.batch.now) }
     ensures rows { OnOk result (store.new.rows ≡ batch_rows catalog.now (state_of store.old.rows next.now.stamp) next.now.batch.now) }
     ensures points { store.new.points ≡ store.old.points }
+    ensures clean { KeepsCleanLeaves store.old store.new }
 {
     let mut replies = Vec::with_capacity(alloc, next.batch.requests.len())?;
     for (place, request) in next.batch.requests.as_slice().iter().enumerate() {

@@ -1,9 +1,6 @@
 -- What the indexes of all districts have.
-use Rattle.std.specs.Prelude.{◌≡◌, ℕ, Bool, false, Option, Some, None}
-use Rattle.std.specs.BTreeMap.{get}
+use Rattle.std.specs.Prelude.{◌≡◌, ℕ, Bool, false, List, Option, Some, None}
 use Rattle.std.specs.FinMap as map
-use Rattle.std.specs.Ordering.{nat_cmp, ordering_then}
-use Rattle.std.specs.declared.cmp.Ordering.{Ordering}
 use Rattle.tpcc_rows.specs.declared.key.RowKey.{RowKey}
 use Rattle.tpcc_rows.specs.declared.key.RowKey.TheVariants as key
 use Rattle.tpcc_rows.specs.RowMap.{Rows}
@@ -11,10 +8,7 @@ use Rattle.indexes.specs.declared.district.DistrictIndex.{DistrictIndex}
 use Rattle.indexes.specs.declared.store.Indexes.{Indexes}
 use Rattle.indexes.specs.Owners.{owner_at, owns}
 use Rattle.indexes.specs.Pages.{has_new, has_order}
-
--- the order of districts
-abbrev pub district_cmp : ℕ × ℕ → ℕ × ℕ → Ordering
-district_cmp a b = ordering_then (nat_cmp a.0 b.0) (nat_cmp a.1 b.1)
+use Rattle.indexes.specs.Places.{page_of}
 
 abbrev pub new_in : ℕ → Option DistrictIndex → Bool
 new_in o None = false
@@ -24,11 +18,20 @@ abbrev pub order_in : ℕ → ℕ → Option DistrictIndex → Bool
 order_in c o None = false
 order_in c o (Some index) = has_order index c o
 
--- whether the key's number is in the indexes: that of an order, whether as one of customer c's
+-- whether the key's number is on the page of its district: that of an order, whether as one of customer c's
+abbrev pub has_in : DistrictIndex → ℕ → RowKey → Bool
+has_in page c (key.NewOrder w d o) = has_new page o
+has_in page c (key.Order w d o) = has_order page c o
+has_in page c _ = false
+
+-- whether the key's number is on one of the pages: that of an order, whether as one of customer c's
+abbrev pub has_at : List DistrictIndex → ℕ → RowKey → Bool
+has_at pages c (key.NewOrder w d o) = new_in o (page_of pages (w, d))
+has_at pages c (key.Order w d o) = order_in c o (page_of pages (w, d))
+has_at pages c _ = false
+
 abbrev pub has : Indexes → ℕ → RowKey → Bool
-has indexes c (key.NewOrder w d o) = new_in o (get district_cmp indexes.districts (w, d))
-has indexes c (key.Order w d o) = order_in c o (get district_cmp indexes.districts (w, d))
-has indexes c _ = false
+has indexes c q = has_at indexes.districts.items c q
 
 -- the indexes have the numbers of these rows, and no others
 pub record AreOf (rows : Rows) (indexes : Indexes) : Type 0 where

@@ -1,4 +1,5 @@
 pub mod Owners
 pub mod Pages
+pub mod Places
 pub mod Indexed
 pub mod Numbers

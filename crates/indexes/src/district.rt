@@ -1,5 +1,5 @@
 //! The index of one district.
-ghost use Rattle.std.specs.Prelude.{◌≡◌, ◌<◌, ◌&&◌, ℕ, IfNone, IsSome, IfSome, OnErr, OnOk, cond, false, length, true};
+ghost use Rattle.std.specs.Prelude.{◌≡◌, ◌<◌, ◌&&◌, ℕ, IfNone, IfOk, IsSome, IfSome, OnErr, OnOk, cond, false, length, true};
 ghost use Rattle.std.specs.BTreeMap.{get, is_at};
 ghost use Rattle.std.specs.BTreeSet.{contains};
 ghost use Rattle.std.specs.Ordering.{nat_cmp};
@@ -29,6 +29,20 @@ impl DistrictIndex {
             open: BTreeSet::new(alloc),
             orders: BTreeMap::new(alloc),
         }
+    }
+
+    /// An index of the same numbers.
+    pub fn copied(&self) -> Result<DistrictIndex, Memory>
+        ensures open { IfOk result (λ copy. (o : ℕ) → has_new copy o ≡ has_new self.now o) }
+        ensures orders { IfOk result (λ copy. (c o : ℕ) → has_order copy c o ≡ has_order self.now c o) }
+    {
+        let open = self.open.clone()?;
+        let orders = self.orders.clone()?;
+        Ok(DistrictIndex {
+            alloc: self.alloc,
+            open,
+            orders,
+        })
     }
 
     /// The numbers of the new orders, where there are any.

@@ -3,6 +3,7 @@
 
 pub mod district;
 pub mod owner;
+pub mod place;
 pub mod store;
 
 pub use district::DistrictIndex;

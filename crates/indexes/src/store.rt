@@ -1,6 +1,6 @@
 //! The indexes of all districts.
-ghost use Rattle.std.specs.Prelude.{◌≡◌, ◌<◌, ◌&&◌, ◌||◌, ℕ, IfNone, IfSome, IsSome, OnErr, OnOk, cond, false, length, true};
-ghost use Rattle.std.specs.BTreeMap.{get, is_at};
+ghost use Rattle.std.specs.Prelude.{◌≡◌, ◌<◌, ◌&&◌, ◌||◌, ℕ, IfNone, IfOk, IfSome, OnErr, OnOk, cond, false, length, true};
+ghost use Rattle.std.specs.BTreeMap.{is_at};
 ghost use Rattle.std.specs.BTreeSet.{contains};
 ghost use Rattle.std.specs.FinMap as map;
 ghost use Rattle.std.specs.Ordering.{nat_cmp};
@@ -8,34 +8,55 @@ ghost use Rattle.tpcc_rows.specs.RowMap.{row_key_cmp};
 ghost use Rattle.tpcc_rows.specs.declared.key.RowKey.{RowKey};
 ghost use Rattle.tpcc_rows.specs.declared.key.RowKey.TheVariants as key;
 ghost use Rattle.indexes.specs.declared.owner.Owner.TheVariants as owner;
-ghost use Rattle.indexes.specs.Indexed.{district_cmp, has, new_in, order_in};
-ghost use Rattle.indexes.specs.Owners.{owner_at, owns};
+ghost use Rattle.indexes.specs.declared.place.TheConstants.{PLACES};
 
 use crate::district::DistrictIndex;
 use crate::owner::{Owner, owner_of};
+use crate::place::{PLACES, place};
 use std::alloc::Global;
-use std::collections::{BTreeMap, BTreeSet};
+use std::collections::BTreeSet;
 use tpcc_rows::id::{CustomerId, DistrictId, OrderId, WarehouseId};
 use tpcc_rows::key::RowKey;
 use tpcc_rows::memory::Memory;
 use tpcc_rows::plain;
 
-/// An index for each district that has numbers.
+/// An index page for each district, at its place.
 #[derive(Drop)]
 pub struct Indexes {
-    alloc: Global,
-    districts: BTreeMap<(WarehouseId, DistrictId), DistrictIndex>,
+    districts: Vec<DistrictIndex>,
+    ghost full: { length districts.items ≡ PLACES },
 }
 
 impl Indexes {
-    /// No numbers.
-    pub fn new(alloc: Global) -> Indexes
-        ensures { (c : ℕ) (q : RowKey) → has result c q ≡ false }
+    ghost use Rattle.indexes.specs.Indexed.{has, has_in};
+    ghost use Rattle.indexes.specs.Owners.{owner_at, owns};
+    ghost use Rattle.indexes.specs.Places.{is_of};
+
+    /// No numbers, and a page at each place.
+    pub fn new(alloc: Global) -> Result<Indexes, Memory>
+        ensures { IfOk result (λ indexes. (c : ℕ) (q : RowKey) → has indexes c q ≡ false) }
     {
-        Indexes {
-            alloc,
-            districts: BTreeMap::new(alloc),
+        let mut districts = Vec::with_capacity(alloc, PLACES)?;
+        for _ in 0..PLACES {
+            districts.push(DistrictIndex::new(alloc))?;
         }
+        Ok(Indexes { districts })
+    }
+
+    /// The page at a place.
+    pub fn page(&self, place: usize) -> &DistrictIndex
+        requires { place < PLACES }
+        ensures { (c : ℕ) (q : RowKey) → is_of place q ≡ true → has_in result.now c q ≡ has self.now c q }
+    {
+        &self.districts[place]
+    }
+
+    /// This is the page at the place from now on.
+    pub fn put_back(&mut self, place: usize, page: DistrictIndex)
+        requires { place < PLACES }
+        ensures { (c : ℕ) (q : RowKey) → has self.new c q ≡ cond (is_of place q) (has_in page c q) (has self.old c q) }
+    {
+        self.districts[place] = page;
     }
 
     /// The numbers of the district's new orders, where there are any.
@@ -48,8 +69,7 @@ impl Indexes {
         ensures filled { IfSome result (λ numbers. 0 < length numbers.now.keys) }
         ensures none { IfNone result ((c o : ℕ) → has self.now c (key.NewOrder warehouse district o) ≡ false) }
     {
-        let index = self.districts.get(&(warehouse, district))?;
-        index.open_numbers()
+        self.districts[place(warehouse, district)].open_numbers()
     }
 
     /// The numbers of the customer's orders, where there are any.
@@ -63,22 +83,7 @@ impl Indexes {
         ensures filled { IfSome result (λ numbers. 0 < length numbers.now.keys) }
         ensures none { IfNone result ((o : ℕ) → has self.now customer (key.Order warehouse district o) ≡ false) }
     {
-        let index = self.districts.get(&(warehouse, district))?;
-        index.order_numbers(customer)
-    }
-
-    /// A place for the district's numbers.
-    fn add_district(&mut self, warehouse: WarehouseId, district: DistrictId) -> Result<(), Memory>
-        ensures new { (o w d : ℕ) → new_in o (get district_cmp self.new.districts (w, d)) ≡ new_in o (get district_cmp self.old.districts (w, d)) }
-        ensures orders { (c o w d : ℕ) → order_in c o (get district_cmp self.new.districts (w, d)) ≡ order_in c o (get district_cmp self.old.districts (w, d)) }
-        ensures there { OnOk result (IsSome (get district_cmp self.new.districts (warehouse, district))) }
-    {
-        let place = (warehouse, district);
-        if !self.districts.contains_key(&place) {
-            let index = DistrictIndex::new(self.alloc);
-            self.districts.insert(place, index)?;
-        }
-        Ok(())
+        self.districts[place(warehouse, district)].order_numbers(customer)
     }
 
     fn add_new(
@@ -90,11 +95,8 @@ impl Indexes {
         ensures ok { OnOk result ((c : ℕ) (q : RowKey) → has self.new c q ≡ cond (owns c q owner.District && is_at (row_key_cmp (key.NewOrder warehouse district order)) q) true (has self.old c q)) }
         ensures err { OnErr result ((c : ℕ) (q : RowKey) → has self.new c q ≡ has self.old c q) }
     {
-        self.add_district(warehouse, district)?;
-        if let Some(index) = self.districts.get_mut(&(warehouse, district)) {
-            index.add_new(order)?;
-        }
-        Ok(())
+        let n = place(warehouse, district);
+        self.districts[n].add_new(order)
     }
 
     fn add_order(
@@ -107,11 +109,8 @@ impl Indexes {
         ensures ok { OnOk result ((c : ℕ) (q : RowKey) → has self.new c q ≡ cond (owns c q (owner.Customer customer) && is_at (row_key_cmp (key.Order warehouse district order)) q) true (has self.old c q)) }
         ensures err { OnErr result ((c : ℕ) (q : RowKey) → has self.new c q ≡ has self.old c q) }
     {
-        self.add_district(warehouse, district)?;
-        if let Some(index) = self.districts.get_mut(&(warehouse, district)) {
-            index.add_order(customer, order)?;
-        }
-        Ok(())
+        let n = place(warehouse, district);
+        self.districts[n].add_order(customer, order)
     }
 
     /// The key's number is one of this owner's from now on.
@@ -153,9 +152,8 @@ impl Indexes {
     fn drop_new(&mut self, warehouse: WarehouseId, district: DistrictId, order: OrderId)
         ensures { (c : ℕ) (q : RowKey) → has self.new c q ≡ cond (owns c q owner.District && is_at (row_key_cmp (key.NewOrder warehouse district order)) q) false (has self.old c q) }
     {
-        if let Some(index) = self.districts.get_mut(&(warehouse, district)) {
-            index.drop_new(order);
-        }
+        let n = place(warehouse, district);
+        self.districts[n].drop_new(order);
     }
 
     fn drop_order(
@@ -167,9 +165,8 @@ impl Indexes {
     )
         ensures { (c : ℕ) (q : RowKey) → has self.new c q ≡ cond (owns c q (owner.Customer customer) && is_at (row_key_cmp (key.Order warehouse district order)) q) false (has self.old c q) }
     {
-        if let Some(index) = self.districts.get_mut(&(warehouse, district)) {
-            index.drop_order(customer, order);
-        }
+        let n = place(warehouse, district);
+        self.districts[n].drop_order(customer, order);
     }
 
     /// The key's number is none of this owner's from now on.

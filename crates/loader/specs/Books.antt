@@ -1,5 +1,5 @@
 -- A book for each district: what its orders, new orders and order lines come to.
-use Rattle.std.specs.Prelude.{◌≡◌, ◌+◌, ◌*◌, ◌+ℤ◌, max, min, slice_index_or, ℕ, pos, List, Option, Some, None}
+use Rattle.std.specs.Prelude.{◌≡◌, ◌==◌, ◌&&◌, ◌+◌, ◌*◌, ◌+ℤ◌, max, min, slice_index_or, ℕ, pos, List, Option, Some, None, if◌then◌else◌}
 use Rattle.records.specs.Fields.{IsWithin}
 use Rattle.tpcc_model.specs.Conditions.{line_share, new_order_share, promised_share}
 use Rattle.tpcc_rows.specs.Limits.{IsBetween}
@@ -38,6 +38,10 @@ book_of_row w d e = record {
   lines = line_share w d e.0 e.1;
 }
 
+-- this is the book of the row in its district, and the row enters nothing into those of the others
+abbrev pub IsEntry : RowKey × Row → ℕ × ℕ × Book → Type 0
+IsEntry e entry = (w d : ℕ) → book_of_row w d e ≡ (if entry.0 == w && entry.1 == d then entry.2 else empty_book)
+
 -- what two books come to
 abbrev pub both : Book → Book → Book
 both a b = record {
@@ -62,6 +66,11 @@ book_of w d rows = record {
 
 abbrev pub book_at : List Book → ℕ → ℕ → Book
 book_at books w d = slice_index_or books (w * 10 + d) empty_book
+
+-- the row is entered into the book of its district
+abbrev pub IsEntered : List Book → RowKey × Row → List Book → Type 0
+IsEntered old e new =
+    (w d : ℕ) → IsBetween 1 100 w → IsBetween 1 10 d → book_at new w d ≡ both (book_at old w d) (book_of_row w d e)
 
 abbrev pub AreBooks : List Book → Rows → Type 0
 AreBooks books rows = (w d : ℕ) → IsBetween 1 100 w → IsBetween 1 10 d → book_at books w d ≡ book_of w d rows

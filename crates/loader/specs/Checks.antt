@@ -1,5 +1,5 @@
 -- Tests of parents and of the consistency condition of each warehouse (TPC-C clause 3.3.2.1), and all tests in their order.
-use Rattle.std.specs.Prelude.{◌≡◌, ◌<◌, ◌*◌, ◌+ℤ◌, slice_index_or, nat_le, ◌&&◌, Bool, true, false, not, ℕ, ℤ, pos, List, Option, Some, None, Result, Ok, Err, if◌then◌else◌}
+use Rattle.std.specs.Prelude.{◌≡◌, ◌==◌, ◌<◌, ◌*◌, ◌+ℤ◌, slice_index_or, nat_le, ◌&&◌, Bool, true, false, not, ℕ, ℤ, pos, List, Option, Some, None, Result, Ok, Err, if◌then◌else◌}
 use Rattle.std.specs.Ordering.{int_eq}
 use Rattle.std.specs.List.{list_all}
 use Rattle.std.specs.FinMap as map
@@ -83,6 +83,10 @@ sum_at sums w = slice_index_or sums w (pos 0)
 abbrev pub AreSumsBefore : List (RowKey × Row) → List ℤ → Rows → Type 0
 AreSumsBefore left sums rows =
     (w : ℕ) → w < 101 → (sum_at sums w +ℤ sum_entries (district_share w) left) ≡ total (district_share w) rows
+
+-- this is what the row adds to the sum of its warehouse, and it adds nothing to those of the others
+abbrev pub IsShare : RowKey → Row → ℕ × ℤ → Type 0
+IsShare k x share = (w : ℕ) → district_share w k x ≡ (if share.0 == w then share.1 else pos 0)
 
 -- each is within so many times the greatest amount
 abbrev pub AreWithin : ℕ → List ℤ → Type 0

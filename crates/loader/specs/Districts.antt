@@ -25,11 +25,15 @@ order_numbers rows w d = picked (district_order_pick w d) rows
 abbrev pub new_order_numbers : Rows → ℕ → ℕ → List ℕ
 new_order_numbers rows w d = picked (new_pick w d) rows
 
+-- this number follows on the greatest O_ID, 0 where there is none, and on the greatest NO_O_ID where there is one
+abbrev pub follows_on : ℕ → Option ℕ → Option ℕ → Bool
+follows_on next last_order last_new_order =
+    unwrap_or last_order 0 == next - 1 && option_map_or (λ o. o == next - 1) last_new_order true
+
 -- condition 2: D_NEXT_O_ID - 1 is the greatest O_ID, 0 where there is none, and the greatest NO_O_ID where there is one
 abbrev pub next_order_agrees : Rows → RowKey × Row → Bool
 next_order_agrees rows (key.District w d, row.District r) =
-    unwrap_or (greatest (order_numbers rows w d)) 0 == r.next_order - 1
-    && option_map_or (λ o. o == r.next_order - 1) (greatest (new_order_numbers rows w d)) true
+    follows_on r.next_order (greatest (order_numbers rows w d)) (greatest (new_order_numbers rows w d))
 next_order_agrees rows (_, _) = true
 
 -- the greatest number less the least, and one, is how many there are

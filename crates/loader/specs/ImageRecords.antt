@@ -162,6 +162,15 @@ history_fields fields = do
 abbrev pub is_kind : List ℕ → ℕ → Fields → Result Bool Slip
 is_kind kind count fields = if is_text kind (field_at fields 0) then of_count count fields (Ok true) else Ok false
 
+-- what a record says of a row that goes with no card
+abbrev pub row_record_at : Fields → Result ImageRecord Slip
+row_record_at fields =
+    if is_text (codes "O") (field_at fields 0) then of_count 9 fields (order_fields fields)
+    else if is_text (codes "N") (field_at fields 0) then of_count 4 fields (new_order_fields fields)
+    else if is_text (codes "L") (field_at fields 0) then of_count 11 fields (order_line_fields fields)
+    else if is_text (codes "H") (field_at fields 0) then of_count 10 fields (history_fields fields)
+    else Err slip.UnknownKind
+
 -- what a record says: its kind is told by its first field, and each kind has its number of fields
 abbrev pub record_at : Fields → Result ImageRecord Slip
 record_at fields =
@@ -170,8 +179,4 @@ record_at fields =
     else if is_text (codes "C") (field_at fields 0) then of_count 14 fields (customer_fields fields)
     else if is_text (codes "I") (field_at fields 0) then of_count 5 fields (item_fields fields)
     else if is_text (codes "S") (field_at fields 0) then of_count 18 fields (stock_fields fields)
-    else if is_text (codes "O") (field_at fields 0) then of_count 9 fields (order_fields fields)
-    else if is_text (codes "N") (field_at fields 0) then of_count 4 fields (new_order_fields fields)
-    else if is_text (codes "L") (field_at fields 0) then of_count 11 fields (order_line_fields fields)
-    else if is_text (codes "H") (field_at fields 0) then of_count 10 fields (history_fields fields)
-    else Err slip.UnknownKind
+    else row_record_at fields

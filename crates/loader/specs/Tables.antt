@@ -1,7 +1,9 @@
 -- Cards and rows as they are filled.
-use Rattle.std.specs.Prelude.{Bool, is_some}
+use Rattle.std.specs.Prelude.{◌≡◌, Bool, true, false, Result, MatchResult, is_some}
 use Rattle.std.specs.FinMap as map
 use Rattle.catalog.specs.CardMap.{Cards}
+use Rattle.catalog.specs.declared.builder.CatalogError.{CatalogError}
+use Rattle.catalog.specs.declared.builder.CatalogError.TheVariants as catalog_error
 use Rattle.catalog.specs.declared.card.Card.TheVariants as card
 use Rattle.catalog.specs.declared.card.CardKey.{CardKey}
 use Rattle.catalog.specs.declared.card.CardKey.TheVariants as card_key
@@ -70,3 +72,9 @@ with_record db (said.Order w d o r) = record db { rows = map.insert db.rows (key
 with_record db (said.NewOrder w d o) = record db { rows = map.insert db.rows (key.NewOrder w d o) row.NewOrder }
 with_record db (said.OrderLine w d o number r) = record db { rows = map.insert db.rows (key.OrderLine w d o number) (row.OrderLine r) }
 with_record db (said.History number r) = record db { rows = map.insert db.rows (key.History number) (row.History r) }
+
+-- what the record says is taken in, unless its key came before; memory may be refused at any time
+abbrev pub Adds : {A : Type 0} → Database → ImageRecord → Database → Result A CatalogError → Type 0
+Adds old said new result = MatchResult result
+    (λ _. (new ≡ with_record old said) × (is_taken old said ≡ false))
+    (λ e. e ≡ catalog_error.Twice → is_taken old said ≡ true)

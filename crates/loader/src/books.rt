@@ -1,13 +1,11 @@
 //! A book for each district, which its rows are entered into one after the other.
-ghost use Rattle.std.specs.Prelude.{◌≡◌, ◌<◌, ◌+◌, ◌-◌, ◌*◌, ◌^◌, ◌==◌, ◌&&◌, ◌+ℤ◌, max, min, unwrap_or, true, ℕ, IfNone, IfSome, if◌then◌else◌};
-ghost use Rattle.std.specs.Option.{option_map_or};
+ghost use Rattle.std.specs.Prelude.{◌≡◌, ◌<◌, ◌+◌, ◌*◌, ◌^◌, ◌+ℤ◌, max, min, pos, ℕ, IfNone, IfSome, Some};
 ghost use Rattle.std.specs.Ordering.{int_eq};
 ghost use Rattle.records.specs.Fields.{IsWithin};
-ghost use Rattle.tpcc_rows.specs.Limits.{IsBetween};
-ghost use Rattle.loader.specs.Books.{AreBooks, AreOfRows, IsOfRows, book_at, book_of, book_of_row, both, empty_book, one_of};
-ghost use Rattle.loader.specs.Districts.{are_without_gap};
+ghost use Rattle.loader.specs.Books.{AreBooks, AreOfRows, IsEntered, IsEntry, IsOfRows, book_of, book_of_row, both, empty_book, one_of};
+ghost use Rattle.loader.specs.Districts.{are_without_gap, follows_on};
 
-use tpcc_rows::id::{DistrictId, OrderId, WarehouseId};
+use tpcc_rows::id::{DistrictId, LineNumber, OrderId, WarehouseId};
 use tpcc_rows::key::RowKey;
 use tpcc_rows::plain::RowStore;
 use tpcc_rows::row::Row;
@@ -78,6 +76,40 @@ impl Book {
         lines: 0,
     };
 
+    /// The book of an order of so many lines.
+    fn of_order(order: OrderId, lines: LineNumber) -> Book
+        ensures value { result ≡ record empty_book { last_order = Some order; promised_lines = pos lines } }
+        ensures small { IsOfRows 1 result }
+    {
+        Book {
+            last_order: Some(order),
+            promised_lines: i128::from(lines.number()),
+            ..Book::EMPTY
+        }
+    }
+
+    /// The book of a new order.
+    fn of_new_order(order: OrderId) -> Book
+        ensures { result ≡ record empty_book { first_new_order = Some order; last_new_order = Some order; new_orders = pos 1 } }
+    {
+        Book {
+            first_new_order: Some(order),
+            last_new_order: Some(order),
+            new_orders: 1,
+            ..Book::EMPTY
+        }
+    }
+
+    /// The book of an order line.
+    fn of_line() -> Book
+        ensures { result ≡ record empty_book { lines = pos 1 } }
+    {
+        Book {
+            lines: 1,
+            ..Book::EMPTY
+        }
+    }
+
     /// The book of the rows of both books.
     fn and(self, other: Book) -> Book
         requires one { IsOfRows (2 ^ 63) self }
@@ -96,7 +128,7 @@ impl Book {
 
     /// Whether the next order's number follows on the last order, and on the last new order.
     pub(crate) fn goes_before(self, next: OrderId) -> bool
-        ensures { result ≡ (unwrap_or self.last_order 0 == next - 1 && option_map_or (λ o. o == next - 1) self.last_new_order true) }
+        ensures { result ≡ follows_on next self.last_order self.last_new_order }
     {
         let last = next.number() - 1;
         if self.last_order.map_or(0, |order| order.number()) != last {
@@ -130,7 +162,7 @@ impl Book {
 /// The district of an order, a new order or an order line, and the book of that row alone.
 fn entry(key: &RowKey, row: &Row) -> Option<(WarehouseId, DistrictId, Book)>
     ensures none { IfNone result ((w d : ℕ) → book_of_row w d (key.now, row.now) ≡ empty_book) }
-    ensures some { IfSome result (λ entry. (w d : ℕ) → book_of_row w d (key.now, row.now) ≡ (if entry.0 == w && entry.1 == d then entry.2 else empty_book)) }
+    ensures some { IfSome result (IsEntry (key.now, row.now)) }
     ensures small { IfSome result (λ entry. IsOfRows 1 entry.2) }
 {
     match (key, row) {
@@ -142,11 +174,7 @@ fn entry(key: &RowKey, row: &Row) -> Option<(WarehouseId, DistrictId, Book)>
             },
             Row::Order(row),
         ) => {
-            let book = Book {
-                last_order: Some(*order),
-                promised_lines: i128::from(row.line_count.number()),
-                ..Book::EMPTY
-            };
+            let book = Book::of_order(*order, row.line_count);
             Some((*warehouse, *district, book))
         }
         (
@@ -156,15 +184,7 @@ fn entry(key: &RowKey, row: &Row) -> Option<(WarehouseId, DistrictId, Book)>
                 order,
             },
             Row::NewOrder,
-        ) => {
-            let book = Book {
-                first_new_order: Some(*order),
-                last_new_order: Some(*order),
-                new_orders: 1,
-                ..Book::EMPTY
-            };
-            Some((*warehouse, *district, book))
-        }
+        ) => { Some((*warehouse, *district, Book::of_new_order(*order))) }
         (
             RowKey::OrderLine {
                 warehouse,
@@ -172,13 +192,7 @@ fn entry(key: &RowKey, row: &Row) -> Option<(WarehouseId, DistrictId, Book)>
                 ..
             },
             Row::OrderLine(_),
-        ) => {
-            let book = Book {
-                lines: 1,
-                ..Book::EMPTY
-            };
-            Some((*warehouse, *district, book))
-        }
+        ) => { Some((*warehouse, *district, Book::of_line())) }
         _ => None,
     }
 }
@@ -186,7 +200,7 @@ fn entry(key: &RowKey, row: &Row) -> Option<(WarehouseId, DistrictId, Book)>
 /// Enters a row into the book of its district.
 fn enter(books: &mut Books, key: &RowKey, row: &Row)
     requires { AreOfRows (2 ^ 63) books.old }
-    ensures books { (w d : ℕ) → IsBetween 1 100 w → IsBetween 1 10 d → book_at books.new w d ≡ both (book_at books.old w d) (book_of_row w d (key.now, row.now)) }
+    ensures books { IsEntered books.old (key.now, row.now) books.new }
     ensures small { (w d : ℕ) → IsOfRows 1 (book_of_row w d (key.now, row.now)) }
 {
     if let Some((warehouse, district, book)) = entry(key, row) {

@@ -1,5 +1,5 @@
 //! Parents and consistency conditions.
-ghost use Rattle.std.specs.Prelude.{◌≡◌, ◌<◌, ◌^◌, ◌+ℤ◌, ℕ, IfErr, OnOk, Ok, Err};
+ghost use Rattle.std.specs.Prelude.{◌≡◌, ◌<◌, ◌^◌, ◌+ℤ◌, ℕ, pos, IfErr, IfNone, IfSome, OnOk, Ok, Err};
 ghost use Rattle.std.specs.List.{list_all};
 ghost use Rattle.catalog.specs.declared.card.CardKey.TheVariants as card_key;
 ghost use Rattle.tpcc_model.specs.Conditions.{district_share};
@@ -7,7 +7,7 @@ ghost use Rattle.tpcc_rows.specs.Limits.{IsCents, ten};
 ghost use Rattle.tpcc_rows.specs.Rows.{order_row};
 ghost use Rattle.tpcc_rows.specs.declared.key.RowKey.TheVariants as row_key;
 ghost use Rattle.records.specs.Fields.{IsWithin};
-ghost use Rattle.loader.specs.Checks.{AreSums, AreWithin, card_has_parents, checked, has_line, parents_there, row_has_parents, sum_at, ytd_agrees, ytds_agree};
+ghost use Rattle.loader.specs.Checks.{AreSums, AreWithin, IsShare, card_has_parents, checked, has_line, parents_there, row_has_parents, sum_at, ytd_agrees, ytds_agree};
 ghost use Rattle.loader.specs.Tables.{database, has_card, has_row};
 
 use crate::books::books_of;
@@ -17,6 +17,7 @@ use catalog::Catalog;
 use catalog::card::{Card, CardKey};
 use tpcc_rows::id::{CustomerId, DistrictId, ItemId, LineNumber, OrderId, WarehouseId};
 use tpcc_rows::key::RowKey;
+use tpcc_rows::number::Cents;
 use tpcc_rows::plain::RowStore;
 use tpcc_rows::row::Row;
 
@@ -198,15 +199,26 @@ fn plus(sum: i128, amount: i64) -> i128
     sum + i128::from(amount)
 }
 
+/// The warehouse of a district's row, and what the row adds to its sum: D_YTD.
+fn share(key: &RowKey, row: &Row) -> Option<(WarehouseId, Cents)>
+    ensures none { IfNone result ((w : ℕ) → district_share w key.now row.now ≡ pos 0) }
+    ensures some { IfSome result (IsShare key.now row.now) }
+{
+    match (key, row) {
+        (RowKey::District { warehouse, .. }, Row::District(row)) => Some((*warehouse, row.ytd)),
+        _ => None,
+    }
+}
+
 /// Adds D_YTD of a district's row to the sum of its warehouse.
 fn add_share(sums: &mut Sums, key: &RowKey, row: &Row)
     requires { AreWithin (2 ^ 63) sums.old }
     ensures sums { (w : ℕ) → w < 101 → sum_at sums.new w ≡ sum_at sums.old w +ℤ district_share w key.now row.now }
     ensures near { (w : ℕ) → w < 101 → IsCents (district_share w key.now row.now) }
 {
-    if let (RowKey::District { warehouse, .. }, Row::District(row)) = (key, row) {
+    if let Some((warehouse, ytd)) = share(key, row) {
         let i = usize::from(warehouse.number());
-        let sum = plus(sums[i], row.ytd.amount());
+        let sum = plus(sums[i], ytd.amount());
         sums[i] = sum;
     }
 }

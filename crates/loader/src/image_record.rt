@@ -2,7 +2,7 @@
 ghost use Rattle.std.specs.Prelude.{◌≡◌};
 ghost use Rattle.csv.specs.Records.{fields_of};
 ghost use Rattle.loader.specs.Faults.{Reads};
-ghost use Rattle.loader.specs.ImageRecords.{customer_fields, district_fields, history_fields, is_kind, item_fields, new_order_fields, order_fields, order_line_fields, record_at, stock_fields, warehouse_fields};
+ghost use Rattle.loader.specs.ImageRecords.{customer_fields, district_fields, history_fields, is_kind, item_fields, new_order_fields, order_fields, order_line_fields, record_at, row_record_at, stock_fields, warehouse_fields};
 
 use crate::columns::{credit, district_infos};
 use crate::record_fault::RecordFault;
@@ -245,6 +245,25 @@ fn is_kind(fields: &ByteRecord, kind: &[u8], count: usize) -> Result<bool, Slip>
     Ok(true)
 }
 
+/// What the record says of a row that goes with no card.
+fn row_record(fields: &ByteRecord) -> Result<ImageRecord, Slip>
+    ensures { result ≡ row_record_at (fields_of fields.now) }
+{
+    if is_kind(fields, b"O", 9)? {
+        return order_record(fields);
+    }
+    if is_kind(fields, b"N", 4)? {
+        return new_order_record(fields);
+    }
+    if is_kind(fields, b"L", 11)? {
+        return order_line_record(fields);
+    }
+    if is_kind(fields, b"H", 10)? {
+        return history_record(fields);
+    }
+    Err(Slip::UnknownKind)
+}
+
 /// What a record says that is neither the first nor the end record.
 pub(crate) fn image_record(alloc: Global, fields: &ByteRecord) -> Result<ImageRecord, RecordFault>
     ensures { Reads (record_at (fields_of fields.now)) result }
@@ -264,17 +283,5 @@ pub(crate) fn image_record(alloc: Global, fields: &ByteRecord) -> Result<ImageRe
     if is_kind(fields, b"S", 18)? {
         return stock_record(alloc, fields);
     }
-    if is_kind(fields, b"O", 9)? {
-        return Ok(order_record(fields)?);
-    }
-    if is_kind(fields, b"N", 4)? {
-        return Ok(new_order_record(fields)?);
-    }
-    if is_kind(fields, b"L", 11)? {
-        return Ok(order_line_record(fields)?);
-    }
-    if is_kind(fields, b"H", 10)? {
-        return Ok(history_record(fields)?);
-    }
-    Err(RecordFault::Slip(Slip::UnknownKind))
+    Ok(row_record(fields)?)
 }

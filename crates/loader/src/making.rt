@@ -5,7 +5,7 @@ ghost use Rattle.tpcc_model.specs.Soundness.{IsSound};
 ghost use Rattle.rollback.specs.Marks.{AreClean};
 ghost use Rattle.tpcc_rows.specs.Limits.{IsBetween};
 ghost use Rattle.loader.specs.Made.{AreBefore, made, made_customer, made_district, made_item, made_stock, made_warehouse, with_each, with_records};
-ghost use Rattle.loader.specs.Tables.{database_of, is_taken, loaded, with_record};
+ghost use Rattle.loader.specs.Tables.{database_of, is_taken, loaded, no_tables, with_record};
 
 use crate::image_record::ImageRecord;
 use crate::made_records::{made_customer, made_district, made_item, made_stock, made_warehouse};
@@ -174,9 +174,30 @@ fn add_items(tables: &mut Tables, count: u32) -> Result<(), Memory>
     Ok(())
 }
 
+/// Fills the tables.
+#[tactic(auto, unfolding(crate::specs::Made::made))]
+fn fill(
+    alloc: Global,
+    tables: &mut Tables,
+    warehouses: u8,
+    customers: u16,
+    items: u32,
+) -> Result<(), Memory>
+    requires warehouses { IsBetween 1 100 warehouses }
+    requires customers { IsBetween 1 3000 customers }
+    requires items { IsBetween 1 100000 items }
+    requires none { database_of tables.old ≡ no_tables }
+    ensures { OnOk result (database_of tables.new ≡ made warehouses customers items) }
+{
+    add_warehouses(tables, warehouses)?;
+    add_districts(tables, warehouses)?;
+    add_customers(tables, warehouses, customers)?;
+    add_stocks(alloc, tables, warehouses, items)?;
+    add_items(tables, items)
+}
+
 /// A database of so many warehouses with ten districts each, so many customers in each district, and so many items, of
 /// which each warehouse has a stock. There are no orders and no history.
-#[tactic(auto, unfolding(crate::specs::Made::made))]
 pub fn make(
     alloc: Global,
     warehouses: u8,
@@ -192,11 +213,7 @@ pub fn make(
     ensures sound { IfOk result (λ db. IsSound (loaded db)) }
 {
     let mut tables = Tables::new(alloc);
-    add_warehouses(&mut tables, warehouses)?;
-    add_districts(&mut tables, warehouses)?;
-    add_customers(&mut tables, warehouses, customers)?;
-    add_stocks(alloc, &mut tables, warehouses, items)?;
-    add_items(&mut tables, items)?;
+    fill(alloc, &mut tables, warehouses, customers, items)?;
     let catalog = tables.cards.finish(alloc)?;
     let rows = on_pages(alloc, tables.rows)?;
     Ok((catalog, rows))

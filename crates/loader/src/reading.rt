@@ -5,7 +5,7 @@ ghost use Rattle.records.specs.Records.{IsGoing, records_in, records_left};
 ghost use Rattle.loader.specs.Faults.{StopsBy};
 ghost use Rattle.loader.specs.Image.{Rest, counts, ended, is_first, placed, read_all, read_from};
 ghost use Rattle.loader.specs.ImageRecords.{record_at};
-ghost use Rattle.loader.specs.Tables.{database_of};
+ghost use Rattle.loader.specs.Tables.{database_of, no_tables};
 
 use crate::fault::{LoadError, fault};
 use crate::image_record::image_record;
@@ -107,8 +107,30 @@ fn read_rest(
     Err(LoadError::Truncated)
 }
 
-/// The tables of a text, unchecked.
+/// Takes in all records.
 #[tactic(auto, unfolding(crate::specs::Image::read_all))]
+fn read_records(
+    alloc: Global,
+    reader: &mut Reader<&[u8]>,
+    fields: &mut ByteRecord,
+    tables: &mut Tables,
+) -> Result<(), LoadError>
+    requires going { IsGoing reader.old }
+    requires room { 1 + length (records_left reader.old) < 2 ^ 64 }
+    requires none { database_of tables.old ≡ no_tables }
+    ensures ok { OnOk result (read_all (records_left reader.old) ≡ Ok (database_of tables.new)) }
+    ensures err { IfErr result (λ e. StopsBy e (read_all (records_left reader.old))) }
+{
+    if !next_record(reader, fields)? {
+        return Err(LoadError::Truncated);
+    }
+    if !is_first(fields) {
+        return Err(LoadError::BadRecord(1));
+    }
+    read_rest(alloc, reader, fields, tables)
+}
+
+/// The tables of a text, unchecked.
 pub(crate) fn read_tables(alloc: Global, text: &[u8]) -> Result<Tables, LoadError>
     requires { length text.now < 2 ^ 32 }
     ensures ok { IfOk result (λ tables. read_all (records_in text.now) ≡ Ok (database_of tables)) }
@@ -116,13 +138,7 @@ pub(crate) fn read_tables(alloc: Global, text: &[u8]) -> Result<Tables, LoadErro
 {
     let mut reader = records_of(alloc, text);
     let mut fields = ByteRecord::new(alloc);
-    if !next_record(&mut reader, &mut fields)? {
-        return Err(LoadError::Truncated);
-    }
-    if !is_first(&fields) {
-        return Err(LoadError::BadRecord(1));
-    }
     let mut tables = Tables::new(alloc);
-    read_rest(alloc, &mut reader, &mut fields, &mut tables)?;
+    read_records(alloc, &mut reader, &mut fields, &mut tables)?;
     Ok(tables)
 }

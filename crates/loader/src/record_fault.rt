@@ -6,7 +6,7 @@ use records::fault::Slip;
 use std::alloc::{AllocError, AllocFailed};
 
 /// Why a record isn't taken in: what is wrong with it, or that memory was refused.
-#[derive(Clone, Copy, Debug, PartialEq, Eq)]
+#[derive(Clone, Copy)]
 pub(crate) enum RecordFault {
     Slip(Slip),
     Memory,

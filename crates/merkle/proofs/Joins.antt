@@ -1,39 +1,59 @@
 -- Joins in a list of nodes, and the node that each place holds.
-use Rattle.std.proofs.Common.{◌≡◌, ◌≢◌, inl, inr, ℕ, zero, suc, ◌+◌, ◌-◌, ◌*◌, ◌<◌, ◌≤◌, Bool, true, false, cond, List, [], ◌∷◌, ◌++◌, length, get_or, set, drop, replicate, refl, sym, ap, subst, ◌∙◌, arith}
-use Rattle.std.proofs.lemmas.List.{get_or-set_same, get_or-set_other, get_or-append_right, get_or-replicate}
-use Rattle.std.proofs.lemmas.Bool.Decides.{eqb_tells, leb_tells}
+use Rattle.std.proofs.Common.{◌≡◌, inl, inr, ℕ, zero, suc, ◌+◌, ◌-◌, ◌*◌, ◌<◌, ◌≤◌, ◌||◌, Bool, true, false, cond, List, [], ◌∷◌, ◌++◌, All, length, get_or, drop, replicate, refl, sym, ap, ◌∙◌, arith}
+use Rattle.std.proofs.lemmas.List.{get_or-append_right, get_or-replicate}
+use Rattle.std.proofs.lemmas.Bool.{cases_Bool, cases_lt, cond-true, cond-false, false_from_ne_true, or_parts}
+use Rattle.std.proofs.lemmas.Bool.Decides.{leb_tells}
 use Rattle.rollback.specs.Marks.{is_dirty}
-use Rattle.std.proofs.Math.Seq.{drop-append_seam}
-use Rattle.merkle.specs.Nodes.{at, rehashed, IsJoin, IsNearlyTree, IsTree, IsOf}
+use Rattle.merkle.specs.Jobs.{has_place}
+use Rattle.merkle.specs.Nodes.{at, join_at, rehashed, IsJoin, IsJoinedFrom, IsNearlyTree, IsTree, IsOf}
+use Rattle.merkle.specs.declared.jobs.Job.{Job}
+use Rattle.merkle.proofs.Placing.{of-place}
 use Rattle.tpcc_model.specs.Roots.{joined, leaf_hash, node, root}
 use Rattle.tpcc_rows.specs.RowMap.{Rows}
 
--- ---- one node set anew
-module _ (nodes : List (List ℕ)) (i : ℕ) (x : List ℕ) (positive : 1 ≤ i) (inside : i < 4096) (full : length nodes ≡ 8192) where
-  at-other : (j : ℕ) → j ≢ i → at (set nodes i x) j ≡ at nodes j
-  at-other j ne = get_or-set_other nodes i j x [] ne
+-- ---- a level joined again
+module _ (nodes new : List (List ℕ)) (marks after : List Bool) (jobs : List Job) (low high : ℕ) (positive : 1 ≤ low) (apart : high ≤ 2 * low) (below : low ≤ high) (inside : high ≤ 4096)
+    (range : All (λ job. (low ≤ job.place) × (job.place < high)) jobs)
+    (above : (i : ℕ) → low ≤ i → i < high → has_place jobs i ≡ (is_dirty marks (2 * i) || is_dirty marks (2 * i + 1)))
+    (marked : (i : ℕ) → is_dirty after i ≡ (has_place jobs i || is_dirty marks i))
+    (put : (i : ℕ) → at new i ≡ cond (has_place jobs i) (join_at nodes i) (at nodes i)) (from : IsJoinedFrom high nodes marks) where
+  outside : (i : ℕ) → ((low ≤ i) → (i < high) → ⊥) → has_place jobs i ≡ false
+  outside i out = false_from_ne_true (has_place jobs i) (λ e. let r = of-place (λ n. (low ≤ n) × (n < high)) jobs range i e in out r.0 r.1)
 
-  other : (j : ℕ) → j ≢ i → 2 * j ≢ i → 2 * j + 1 ≢ i → IsJoin nodes j → IsJoin (set nodes i x) j
-  other j a b c h = record { join = at-other j a ∙ h.join ∙ ap (λ y. joined y (at nodes (2 * j + 1))) (sym (at-other (2 * j) b)) ∙ ap (joined (at (set nodes i x) (2 * j))) (sym (at-other (2 * j + 1) c)) }
+  same : (i : ℕ) → has_place jobs i ≡ false → at new i ≡ at nodes i
+  same i e = put i ∙ cond-false (has_place jobs i) (join_at nodes i) (at nodes i) e
 
-  same : x ≡ joined (at nodes (2 * i)) (at nodes (2 * i + 1)) → IsJoin (set nodes i x) i
-  same e = let here : i < length nodes = omega arith in record { join = get_or-set_same nodes i x [] here ∙ e ∙ ap (λ y. joined y (at nodes (2 * i + 1))) (sym (at-other (2 * i) (λ e. omega arith))) ∙ ap (joined (at (set nodes i x) (2 * i))) (sym (at-other (2 * i + 1) (λ e. omega arith))) }
+  children : (i : ℕ) → has_place jobs (2 * i) ≡ false → has_place jobs (2 * i + 1) ≡ false → join_at nodes i ≡ join_at new i
+  children i a b = ap (λ y. joined y (at nodes (2 * i + 1))) (sym (same (2 * i) a)) ∙ ap (joined (at new (2 * i))) (sym (same (2 * i + 1) b))
 
-  -- joins from i + 1 on are joins from i on, once i is the hash of its children
-  pub joins-done : x ≡ joined (at nodes (2 * i)) (at nodes (2 * i + 1)) → ((j : ℕ) → i + 1 ≤ j → j < 4096 → IsJoin nodes j) → (j : ℕ) → i ≤ j → j < 4096 → IsJoin (set nodes i x) j
-  joins-done e h j low high = elim (eqb_tells j i) [
-    | inl t ↦ subst (λ k. IsJoin (set nodes i x) k) (sym t.1) (same e)
-    | inr t ↦ let ne : j ≢ i = t.1 in other j ne (λ e. omega arith) (λ e. omega arith) (h j (omega arith) high)
-  ]
+  kept : (i : ℕ) → has_place jobs i ≡ false → has_place jobs (2 * i) ≡ false → has_place jobs (2 * i + 1) ≡ false → IsJoin nodes i → IsJoin new i
+  kept i e a b h = record { join = same i e ∙ h.join ∙ children i a b }
 
-  -- a mark at i leaves the joins of nodes that don't touch i
-  pub joins-left : (marks : List Bool) → length marks ≡ 8192 → ((j : ℕ) → 1 ≤ j → j < i + 1 → is_dirty marks (2 * j) ≡ false → is_dirty marks (2 * j + 1) ≡ false → IsJoin nodes j)
-      → (j : ℕ) → 1 ≤ j → j < i → is_dirty (set marks i true) (2 * j) ≡ false → is_dirty (set marks i true) (2 * j + 1) ≡ false → IsJoin (set nodes i x) j
-  joins-left marks wide h j low high a b =
-      let here : i < length marks = omega arith in
-      let clash : (k : ℕ) → is_dirty (set marks i true) k ≡ false → k ≢ i = λ k f e. let t = sym (get_or-set_same marks i true false here) ∙ ap (is_dirty (set marks i true)) (sym e) ∙ f in cc in
-      other j (λ e. omega arith) (clash (2 * j) a) (clash (2 * j + 1) b)
-      (h j low (omega arith) (sym (get_or-set_other marks i (2 * j) true false (clash (2 * j) a)) ∙ a) (sym (get_or-set_other marks i (2 * j + 1) true false (clash (2 * j + 1) b)) ∙ b))
+  in-level : (i : ℕ) → low ≤ i → i < high → IsJoin new i
+  in-level i l h =
+      let a = outside (2 * i) (λ x y. omega arith) in
+      let b = outside (2 * i + 1) (λ x y. omega arith) in
+      elim (cases_Bool (has_place jobs i)) [
+        | inl e ↦ record { join = put i ∙ cond-true (has_place jobs i) (join_at nodes i) (at nodes i) e ∙ children i a b }
+        | inr e ↦ let none = or_parts _ _ (sym (above i l h) ∙ e) in kept i e a b (from.left i (omega arith) h none.0 none.1)
+      ]
+
+  pub level-joined : length new ≡ 8192 → length after ≡ 8192 → IsJoinedFrom low new after
+  level-joined full wide = record {
+    full = full;
+    wide = wide;
+    done = λ i l small. elim (cases_lt i high) [
+      | inl h ↦ in-level i l h
+      | inr h ↦ kept i (outside i (λ x y. omega arith)) (outside (2 * i) (λ x y. omega arith)) (outside (2 * i + 1) (λ x y. omega arith)) (from.done i h small)
+    ];
+    left = λ i p l a b.
+        let left = or_parts _ _ (sym (marked (2 * i)) ∙ a) in
+        let right = or_parts _ _ (sym (marked (2 * i + 1)) ∙ b) in
+        kept i (outside i (λ x y. omega arith)) left.0 right.0 (from.left i p (omega arith) left.1 right.1);
+  }
+
+  pub leaves-same : (i : ℕ) → 4096 ≤ i → at new i ≡ at nodes i
+  leaves-same i h = same i (outside i (λ x y. omega arith))
 
 -- ---- heights
 -- a level of b nodes at this height has 4,096 leaves below
@@ -67,9 +87,6 @@ node-alike f g e (suc height) b w n small =
     ∙ ap (joined (node g height (2 * n))) (node-alike f g e height (2 * b) w (2 * n + 1) (omega arith))
 
 -- ---- leaves
-pub leaves_after : (above leaves : List (List ℕ)) → length above ≡ 4096 → drop 4096 (above ++ leaves) ≡ leaves
-leaves_after above leaves e = subst (λ k. drop k (above ++ leaves) ≡ leaves) e (drop-append_seam above leaves)
-
 at-drop : (k n : ℕ) (nodes : List (List ℕ)) → at (drop k nodes) n ≡ at nodes (k + n)
 at-drop zero n nodes = let e : n ≡ 0 + n = omega arith in ap (at nodes) e
 at-drop (suc k) n [] = refl
@@ -94,7 +111,7 @@ at-front d [] l i h = absurd (omega arith)
 at-front d (x ∷ f) l zero h = refl
 at-front d (x ∷ f) l (suc i) h = at-front d f l i (omega arith)
 
-at-back : {A : Type 0} (d : A) (f l : List A) (n i : ℕ) → length f ≡ n → get_or (f ++ l) (n + i) d ≡ get_or l i d
+pub at-back : {A : Type 0} (d : A) (f l : List A) (n i : ℕ) → length f ≡ n → get_or (f ++ l) (n + i) d ≡ get_or l i d
 at-back d f l n i e = get_or-append_right f l n (n + i) d e (omega arith) ∙ (let k : n + i - n ≡ i = omega arith in ap (λ j. get_or l j d) k)
 
 -- leaves that were hashed again where they are dirty

@@ -9,9 +9,13 @@ use Rattle.tpcc_rows.specs.declared.codes.TheConstants.{LEAVES}
 abbrev pub at : List (List ℕ) → ℕ → List ℕ
 at nodes i = get_or nodes i []
 
+-- the hash of the children of a place
+abbrev pub join_at : List (List ℕ) → ℕ → List ℕ
+join_at nodes i = joined (at nodes (2 * i)) (at nodes (2 * i + 1))
+
 -- the node is the hash of its children
 pub record IsJoin (nodes : List (List ℕ)) (i : ℕ) : Type 0 where
-  pub join : at nodes i ≡ joined (at nodes (2 * i)) (at nodes (2 * i + 1))
+  pub join : at nodes i ≡ join_at nodes i
 
 -- each inner node is the hash of its children
 pub record IsTree (nodes : List (List ℕ)) : Type 0 where
@@ -33,3 +37,10 @@ pub record IsOfClean (leaves : List (List ℕ)) (dirty : List Bool) (rows : Rows
 -- each inner node of whose children none is marked is their hash
 pub record IsNearlyTree (nodes : List (List ℕ)) (marks : List Bool) : Type 0 where
   pub joins : (i : ℕ) → 1 ≤ i → i < LEAVES → is_dirty marks (2 * i) ≡ false → is_dirty marks (2 * i + 1) ≡ false → IsJoin nodes i
+
+-- each inner node from high on is the hash of its children, and so is each before it of whose children none is marked
+pub record IsJoinedFrom (high : ℕ) (nodes : List (List ℕ)) (marks : List Bool) : Type 0 where
+  pub full : length nodes ≡ 2 * LEAVES
+  pub wide : length marks ≡ 2 * LEAVES
+  pub done : (i : ℕ) → high ≤ i → i < LEAVES → IsJoin nodes i
+  pub left : (i : ℕ) → 1 ≤ i → i < high → is_dirty marks (2 * i) ≡ false → is_dirty marks (2 * i + 1) ≡ false → IsJoin nodes i

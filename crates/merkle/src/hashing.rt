@@ -1,12 +1,14 @@
-//! The hashes of leaves and of nodes.
+//! The hashes of leaves and of nodes, one at a time, and four at once.
 ghost use Rattle.std.specs.Prelude.{◌≡◌, ◌≤◌, ◌+◌, ◌++◌, ◌∷◌, [], ℕ, List, length};
+ghost use Rattle.std.specs.Bool.{OnTrue};
 ghost use Rattle.std.specs.FinMap as map;
 ghost use Rattle.sha2.specs.Sha256.{sha256};
-ghost use Rattle.merkle.specs.Hashing.{IsFed};
+ghost use Rattle.merkle.specs.Hashing.{IsFed, leaf_text};
 ghost use Rattle.tpcc_model.specs.Roots.{joined};
 ghost use Rattle.tpcc_rows.specs.Encodings.{row_bytes, rows_bytes};
 
 use sha2::{Digest, Sha256};
+use sha2_lanes::digests_of_four;
 use tpcc_rows::encoding::{append_row, enough_bytes};
 use tpcc_rows::key::RowKey;
 use tpcc_rows::plain::RowStore;
@@ -24,6 +26,12 @@ const ROW_BYTES: usize = 536;
 
 /// How many bytes wait at most.
 const WAITING_BYTES: usize = 4096;
+
+/// How many bytes there is room for where a leaf is hashed beside three others.
+const LEAF_BYTES: usize = 8192;
+
+/// How many bytes the hash of a node is of.
+pub(crate) const NODE_BYTES: usize = 65;
 
 /// What goes to SHA-256, gathered from the bytes of rows: given to it row by row, a tree took half as long again.
 #[derive(Drop)]
@@ -78,7 +86,7 @@ impl Gathered {
 /// Prefetches the rows of a page; the answer is how many bytes suffice for them. A customer's row is reference-counted, and
 /// so lies apart from the page. Read one right after the other, before the first is encoded, the page's customers come from
 /// memory together, where the encoder would wait for each of them in its turn.
-fn prefetch_rows(page: &RowStore) -> usize {
+pub(crate) fn prefetch_rows(page: &RowStore) -> usize {
     let mut bytes = 0usize;
     for (_, row) in page.iter() {
         bytes = bytes.saturating_add(enough_bytes(row));
@@ -98,19 +106,70 @@ pub(crate) fn prefetch_first_row(page: &RowStore) -> usize {
 pub fn hash_leaf(page: &RowStore) -> [u8; 32]
     ensures { result ≡ sha256 (0 ∷ rows_bytes (map.entries page.now)) }
 {
-    hash_with_room(page, 0)
-}
-
-/// The hash of a leaf, whose buffer first makes room for so many bytes more than suffice, which no hash depends on.
-pub(crate) fn hash_with_room(page: &RowStore, more: usize) -> [u8; 32]
-    ensures { result ≡ sha256 (0 ∷ rows_bytes (map.entries page.now)) }
-{
     let mut gathered = Gathered::of_leaf();
-    gathered.make_room(prefetch_rows(page).saturating_add(more));
+    gathered.make_room(prefetch_rows(page));
     for (key, row) in page.iter() {
         gathered.push_row(key, row);
     }
     gathered.finish()
+}
+
+/// Fills the buffer anew with what the hash of a leaf is of. Where there is no room for all of it, the answer is false, and
+/// the buffer is empty.
+fn encode_leaf(page: &RowStore, text: &mut ByteBuf<LEAF_BYTES>) -> bool
+    ensures { OnTrue result (text.new ≡ leaf_text page.now) }
+{
+    text.clear();
+    text.push_8(LEAF);
+    for (key, row) in page.iter() {
+        if text.room() < ROW_BYTES {
+            text.clear();
+            return false;
+        }
+        append_row(key, row, text);
+    }
+    true
+}
+
+/// The hash of a leaf: this one, where it is of the leaf's whole text.
+fn hash_from(page: &RowStore, is_whole: bool, hash: [u8; 32]) -> [u8; 32]
+    requires { OnTrue is_whole (hash ≡ sha256 (leaf_text page.now)) }
+    ensures { result ≡ sha256 (leaf_text page.now) }
+{
+    if is_whole { hash } else { hash_leaf(page) }
+}
+
+/// The hashes of four leaves, at once. One for whose text there is no room is hashed alone.
+pub(crate) fn hash_four_leaves(
+    first: &RowStore,
+    second: &RowStore,
+    third: &RowStore,
+    fourth: &RowStore,
+) -> [[u8; 32]; 4]
+    ensures { result ≡ sha256 (leaf_text first.now) ∷ sha256 (leaf_text second.now) ∷ sha256 (leaf_text third.now) ∷ sha256 (leaf_text fourth.now) ∷ [] }
+{
+    let mut texts = (
+        ByteBuf::new(),
+        ByteBuf::new(),
+        ByteBuf::new(),
+        ByteBuf::new(),
+    );
+    let first_is_whole = encode_leaf(first, &mut texts.0);
+    let second_is_whole = encode_leaf(second, &mut texts.1);
+    let third_is_whole = encode_leaf(third, &mut texts.2);
+    let fourth_is_whole = encode_leaf(fourth, &mut texts.3);
+    let hashes = digests_of_four(
+        texts.0.as_slice(),
+        texts.1.as_slice(),
+        texts.2.as_slice(),
+        texts.3.as_slice(),
+    );
+    [
+        hash_from(first, first_is_whole, hashes[0]),
+        hash_from(second, second_is_whole, hashes[1]),
+        hash_from(third, third_is_whole, hashes[2]),
+        hash_from(fourth, fourth_is_whole, hashes[3]),
+    ]
 }
 
 /// The hash of two nodes.
@@ -123,4 +182,15 @@ pub fn join(left: &[u8; 32], right: &[u8; 32]) -> [u8; 32]
     hasher.update(left.as_slice());
     hasher.update(right.as_slice());
     hasher.finalize()
+}
+
+/// What the hash of two nodes is of.
+pub(crate) fn encode_node(left: &[u8; 32], right: &[u8; 32]) -> ByteBuf<NODE_BYTES>
+    ensures { result ≡ 1 ∷ (left.now ++ right.now) }
+{
+    let mut text = ByteBuf::new();
+    text.push_8(NODE);
+    text.push(left.as_slice());
+    text.push(right.as_slice());
+    text
 }

@@ -1,32 +1,43 @@
-//! The hashes of all leaves.
-ghost use Rattle.std.specs.Prelude.{◌≡◌, ◌<◌, ◌≤◌, ◌+◌, ℕ, length, IfOk};
-ghost use Rattle.merkle.specs.Nodes.{IsOf, at, rehashed};
+//! The hashes of leaves.
+ghost use Rattle.std.specs.Prelude.{◌≡◌, ◌<◌, ◌≤◌, ◌∷◌, [], ℕ, All, length};
+ghost use Rattle.merkle.specs.Jobs.{IsDone, KeepsPlaces};
+ghost use Rattle.merkle.specs.Nodes.{at, rehashed};
 ghost use Rattle.tpcc_model.specs.Roots.{leaf_hash};
 
-use crate::hashing::{hash_with_room, prefetch_first_row};
-use rayon::prelude::*;
-use rollback::{Dirty, PointedStore};
-use std::alloc::{AllocError, Global};
+use crate::hashing::{hash_four_leaves, hash_leaf, prefetch_first_row, prefetch_rows};
+use crate::jobs::{Job, gather_leaves, give_hashes, put_hashes};
+use rollback::PointedStore;
 use std::thread::{self, Threads};
 use tpcc_rows::codes::LEAVES;
 
-/// How many leaves one thread takes at least: few enough that all threads have work to the end.
+/// How many leaves have their rows prefetched together, and are then hashed in the order of their lengths: four neighbours
+/// take the time of the longest of them.
+const WINDOW: usize = 16;
+
+/// How many leaves one thread takes at least: so many that it is worth its start.
 const LEAVES_AT_ONCE: usize = 64;
 
-/// How many leaves have their first rows prefetched together.
-const TOGETHER: usize = 8;
-
-/// Prefetches the first rows of the leaves from this one on; the answer is how many bytes suffice for them. To find the rows
-/// of a leaf is to follow a few pointers one after the other; those of several leaves are followed here together, before the
-/// first is hashed.
-fn prefetch_first_rows(store: &PointedStore, first: usize) -> usize
-    requires { first < LEAVES }
+/// Prefetches the first rows of some leaves; the answer is how many bytes suffice for them. To find the rows of a leaf is to
+/// follow a few pointers one after the other; those of several leaves are followed here together.
+fn prefetch_first_rows(jobs: &[Job], store: &PointedStore) -> usize
+    requires { All (λ job. job.place < LEAVES) jobs.now }
 {
     let mut bytes = 0usize;
-    for n in first..(first + TOGETHER).min(LEAVES) {
-        bytes = bytes.saturating_add(prefetch_first_row(store.page(n)));
+    for job in jobs {
+        bytes = bytes.saturating_add(prefetch_first_row(store.page(job.place)));
     }
     bytes
+}
+
+/// Prefetches the rows of some leaves, and notes how many bytes suffice for each, beside those of all first rows.
+fn measure(jobs: &mut [Job], store: &PointedStore)
+    requires { All (λ job. job.place < LEAVES) jobs.old }
+    ensures { KeepsPlaces jobs.old jobs.new }
+{
+    let more = prefetch_first_rows(jobs, store);
+    for k in 0..jobs.len() {
+        jobs[k].bytes = prefetch_rows(store.page(jobs[k].place)).saturating_add(more);
+    }
 }
 
 /// The hash of a leaf.
@@ -35,64 +46,135 @@ fn nth_hash(store: &PointedStore, n: usize) -> [u8; 32]
     requires { n < LEAVES }
     ensures { result ≡ leaf_hash store.now.rows n }
 {
-    let more = if n % TOGETHER == 0 {
-        prefetch_first_rows(store, n)
-    } else {
-        0
-    };
-    hash_with_room(store.page(n), more)
+    hash_leaf(store.page(n))
 }
 
-/// The hashes of all leaves, from as many threads as there are processors.
-pub(crate) fn leaf_hashes<R: Threads + Sync>(
-    rt: &R,
-    alloc: Global,
-    store: &PointedStore,
-) -> Result<Vec<[u8; 32]>, AllocError>
-    ensures len { IfOk result (λ hashes. length hashes.items ≡ LEAVES) }
-    ensures each { IfOk result (λ hashes. IsOf hashes.items store.now.rows) }
+/// Hashes a few leaves one after the other.
+fn hash_few(jobs: &mut [Job], store: &PointedStore)
+    requires { All (λ job. job.place < LEAVES) jobs.old }
+    ensures { IsDone (leaf_hash store.now.rows) jobs.old jobs.new }
 {
-    (0..LEAVES)
-        .into_par_iter()
-        .with_min_len(LEAVES_AT_ONCE)
-        .map(
-            |n: usize| -> [u8; 32]
-                requires { n < LEAVES }
-                ensures { result ≡ leaf_hash store.entry.now.rows n }
-            { nth_hash(store, n) },
-        )
-        .collect(rt, alloc)
-}
-
-/// Hashes again each dirty leaf of those that begin at this one.
-fn rehash(leaves: &mut [[u8; 32]], start: usize, store: &PointedStore, dirty: &Dirty)
-    requires { start + length leaves.old ≤ LEAVES }
-    ensures { (k : ℕ) → k < length leaves.old → at leaves.new k ≡ rehashed dirty.now store.now.rows (at leaves.old k) (start + k) }
-{
-    for k in 0..leaves.len() {
-        if dirty.has(start + k) {
-            leaves[k] = nth_hash(store, start + k);
-        }
+    for k in 0..jobs.len() {
+        jobs[k].hash = nth_hash(store, jobs[k].place);
     }
 }
 
-/// Hashes again each dirty leaf, on so many threads at most. A leaf's place is a hash of its keys' codes, so that the dirty
-/// ones lie evenly among all.
+/// The hashes of four leaves, at once.
+#[tactic(auto, unfolding(tpcc_model::specs::Roots::leaf_hash))]
+fn four_hashes(store: &PointedStore, a: usize, b: usize, c: usize, d: usize) -> [[u8; 32]; 4]
+    requires first { a < LEAVES }
+    requires second { b < LEAVES }
+    requires third { c < LEAVES }
+    requires fourth { d < LEAVES }
+    ensures { result ≡ leaf_hash store.now.rows a ∷ leaf_hash store.now.rows b ∷ leaf_hash store.now.rows c ∷ leaf_hash store.now.rows d ∷ [] }
+{
+    hash_four_leaves(store.page(a), store.page(b), store.page(c), store.page(d))
+}
+
+/// Hashes four leaves at once.
+fn hash_four(jobs: &mut [Job], store: &PointedStore)
+    requires four { length jobs.old ≡ 4 }
+    requires leaves { All (λ job. job.place < LEAVES) jobs.old }
+    ensures { IsDone (leaf_hash store.now.rows) jobs.old jobs.new }
+{
+    let hashes = four_hashes(
+        store,
+        jobs[0].place,
+        jobs[1].place,
+        jobs[2].place,
+        jobs[3].place,
+    );
+    give_hashes(jobs, &hashes);
+}
+
+/// Hashes four leaves, or the few that are left.
+fn hash_group(jobs: &mut [Job], store: &PointedStore)
+    requires { All (λ job. job.place < LEAVES) jobs.old }
+    ensures { IsDone (leaf_hash store.now.rows) jobs.old jobs.new }
+{
+    if jobs.len() == 4 {
+        hash_four(jobs, store);
+    } else {
+        hash_few(jobs, store);
+    }
+}
+
+/// Hashes leaves, each four neighbours at once.
+fn hash_neighbours(jobs: &mut [Job], store: &PointedStore)
+    requires { All (λ job. job.place < LEAVES) jobs.old }
+    ensures { IsDone (leaf_hash store.now.rows) jobs.old jobs.new }
+{
+    for group in 0..jobs.len().div_ceil(4) {
+        let start = 4 * group;
+        let end = (start + 4).min(jobs.len());
+        hash_group(&mut jobs[start..end], store);
+    }
+}
+
+/// Hashes the leaves of a window.
+fn hash_window(jobs: &mut [Job], store: &PointedStore)
+    requires { All (λ job. job.place < LEAVES) jobs.old }
+    ensures { IsDone (leaf_hash store.now.rows) jobs.old jobs.new }
+{
+    measure(jobs, store);
+    jobs.sort_unstable_by_key(|job: &Job| -> usize { job.bytes });
+    hash_neighbours(jobs, store);
+}
+
+/// Hashes leaves, window by window.
+fn hash_leaves(jobs: &mut [Job], store: &PointedStore)
+    requires { All (λ job. job.place < LEAVES) jobs.old }
+    ensures { IsDone (leaf_hash store.now.rows) jobs.old jobs.new }
+{
+    for window in 0..jobs.len().div_ceil(WINDOW) {
+        let start = WINDOW * window;
+        let end = (start + WINDOW).min(jobs.len());
+        hash_window(&mut jobs[start..end], store);
+    }
+}
+
+/// How many leaves each thread takes, so that they are shared out evenly, in whole windows.
+fn share(leaves: usize, threads: usize) -> usize
+    ensures { 0 < result }
+{
+    let useful = (leaves / LEAVES_AT_ONCE).clamp(1, threads.max(1));
+    leaves.div_ceil(WINDOW).div_ceil(useful).clamp(1, LEAVES) * WINDOW
+}
+
+/// Hashes leaves on so many threads at most.
+fn hash_leaves_on<R: Threads + Sync>(rt: &R, jobs: &mut [Job], store: &PointedStore, threads: usize)
+    requires { All (λ job. job.place < LEAVES) jobs.old }
+    ensures { IsDone (leaf_hash store.now.rows) jobs.old jobs.new }
+{
+    thread::for_each_chunk_mut(
+        rt,
+        jobs,
+        share(jobs.len(), threads),
+        &|_: usize, part: &mut [Job]|
+            requires { All (λ job. job.place < LEAVES) part.old }
+            ensures { IsDone (leaf_hash store.entry.now.rows) part.old part.new }
+        {
+            hash_leaves(part, store);
+        },
+    );
+}
+
+/// Hashes again each dirty leaf, on so many threads at most.
 pub(crate) fn rehash_on<R: Threads + Sync>(
     rt: &R,
     leaves: &mut [[u8; 32]],
+    jobs: &mut [Job],
     store: &PointedStore,
-    dirty: &Dirty,
+    dirty: &[bool],
     threads: usize,
 )
-    requires { length leaves.old ≡ LEAVES }
-    ensures { (k : ℕ) → k < LEAVES → at leaves.new k ≡ rehashed dirty.now store.now.rows (at leaves.old k) k }
+    requires full { length leaves.old ≡ LEAVES }
+    requires room { length jobs.old ≡ LEAVES }
+    requires marks { length dirty.now ≡ LEAVES }
+    ensures each { (k : ℕ) → k < LEAVES → at leaves.new k ≡ rehashed dirty.now store.now.rows (at leaves.old k) k }
+    ensures room { length jobs.new ≡ LEAVES }
 {
-    let useful = (dirty.count() / LEAVES_AT_ONCE).clamp(1, threads.max(1));
-    thread::for_each_chunk_mut(
-        rt,
-        leaves,
-        LEAVES.div_ceil(useful),
-        &|start, part| rehash(part, start, store, dirty),
-    );
+    let count = gather_leaves(jobs, dirty);
+    hash_leaves_on(rt, &mut jobs[..count], store, threads);
+    put_hashes(leaves, &jobs[..count]);
 }

@@ -2,7 +2,9 @@
 #![tactic(auto)]
 
 pub mod hashing;
+mod jobs;
 mod leaves;
+mod levels;
 pub mod tree;
 
 pub use tree::Tree;

@@ -1,8 +1,8 @@
--- One step of the loops that find levels and cut them.
-use Rattle.std.proofs.Common.{◌≡◌, ℕ, suc, ◌+◌, ◌-◌, ◌<◌, Bool, List, [], ◌∷◌, ◌++◌, length, get_or, drop, map, refl, sym, ap, ◌∙◌, arith}
-use Rattle.std.proofs.lemmas.List.{drop_more, map-append, append_assoc}
+-- One step of the loop that finds levels.
+use Rattle.std.proofs.Common.{◌≡◌, ℕ, ◌+◌, ◌<◌, Bool, List, [], ◌∷◌, ◌++◌, length, get_or, drop, refl, sym, ap, ◌∙◌, arith}
+use Rattle.std.proofs.lemmas.List.{drop_more, append_assoc}
 use Rattle.std.specs.List.{zip}
-use Rattle.serializability.specs.Levels.{level_after, levels_after, at_level, cut_from}
+use Rattle.serializability.specs.Levels.{level_after, levels_after}
 use Rattle.mixer.proofs.Lists.{zip_more}
 
 -- the levels found so far with their footprints, when one more is
@@ -26,22 +26,3 @@ module _ {F : Type 0} (meets : F → F → Bool) where
       ∙ ap (λ x. levels ++ levels_after meets (zip levels fs) (x ∷ drop (i + 1) fs)) is
       ∙ ap (λ rest. levels ++ levels_after meets (zip levels fs) rest) (sym (drop_more fs i f h))
       ∙ all
-
--- the cut from a level below the depth on
-cut_step : (level depth : ℕ) (places : List (ℕ × ℕ)) → level < depth → cut_from level (depth - level) places ≡ at_level level places ∷ cut_from (level + 1) (depth - (level + 1)) places
-cut_step level depth places h =
-    let more : depth - level ≡ suc (depth - (level + 1)) = omega (arith, h) in
-    ap (λ n. cut_from level n places) more
-
--- the levels that are cut, when one more is
-pub cut_more : {X : Type 0} (view : X → List ℕ) (made more : List X) (x : X) (level depth : ℕ) (places : List (ℕ × ℕ)) (whole : List (List ℕ)) → level < depth
-    → more ≡ made ++ x ∷ [] → view x ≡ at_level level places → map view made ++ cut_from level (depth - level) places ≡ whole
-    → map view more ++ cut_from (level + 1) (depth - (level + 1)) places ≡ whole
-cut_more view made more x level depth places whole h grown is all =
-    let rest = cut_from (level + 1) (depth - (level + 1)) places in
-    ap (λ xs. map view xs ++ rest) grown
-    ∙ ap (λ xs. xs ++ rest) (map-append view made (x ∷ []))
-    ∙ append_assoc (map view made) (view x ∷ []) rest
-    ∙ ap (λ xs. map view made ++ xs ∷ rest) is
-    ∙ ap (λ xs. map view made ++ xs) (sym (cut_step level depth places h))
-    ∙ all

@@ -1,5 +1,3 @@
-pub mod LevelRows
+pub mod CutSteps
 pub mod LevelSteps
 pub mod Lists
-pub mod RowSteps
-pub mod Signed

@@ -1,2 +1,1 @@
 pub mod LevelRows
-pub mod Signed

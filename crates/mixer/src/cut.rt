@@ -1,11 +1,11 @@
 //! The cut of a batch.
-ghost use Rattle.std.specs.Prelude.{◌≡◌, ◌<◌, ◌≤◌, IfOk, length, option_copied, slice_get};
+ghost use Rattle.std.specs.Prelude.{◌≡◌, ◌<◌, ◌≤◌, [], IfOk, length, map, option_copied, replicate, slice_get};
 ghost use Rattle.std.specs.List.{All};
 ghost use Rattle.serializability.specs.Levels.{levels, cut};
 ghost use Rattle.serializability.specs.Signatures.{meets_by};
 ghost use Rattle.signatures_simd.specs.Bits.{bit};
 
-use crate::levels::{depth_of, levels_of, places_of};
+use crate::levels::{depth_of, levels_of};
 use std::alloc::Global;
 use std::marker::Model;
 use tpcc_rows::footprint::Footprint;
@@ -42,14 +42,25 @@ impl Cut {
     }
 }
 
+/// So many levels without a place.
+fn empty_levels(alloc: Global, depth: usize) -> Result<Vec<Vec<usize>>, Memory>
+    ensures { IfOk result (λ v. map (λ places. places.items) v.items ≡ replicate depth []) }
+{
+    let mut levels = Vec::with_capacity(alloc, depth)?;
+    for _ in 0..depth {
+        levels.push(Vec::new(alloc))?;
+    }
+    Ok(levels)
+}
+
+/// Each place goes behind the others of its level.
 fn cut_of(alloc: Global, levels: &[usize]) -> Result<Cut, Memory>
     requires { All (λ level. level < 1024) levels.now }
     ensures { IfOk result (λ c. c ≡ cut levels.now) }
 {
-    let depth = depth_of(levels);
-    let mut cut = Vec::with_capacity(alloc, depth)?;
-    for level in 0..depth {
-        cut.push(places_of(alloc, levels, level)?)?;
+    let mut cut = empty_levels(alloc, depth_of(levels))?;
+    for (place, level) in levels.iter().enumerate() {
+        cut[*level].push(place)?;
     }
     Ok(Cut { levels: cut })
 }

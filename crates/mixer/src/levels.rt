@@ -1,7 +1,7 @@
-//! The level of each request, and the places of each level.
+//! The level of each request, and how many levels there are.
 ghost use Rattle.std.specs.Prelude.{◌≡◌, ◌<◌, ◌≤◌, IfOk, length};
 ghost use Rattle.std.specs.List.{All};
-ghost use Rattle.serializability.specs.Levels.{levels, depth, at_level, places_from};
+ghost use Rattle.serializability.specs.Levels.{levels, depth};
 ghost use Rattle.serializability.specs.Signatures.{meets_by};
 ghost use Rattle.signatures_simd.specs.Bits.{bit};
 
@@ -35,17 +35,4 @@ pub(crate) fn depth_of(levels: &[usize]) -> usize
         depth = depth.max(*level + 1);
     }
     depth
-}
-
-/// The places of a level, in rising order.
-pub(crate) fn places_of(alloc: Global, levels: &[usize], level: usize) -> Result<Vec<usize>, Memory>
-    ensures { IfOk result (λ v. v.items ≡ at_level level (places_from 0 levels.now)) }
-{
-    let mut places = Vec::new(alloc);
-    for (place, own) in levels.iter().enumerate() {
-        if *own == level {
-            places.push(place)?;
-        }
-    }
-    Ok(places)
 }

@@ -1,11 +1,11 @@
 //! The levels of the requests before one, as two rows of signatures: what a level reads, and what it writes.
 ghost use Rattle.std.specs.Prelude.{◌≡◌, ℕ, ◌+◌, ◌<◌, ◌≤◌, ◌++◌, ◌∷◌, [], List, IfOk, length, max};
+ghost use Rattle.serializability.specs.BitSets.{IsSignatureOf};
+ghost use Rattle.serializability.specs.LevelRows.{IsRow, level_above};
 ghost use Rattle.serializability.specs.Levels.{level_after};
 ghost use Rattle.serializability.specs.Signatures.{meets_by};
 ghost use Rattle.signatures_simd.specs.Bits.{bit};
-ghost use Rattle.signatures_simd.specs.Signatures.{IsSignatureOf};
-ghost use Rattle.mixer.specs.LevelRows.{AreRows, Declared, Done, IsRow, level_above};
-ghost use Rattle.mixer.specs.Signed.{IsSigned};
+ghost use Rattle.mixer.specs.LevelRows.{AreRows, Declared, Done, IsSigned};
 
 use crate::signing::{Signed, sign};
 use signatures_simd::{Signature, highest_meeting};

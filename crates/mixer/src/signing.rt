@@ -1,5 +1,5 @@
 //! Footprints as signatures.
-ghost use Rattle.mixer.specs.Signed.{IsSigned};
+ghost use Rattle.mixer.specs.LevelRows.{IsSigned};
 
 use signatures_simd::Signature;
 use tpcc_rows::footprint::Footprint;

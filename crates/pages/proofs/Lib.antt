@@ -2,3 +2,4 @@ pub mod Indexing
 pub mod Listing
 pub mod Moving
 pub mod Paging
+pub mod Restoring

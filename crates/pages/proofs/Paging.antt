@@ -31,7 +31,7 @@ first_of : (b : Bool) (x : Row) (o later all : Option Row) → all ≡ or_else o
 first_of true x o later all h = refl
 first_of false x o later all h = h
 
-find-two : (es fs : List (RowKey × Row)) (q : RowKey) → find row_key_cmp q (es ++ fs) ≡ or_else (find row_key_cmp q es) (find row_key_cmp q fs)
+pub find-two : (es fs : List (RowKey × Row)) (q : RowKey) → find row_key_cmp q (es ++ fs) ≡ or_else (find row_key_cmp q es) (find row_key_cmp q fs)
 find-two [] fs q = refl
 find-two (e ∷ es) fs q = first_of (eq_by_cmp row_key_cmp q e.0) e.1 (find row_key_cmp q es) (find row_key_cmp q fs) (find row_key_cmp q (es ++ fs)) (find-two es fs q)
 
@@ -66,7 +66,7 @@ page-union ps paged n = same_map row_key_cmp_total exact_keys _ _ (λ q.
     ] refl ∙ sym (get-page_rows (union ps) n q))
 
 -- ---- one page changed
-page-set : (ps : List Rows) (n : ℕ) (p : Rows) (m : ℕ) → n < length ps → page_at (set ps n p) m ≡ cond (eqb m n) p (page_at ps m)
+pub page-set : (ps : List Rows) (n : ℕ) (p : Rows) (m : ℕ) → n < length ps → page_at (set ps n p) m ≡ cond (eqb m n) p (page_at ps m)
 page-set [] n p m h = absurd (omega arith)
 page-set (x ∷ ps) zero p zero h = refl
 page-set (x ∷ ps) zero p (suc m) h = ap (λ b. cond b p (page_at ps m)) (sym (eqb-suc-zero m))

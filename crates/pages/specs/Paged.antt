@@ -27,6 +27,10 @@ page_at pages n = get_or pages n map.empty
 pub record IsByLeaf (pages : List Rows) : Type 0 where
   pub by_leaf : (n : ℕ) (key : RowKey) → eqb (leaf key) n ≡ false → map.get (page_at pages n) key ≡ None
 
+-- rows of one leaf alone
+pub record AreOfLeaf (n : ℕ) (rows : Rows) : Type 0 where
+  pub of_leaf : (key : RowKey) → eqb (leaf key) n ≡ false → map.get rows key ≡ None
+
 -- a page for each leaf
 pub record IsPaged (pages : List Rows) : Type 0 where
   pub full : length pages ≡ LEAVES

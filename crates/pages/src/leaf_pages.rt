@@ -1,9 +1,11 @@
 //! A page of rows for each leaf.
 ghost use Rattle.std.specs.Prelude.{◌≡◌, ◌<◌, IfOk, IfSome, OnOk, OnErr, length, option_copied, true};
 ghost use Rattle.std.specs.FinMap as map;
+ghost use Rattle.pages.specs.Saving.{with_page};
 ghost use Rattle.tpcc_rows.specs.Leaves.{page_rows};
 ghost use Rattle.tpcc_rows.specs.RowKinds.{fits};
 
+use crate::kept::LeafPage;
 use crate::leaf_lists::LeafLists;
 use std::alloc::Global;
 use std::marker::Model;
@@ -101,6 +103,15 @@ impl Pages {
         ensures { result.now ≡ page_rows self.now leaf }
     {
         &self.pages[leaf]
+    }
+
+    /// The page, where there is one, is its leaf's from now on.
+    pub(crate) fn put_back(&mut self, page: Option<LeafPage>)
+        ensures { self.new ≡ with_page page self.old }
+    {
+        if let Some(page) = page {
+            self.pages[page.leaf] = page.rows;
+        }
     }
 
     /// How many rows there are: a sum over the pages, and so wider than the length of one.

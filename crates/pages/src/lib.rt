@@ -1,8 +1,11 @@
 //! Rows by leaf: a store whose rows stand on pages, one for each leaf of the tree of hashes, with indexes of the orders' numbers.
 #![tactic(auto)]
 
+mod kept;
 mod leaf_lists;
 mod leaf_pages;
+pub mod saved;
 pub mod store;
 
+pub use saved::Saved;
 pub use store::RowStore;

@@ -3,21 +3,28 @@ ghost use Rattle.std.specs.Prelude.{◌≡◌, ◌<◌, ℕ, IfNone, IfOk, IfSom
 ghost use Rattle.std.specs.BTreeSet.{contains};
 ghost use Rattle.std.specs.FinMap as map;
 ghost use Rattle.std.specs.Ordering.{nat_cmp};
-ghost use Rattle.indexes.specs.Indexed.{AreOf};
+ghost use Rattle.indexes.specs.declared.place.TheConstants.{PLACES};
+ghost use Rattle.indexes.specs.Indexed.{AreOf, has};
 ghost use Rattle.indexes.specs.Owners.{owner_at};
 ghost use Rattle.indexes.specs.Numbers.{is_customer_number, is_new_number};
+ghost use Rattle.pages.specs.Saving.{HasPages, IsLacking, IsLackingIndex, IsSavedOf, restored, with_index};
+ghost use Rattle.tpcc_rows.specs.declared.key.RowKey.{RowKey};
+ghost use Rattle.tpcc_rows.specs.declared.codes.TheConstants.{LEAVES};
 ghost use Rattle.tpcc_rows.specs.Leaves.{page_rows};
 ghost use Rattle.tpcc_rows.specs.Picks.{latest, oldest};
 ghost use Rattle.tpcc_rows.specs.RowKinds.{fits};
 ghost use Rattle.tpcc_rows.specs.Rows.{customer_row, district_row, warehouse_row};
 
+use crate::kept::{IndexPage, Kept, LeafPage};
 use crate::leaf_pages::Pages;
+use crate::saved::Saved;
 use indexes::Indexes;
 use indexes::owner::{Owner, is_nobody, owner_of, same_owner};
+use indexes::place::place_of;
 use std::alloc::Global;
 use std::collections::BTreeSet;
 use std::marker::Model;
-use tpcc_rows::codes::LEAVES;
+use tpcc_rows::codes::{LEAVES, leaf};
 use tpcc_rows::id::{CustomerId, DistrictId, OrderId, WarehouseId};
 use tpcc_rows::key::RowKey;
 use tpcc_rows::memory::Memory;
@@ -59,11 +66,51 @@ fn owner_at(pages: &Pages, key: &RowKey) -> Owner
 fn indexes_of(alloc: Global, pages: &Pages) -> Result<Indexes, Memory>
     ensures { IfOk result (λ indexes. AreOf pages.now indexes) }
 {
-    let mut indexes = Indexes::new(alloc);
+    let mut indexes = Indexes::new(alloc)?;
     for leaf in 0..LEAVES {
         indexes.add_page(pages.page(leaf))?;
     }
     Ok(indexes)
+}
+
+/// A copy of the page of the leaf, where it isn't saved.
+fn lacking_page(pages: &Pages, leaf: usize, saved: &Saved) -> Result<Option<LeafPage>, Memory>
+    requires { leaf < LEAVES }
+    ensures { IfOk result (IsLacking saved.now.kept.items pages.now leaf) }
+{
+    if saved.has_leaf(leaf) {
+        return Ok(None);
+    }
+    let rows = pages.page(leaf).copied(saved.alloc())?;
+    Ok(Some(LeafPage { leaf, rows }))
+}
+
+/// A copy of the index page at the place, where it isn't saved.
+fn lacking_index(
+    indexes: &Indexes,
+    place: Option<usize>,
+    saved: &Saved,
+) -> Result<Option<IndexPage>, Memory>
+    requires { IfSome place (λ n. n < PLACES) }
+    ensures { IfOk result (IsLackingIndex saved.now.kept.items (has indexes.now) place) }
+{
+    let Some(place) = place else {
+        return Ok(None);
+    };
+    if saved.has_place(place) {
+        return Ok(None);
+    }
+    let index = indexes.page(place).copied()?;
+    Ok(Some(IndexPage { place, index }))
+}
+
+/// The index page, where there is one, is at its place from now on.
+fn put_back(indexes: &mut Indexes, page: Option<IndexPage>)
+    ensures { (c : ℕ) (q : RowKey) → has indexes.new c q ≡ with_index page (has indexes.old) c q }
+{
+    if let Some(page) = page {
+        indexes.put_back(page.place, page.index);
+    }
 }
 
 impl RowStore {
@@ -72,7 +119,7 @@ impl RowStore {
         ensures { IfOk result (λ store. store ≡ map.empty) }
     {
         let pages = Pages::new(alloc)?;
-        let indexes = Indexes::new(alloc);
+        let indexes = Indexes::new(alloc)?;
         Ok(RowStore { pages, indexes })
     }
 
@@ -136,6 +183,33 @@ impl RowStore {
         let was = owner_at(&self.pages, key);
         self.indexes.take_out(key, &was);
         self.pages.remove(key)
+    }
+
+    /// Copies the pages that a change of the key alters into the saved ones, where these lack them.
+    pub fn save(&self, key: &RowKey, saved: &mut Saved) -> Result<(), Memory>
+        ensures there { OnOk result (HasPages saved.new.kept.items key.now) }
+        ensures rows { OnOk result (restored saved.new.kept.items self.now ≡ restored saved.old.kept.items self.now) }
+        ensures numbers { OnOk result (IsSavedOf saved.old.kept.items self.now → IsSavedOf saved.new.kept.items self.now) }
+        ensures err { OnErr result (saved.new.kept.items ≡ saved.old.kept.items) }
+    {
+        let page = lacking_page(&self.pages, leaf(key), saved)?;
+        let index = lacking_index(&self.indexes, place_of(key), saved)?;
+        if page.is_none() && index.is_none() {
+            return Ok(());
+        }
+        saved.keep(Kept { page, index })
+    }
+
+    /// Moves the saved pages back.
+    pub fn restore(&mut self, saved: Saved)
+        requires { IsSavedOf saved.kept.items self.old }
+        ensures { self.new ≡ restored saved.kept.items self.old }
+    {
+        let mut saved = saved.into_kept();
+        while let Some(kept) = saved.pop() {
+            self.pages.put_back(kept.page);
+            put_back(&mut self.indexes, kept.index);
+        }
     }
 
     /// The rows of a leaf.

@@ -3,11 +3,11 @@
 ghost use Rattle.std.specs.Prelude.{◌≡◌, IfOk};
 ghost use Rattle.profiles.specs.Found.{paying_customer};
 ghost use Rattle.tpcc_model.specs.Database.{database};
+ghost use Rattle.tpcc_model.specs.Staging.{known};
 ghost use Rattle.tpcc_model.specs.Touches.{payment_touch};
 ghost use Rattle.tpcc_rows.specs.RowMap.{Rows};
 
 use catalog::Catalog;
-use requests::reply::RequestRefusal;
 use requests::request::Payment;
 use std::alloc::Global;
 use tpcc_model::choice::chosen_customer;
@@ -18,22 +18,15 @@ use tpcc_rows::memory::Memory;
 
 /// The customer who pays, where each key of the payment has its card.
 #[tactic(auto, unfolding(tpcc_model::specs::Payments::found_cards))]
-fn paying_customer(catalog: &Catalog, p: &Payment) -> Result<CustomerId, RequestRefusal>
-    ensures { result ≡ paying_customer catalog.now p.now }
+fn paying_customer(catalog: &Catalog, p: &Payment) -> Option<CustomerId>
+    ensures { known result ≡ paying_customer catalog.now p.now }
 {
     let (warehouse, district) = (p.customer_warehouse, p.customer_district);
-    catalog
-        .warehouse(p.warehouse)
-        .ok_or(RequestRefusal::UnknownKey)?;
-    catalog
-        .district(p.warehouse, p.district)
-        .ok_or(RequestRefusal::UnknownKey)?;
-    let chosen = chosen_customer(catalog, warehouse, district, &p.customer);
-    let customer = chosen.ok_or(RequestRefusal::UnknownKey)?;
-    catalog
-        .customer(warehouse, district, customer)
-        .ok_or(RequestRefusal::UnknownKey)?;
-    Ok(customer)
+    catalog.warehouse(p.warehouse)?;
+    catalog.district(p.warehouse, p.district)?;
+    let customer = chosen_customer(catalog, warehouse, district, &p.customer)?;
+    catalog.customer(warehouse, district, customer)?;
+    Some(customer)
 }
 
 /// What a payment touches, whatever the rows are.
@@ -42,7 +35,7 @@ pub(crate) fn declare(alloc: Global, catalog: &Catalog, p: &Payment) -> Result<F
     ensures { (rows : Rows) → IfOk result (λ footprint. footprint ≡ payment_touch (database catalog.now rows) p.now) }
 {
     let mut footprint = Footprint::new(alloc);
-    let Ok(customer) = paying_customer(catalog, p) else {
+    let Some(customer) = paying_customer(catalog, p) else {
         return Ok(footprint);
     };
     footprint.write(Granule::Warehouse {

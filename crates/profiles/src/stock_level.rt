@@ -1,10 +1,9 @@
 //! Stock-Level (TPC-C clause 2.8): where the district has a card, its row and its book are read, and the stocks of the
 //! items in the lines of its last twenty orders.
-ghost use Rattle.std.specs.Prelude.{◌≡◌, ◌-◌, option_copied, IfOk, OnOk};
+ghost use Rattle.std.specs.Prelude.{◌≡◌, Some, option_copied, IfOk, OnOk};
 ghost use Rattle.serializability.specs.Footprints.{joined};
 ghost use Rattle.tpcc_model.specs.Database.{database};
-ghost use Rattle.tpcc_model.specs.StockLevels.{first_recent};
-ghost use Rattle.tpcc_model.specs.Touches.{line_touch, lines_touch, orders_touch, stock_level_touch};
+ghost use Rattle.tpcc_model.specs.Touches.{line_touch, lines_touch, recent_touch, stock_level_touch};
 
 use catalog::Catalog;
 use requests::request::StockLevel;
@@ -15,7 +14,7 @@ use tpcc_rows::footprint::Footprint;
 use tpcc_rows::granule::Granule;
 use tpcc_rows::id::OrderId;
 use tpcc_rows::memory::Memory;
-use tpcc_rows::row::OrderLineRow;
+use tpcc_rows::row::{DistrictRow, OrderLineRow};
 use worker_rows::{district_row, order_line_row};
 
 /// The stock of the line's item, where it has a card.
@@ -56,18 +55,19 @@ fn touch_lines(
     Ok(())
 }
 
-/// The last twenty orders before the next one.
+/// The last twenty orders of the district.
 fn touch_recent(
     catalog: &Catalog,
     p: &StockLevel,
     store: &PointedStore,
-    next: OrderId,
+    district: &DistrictRow,
     footprint: &mut Footprint,
 ) -> Result<(), Memory>
-    ensures { OnOk result (footprint.new ≡ joined footprint.old (orders_touch (database catalog.now store.now.rows) p.now (first_recent next) (next - first_recent next))) }
+    ensures { OnOk result (footprint.new ≡ joined footprint.old (recent_touch (database catalog.now store.now.rows) p.now (Some district.now))) }
 {
-    let first = next.number().saturating_sub(20).max(1);
-    for order in first..next.number() {
+    let next = district.next_order.number();
+    let first = next.saturating_sub(20).max(1);
+    for order in first..next {
         touch_lines(catalog, p, store, order_id(order), footprint)?;
     }
     Ok(())
@@ -96,7 +96,7 @@ pub(crate) fn declare(
         district,
     })?;
     if let Some(row) = district_row(store, warehouse, district) {
-        touch_recent(catalog, p, store, row.next_order, &mut footprint)?;
+        touch_recent(catalog, p, store, row, &mut footprint)?;
     }
     Ok(footprint)
 }

@@ -109,7 +109,7 @@ impl From<Memory> for ReadError {
 }
 
 /// What is wrong with a record, apart from its number.
-#[derive(Clone, Copy, Debug, PartialEq, Eq)]
+#[derive(Clone, Copy, PartialEq, Eq)]
 pub enum Slip {
     BadField,
     WrongCount,

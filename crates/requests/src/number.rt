@@ -5,7 +5,7 @@ ghost use Rattle.tpcc_rows.specs.Limits.{IsBetween, between};
 use std::marker::Model;
 
 /// How many of an item a new order takes: 1 to 10 (TPC-C clause 2.4.1.5).
-#[derive(Clone, Copy, Debug, PartialEq, Eq)]
+#[derive(Clone, Copy, PartialEq, Eq)]
 pub struct OrderedQuantity {
     value: u8,
 }
@@ -44,7 +44,7 @@ impl OrderedQuantity {
 }
 
 /// What a payment pays: 1.00 to 5,000.00, in whole cents (TPC-C clause 2.5.1.3).
-#[derive(Clone, Copy, Debug, PartialEq, Eq)]
+#[derive(Clone, Copy, PartialEq, Eq)]
 pub struct PaymentAmount {
     cents: u32,
 }
@@ -83,7 +83,7 @@ impl PaymentAmount {
 }
 
 /// Below how many of an item a stock is low: 10 to 20 (TPC-C clause 2.8.1.2).
-#[derive(Clone, Copy, Debug, PartialEq, Eq)]
+#[derive(Clone, Copy, PartialEq, Eq)]
 pub struct Threshold {
     value: u8,
 }

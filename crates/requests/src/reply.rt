@@ -9,7 +9,7 @@ use tpcc_rows::number::{Amount, Carrier, Cents, LineQuantity, Moment, StockQuant
 use tpcc_rows::text::Text;
 
 /// Why a request changes nothing.
-#[derive(Clone, Copy, Debug, PartialEq, Eq)]
+#[derive(Clone, Copy, PartialEq, Eq)]
 pub enum RequestRefusal {
     /// A new order names an item that isn't there (TPC-C clause 2.4.2.3).
     ItemNotValid,
@@ -20,14 +20,14 @@ pub enum RequestRefusal {
 }
 
 /// `Brand` where the item's data and the stock's data both name it so, else `Generic` (TPC-C clause 2.4.2.2).
-#[derive(Clone, Copy, Debug, PartialEq, Eq)]
+#[derive(Clone, Copy, PartialEq, Eq)]
 pub enum Brand {
     Brand,
     Generic,
 }
 
 /// What is answered for one line of a new order: what the stock then has, and what the line costs.
-#[derive(Clone, Copy, Debug, PartialEq, Eq)]
+#[derive(Clone, Copy)]
 pub struct LineReply {
     pub stock: StockQuantity,
     pub brand: Brand,
@@ -112,7 +112,7 @@ pub struct PaymentReply {
 }
 
 /// One line of an order that is shown.
-#[derive(Clone, Copy, Debug, PartialEq, Eq)]
+#[derive(Clone, Copy)]
 pub struct ShownLine {
     pub item: ItemId,
     pub supply: WarehouseId,
@@ -200,13 +200,13 @@ pub struct OrderStatusReply {
 }
 
 /// What is answered to a delivery: by district from the first, the order that was delivered, if there was one.
-#[derive(Clone, Copy, Debug, PartialEq, Eq)]
+#[derive(Clone, Copy)]
 pub struct DeliveryReply {
     pub orders: [Option<OrderId>; 10],
 }
 
 /// What is answered to the question for low stocks: how many items.
-#[derive(Clone, Copy, Debug, PartialEq, Eq)]
+#[derive(Clone, Copy)]
 pub struct StockLevelReply {
     pub low_stock: u32,
 }

@@ -22,7 +22,7 @@ pub enum CustomerChoice {
 }
 
 /// One line of a new order: which item, out of which warehouse's stock, and how many.
-#[derive(Clone, Copy, Debug, PartialEq, Eq)]
+#[derive(Clone, Copy)]
 pub struct OrderedLine {
     pub item: ItemId,
     pub supply: WarehouseId,
@@ -116,14 +116,14 @@ pub struct OrderStatus {
 }
 
 /// The delivery of the oldest new order of each district of a warehouse (TPC-C clause 2.7.1).
-#[derive(Clone, Copy, Debug, PartialEq, Eq)]
+#[derive(Clone, Copy)]
 pub struct Delivery {
     pub warehouse: WarehouseId,
     pub carrier: Carrier,
 }
 
 /// The question how many of the items that a district sold lately are low in stock (TPC-C clause 2.8.1).
-#[derive(Clone, Copy, Debug, PartialEq, Eq)]
+#[derive(Clone, Copy)]
 pub struct StockLevel {
     pub warehouse: WarehouseId,
     pub district: DistrictId,
@@ -141,7 +141,7 @@ pub enum Request {
 }
 
 /// Which of the five transactions.
-#[derive(Clone, Copy, Debug, PartialEq, Eq)]
+#[derive(Clone, Copy, PartialEq, Eq)]
 pub enum RequestKind {
     NewOrder,
     Payment,
@@ -166,7 +166,7 @@ impl Request {
 
 /// What the replicas agreed on for a batch: that its execution stands, or that it is executed once more, one
 /// request after the other.
-#[derive(Clone, Copy, Debug, PartialEq, Eq)]
+#[derive(Clone, Copy, PartialEq, Eq)]
 pub enum Verdict {
     Commit,
     Rerun,

@@ -1,6 +1,6 @@
 -- What a change of rows leaves on the other leaves.
-use Rattle.std.proofs.Common.{◌≡◌, ℕ, Bool, true, false, cond, ◌||◌, eqb, List, [], ◌∷◌, ◌++◌, get_or, Option, None, refl, sym, ap, ◌∙◌, ◌<◌, ◌≤◌, ◌⊎◌, inl, inr, replicate, length, nat_lt, arith}
-use Rattle.std.proofs.lemmas.Bool.{eqb-true, ltb-false, lt-ltb, le-ltb}
+use Rattle.std.proofs.Common.{◌≡◌, ℕ, Bool, true, false, cond, ◌||◌, eqb, List, [], ◌∷◌, ◌++◌, get_or, Option, None, refl, sym, ap, ◌∙◌, ◌<◌, ◌≤◌, ◌⊎◌, inl, inr, replicate, nat_lt, arith}
+use Rattle.std.proofs.lemmas.Bool.{eqb-true, ltb-false}
 use Rattle.std.proofs.lemmas.List.{get_or-replicate, get_or_past, length-replicate}
 use Rattle.std.specs.List.{list_any}
 use Rattle.std.specs.FinMap.{get, same_map}
@@ -13,7 +13,7 @@ use Rattle.tpcc_rows.specs.Leaves.{leaf, page_rows}
 use Rattle.tpcc_rows.proofs.Keys.{row_key_cmp_total, exact_keys}
 use Rattle.tpcc_rows.proofs.LeafPicks.{leaf-small}
 use Rattle.pages.proofs.Paging.{get-page_rows, other_leaf}
-use Rattle.rollback.specs.Marks.{is_dirty, HasAlso, HasAlsoAll}
+use Rattle.rollback.specs.Marks.{is_dirty, HasAlso}
 use Rattle.rollback.specs.Pointed.{Pointed, KeepsCleanLeaves}
 
 pub no-marks : (m n : ℕ) → get_or (replicate m false) n false ≡ false
@@ -24,20 +24,11 @@ no-marks m n =
       | inr large ↦ get_or_past (replicate m false) n false (rw (length-replicate m false) large)
     ]
 
--- all marks of a set, and none past them
-pub all-marks : (m n : ℕ) (old : List Bool) → length old ≡ m → get_or (replicate m true) n false ≡ (nat_lt n m || get_or old n false)
-all-marks m n old full =
-    let cases : (n < m) ⊎ (m ≤ n) = grind arith in
-    elim cases [
-      | inl small ↦ get_or-replicate m n true false small ∙ ap (λ b. b || get_or old n false) (sym (lt-ltb n m small))
-      | inr large ↦ get_or_past (replicate m true) n false (rw (length-replicate m true) large) ∙ sym (get_or_past old n false (rw full large)) ∙ ap (λ b. b || get_or old n false) (sym (le-ltb n m large))
-    ]
-
-or-left : (a b : Bool) → (a || b) ≡ false → a ≡ false
+pub or-left : (a b : Bool) → (a || b) ≡ false → a ≡ false
 or-left true b h = h
 or-left false b h = refl
 
-or-right : (a b : Bool) → (a || b) ≡ false → b ≡ false
+pub or-right : (a b : Bool) → (a || b) ≡ false → b ≡ false
 or-right true b h = cc
 or-right false b h = h
 
@@ -69,16 +60,8 @@ past-leaves n past q = elim (eqb (leaf q) n) as (λ b. eqb (leaf q) n ≡ b → 
 get-past : (rows : Rows) (n : ℕ) → nat_lt n 4096 ≡ false → (q : RowKey) → get (page_rows rows n) q ≡ None
 get-past rows n past q = get-page_rows rows n q ∙ ap (λ t. cond t (get rows q) None) (past-leaves n past q)
 
-page-past : (a b : Rows) (n : ℕ) → nat_lt n 4096 ≡ false → page_rows a n ≡ page_rows b n
+pub page-past : (a b : Rows) (n : ℕ) → nat_lt n 4096 ≡ false → page_rows a n ≡ page_rows b n
 page-past a b n past = same_map row_key_cmp_total exact_keys _ _ (λ q. get-past a n past q ∙ sym (get-past b n past q))
-
--- where all leaves are marked, rows may change everywhere
-pub keeps-all : (before old new : Pointed) → before ≡ old → HasAlsoAll before.dirty new.dirty → KeepsCleanLeaves old new
-keeps-all before old new view marks n clean =
-    let both : (nat_lt n 4096 || is_dirty before.dirty n) ≡ false = sym (marks n) ∙ clean in (
-      ap (λ (p : Pointed). is_dirty p.dirty n) (sym view) ∙ or-right (nat_lt n 4096) (is_dirty before.dirty n) both,
-      page-past new.rows old.rows n (or-left (nat_lt n 4096) (is_dirty before.dirty n) both),
-    )
 
 pub keeps-more : (a b c : Pointed) → KeepsCleanLeaves a b → KeepsCleanLeaves b c → KeepsCleanLeaves a c
 keeps-more a b c first second n clean =

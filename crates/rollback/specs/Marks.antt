@@ -1,10 +1,12 @@
 -- Sets of leaves, as a mark a leaf.
-use Rattle.std.specs.Prelude.{◌≡◌, ℕ, Bool, false, ◌||◌, eqb, nat_lt, List, get_or}
+use Rattle.std.specs.Prelude.{◌≡◌, ℕ, Bool, false, ◌&&◌, ◌||◌, eqb, nat_lt, List, get_or}
 use Rattle.std.specs.List.{list_any}
 use Rattle.std.specs.FinMap as map
 use Rattle.tpcc_rows.specs.Leaves.{leaf}
 use Rattle.tpcc_rows.specs.declared.codes.TheConstants.{LEAVES}
 use Rattle.tpcc_rows.specs.RowMap.{Changes}
+use Rattle.pages.specs.declared.saved.Saved.{Saved}
+use Rattle.pages.specs.Saving.{has_leaf}
 
 -- whether the leaf is one of them
 abbrev pub is_dirty : List Bool → ℕ → Bool
@@ -17,9 +19,9 @@ AreClean marks = (n : ℕ) → is_dirty marks n ≡ false
 abbrev pub HasAlso : List Bool → ℕ → List Bool → Type 0
 HasAlso old leaf new = (n : ℕ) → is_dirty new n ≡ (eqb n leaf || is_dirty old n)
 
--- the new leaves are the old ones and all of the tree's
-abbrev pub HasAlsoAll : List Bool → List Bool → Type 0
-HasAlsoAll old new = (n : ℕ) → is_dirty new n ≡ (nat_lt n LEAVES || is_dirty old n)
+-- the new leaves are the old ones and those whose pages are saved
+abbrev pub HasAlsoSaved : List Bool → Saved → List Bool → Type 0
+HasAlsoSaved old saved new = (n : ℕ) → is_dirty new n ≡ ((nat_lt n LEAVES && has_leaf saved.kept.items n) || is_dirty old n)
 
 -- whether one of the changes is on the leaf
 abbrev pub changes_leaf : Changes → ℕ → Bool

@@ -1,7 +1,8 @@
 //! Sets of leaves.
 ghost use Rattle.std.specs.Prelude.{count_by, ◌≡◌, ◌<◌};
-ghost use Rattle.rollback.specs.Marks.{AreClean, HasAlso, HasAlsoAll, is_dirty};
+ghost use Rattle.rollback.specs.Marks.{AreClean, HasAlso, HasAlsoSaved, is_dirty};
 
+use pages::Saved;
 use std::marker::Model;
 use std::mem;
 use tpcc_rows::codes::LEAVES;
@@ -59,11 +60,15 @@ impl Dirty {
         self.marks[leaf] = true;
     }
 
-    /// All leaves are in the set from now on.
-    pub(crate) fn add_all(&mut self)
-        ensures { HasAlsoAll self.old self.new }
+    /// The leaves whose pages are saved are in the set too from now on.
+    pub(crate) fn add_saved(&mut self, saved: &Saved)
+        ensures { HasAlsoSaved self.old saved.now self.new }
     {
-        self.marks = [true; LEAVES];
+        for leaf in 0..LEAVES {
+            let is_saved = saved.has_leaf(leaf);
+            let is_dirty = self.marks[leaf];
+            self.marks[leaf] = is_dirty || is_saved;
+        }
     }
 
     /// The set as it was; it is empty from now on.

@@ -7,4 +7,4 @@ pub mod refusal;
 
 pub use dirty::Dirty;
 pub use pointed::{POINTS, PointedStore};
-pub use refusal::{MarkError, NoSuchPoint, RewindError};
+pub use refusal::{NoSuchPoint, PointsFull};

@@ -1,5 +1,5 @@
 //! Rows, the points to which they can go back, and the leaves on which they have changed.
-ghost use Rattle.std.specs.Prelude.{◌≡◌, ◌<◌, ◌≤◌, ◌+◌, ◌↔◌, [], ◌∷◌, ◌++◌, take, drop, IfSome, IsErr, Err, Some, OnOk, OnErr, length, option_copied, slice_get, true};
+ghost use Rattle.std.specs.Prelude.{◌≡◌, ◌<◌, ◌≤◌, ◌+◌, ◌↔◌, [], ◌∷◌, ◌++◌, take, drop, IfOk, IfSome, IsErr, Some, OnOk, OnErr, length, option_copied, slice_get, true};
 ghost use Rattle.std.specs.FinMap as map;
 ghost use Rattle.serializability.specs.Changes.{changed};
 ghost use Rattle.tpcc_rows.specs.Changing.{IsMadeInPart, after, new_row_fits};
@@ -8,13 +8,12 @@ ghost use Rattle.tpcc_rows.specs.Picks.{latest, oldest};
 ghost use Rattle.tpcc_rows.specs.RowKinds.{fits};
 ghost use Rattle.tpcc_rows.specs.Rows.{customer_row, district_row, warehouse_row};
 ghost use Rattle.rollback.specs.Marks.{AreClean, HasAlso, HasAlsoThose};
-ghost use Rattle.rollback.specs.Pointed.{KeepsCleanLeaves};
-ghost use Rattle.rollback.specs.declared.refusal.MarkError.TheVariants as mark_error;
-ghost use Rattle.rollback.specs.declared.refusal.RewindError.TheVariants as rewind_error;
+ghost use Rattle.rollback.specs.Pointed.{AreSaved, KeepsCleanLeaves, NewestHas, points_of};
 
 use crate::dirty::Dirty;
-use crate::refusal::{MarkError, NoSuchPoint, RewindError};
-use pages::RowStore;
+use crate::refusal::{NoSuchPoint, PointsFull};
+use arrayvec::ArrayVec;
+use pages::{RowStore, Saved};
 use std::alloc::Global;
 use std::marker::Model;
 use tpcc_rows::codes::{LEAVES, leaf};
@@ -29,11 +28,12 @@ use tpcc_rows::row::{CustomerRow, DistrictRow, Row, WarehouseRow};
 pub const POINTS: usize = 1;
 
 /// Rows, points to which they can go back, and the set of the leaves on which they have changed since it was last taken.
-/// A point is a copy of the rows.
+/// A point is the pages that have changed since it was made and before the next one was, as they were.
 #[derive(Drop)]
 pub struct PointedStore {
+    alloc: Global,
     store: RowStore,
-    points: Vec<RowStore>,
+    points: ArrayVec<Saved, POINTS, Global>,
     dirty: Dirty,
 }
 
@@ -44,7 +44,24 @@ impl Model for PointedStore {
 
     ghost coded = { pointed_code };
 
-    ghost view = { λ s. record { rows = s.store; points = s.points.items; dirty = s.dirty } };
+    ghost use Rattle.rollback.specs.Pointed.{AreSaved, points_of};
+
+    ghost view = { λ s. record { rows = s.store; points = points_of s.points.items s.store; dirty = s.dirty } };
+
+    ghost invariant = { λ s. AreSaved s.points.items s.store };
+}
+
+/// The newest point, if there is one, has the pages that a change of the key alters from now on, and stands for what it did.
+fn save_newest(store: &RowStore, key: &RowKey, points: &mut [Saved]) -> Result<(), Memory>
+    ensures points { points_of points.new store.now ≡ points_of points.old store.now }
+    ensures saved { AreSaved points.old store.now → AreSaved points.new store.now }
+    ensures there { OnOk result (NewestHas points.new key.now) }
+{
+    let len = points.len();
+    if len == 0 {
+        return Ok(());
+    }
+    store.save(key, &mut points[len - 1])
 }
 
 impl PointedStore {
@@ -55,8 +72,9 @@ impl PointedStore {
         ensures clean { AreClean result.dirty }
     {
         PointedStore {
+            alloc,
             store,
-            points: Vec::new(alloc),
+            points: ArrayVec::new_in(alloc),
             dirty: Dirty::new(),
         }
     }
@@ -134,6 +152,7 @@ impl PointedStore {
         ensures err { OnErr result (self.new ≡ self.old) }
         ensures clean { KeepsCleanLeaves self.old self.new }
     {
+        save_newest(&self.store, &key, self.points.as_mut_slice())?;
         let leaf = leaf(&key);
         self.store.put(key, row)?;
         self.dirty.add(leaf);
@@ -141,15 +160,17 @@ impl PointedStore {
     }
 
     /// The key has no row from now on, and its leaf is dirty; the answer is the row that it had.
-    pub fn remove(&mut self, key: &RowKey) -> Option<Row>
-        ensures value { result ≡ map.get self.old.rows key.now }
-        ensures rows { self.new.rows ≡ map.remove self.old.rows key.now }
-        ensures dirty { HasAlso self.old.dirty (leaf key.now) self.new.dirty }
+    pub fn remove(&mut self, key: &RowKey) -> Result<Option<Row>, Memory>
+        ensures value { IfOk result (λ row. row ≡ map.get self.old.rows key.now) }
+        ensures rows { OnOk result (self.new.rows ≡ map.remove self.old.rows key.now) }
+        ensures dirty { OnOk result (HasAlso self.old.dirty (leaf key.now) self.new.dirty) }
         ensures points { self.new.points ≡ self.old.points }
+        ensures err { OnErr result (self.new ≡ self.old) }
         ensures clean { KeepsCleanLeaves self.old self.new }
     {
+        save_newest(&self.store, key, self.points.as_mut_slice())?;
         self.dirty.add(leaf(key));
-        self.store.remove(key)
+        Ok(self.store.remove(key))
     }
 
     fn change(&mut self, key: &RowKey, new_row: &Option<Row>) -> Result<(), Memory>
@@ -163,7 +184,7 @@ impl PointedStore {
         match new_row {
             Some(row) => self.put(*key, row.copied()?),
             None => {
-                let _ = self.remove(key);
+                self.remove(key)?;
                 Ok(())
             }
         }
@@ -196,24 +217,34 @@ impl PointedStore {
 
     /// How many points there are.
     pub fn points(&self) -> usize
-        ensures { result ≡ length self.now.points }
+        ensures value { result ≡ length self.now.points }
+        ensures few { result ≤ POINTS }
     {
         self.points.len()
     }
 
+    /// The present rows become the newest point, for which there is a place.
+    fn push_point(&mut self)
+        requires { length self.old.points < POINTS }
+        ensures points { self.new.points ≡ self.old.points ++ self.old.rows ∷ [] }
+        ensures rows { self.new.rows ≡ self.old.rows }
+        ensures dirty { self.new.dirty ≡ self.old.dirty }
+    {
+        self.points.push(Saved::new(self.alloc));
+    }
+
     /// The present rows become the newest point.
-    pub fn mark(&mut self, alloc: Global) -> Result<(), MarkError>
+    pub fn mark(&mut self) -> Result<(), PointsFull>
         ensures points { OnOk result (self.new.points ≡ self.old.points ++ self.old.rows ∷ []) }
-        ensures full { (result ≡ Err mark_error.PointsFull) ↔ (POINTS ≤ length self.old.points) }
+        ensures full { IsErr result ↔ (POINTS ≤ length self.old.points) }
         ensures rows { self.new.rows ≡ self.old.rows }
         ensures dirty { self.new.dirty ≡ self.old.dirty }
         ensures err { OnErr result (self.new ≡ self.old) }
     {
-        if self.points.len() >= POINTS {
-            return Err(MarkError::PointsFull);
+        if self.points() >= POINTS {
+            return Err(PointsFull);
         }
-        let point = self.store.copied(alloc)?;
-        self.points.push(point)?;
+        self.push_point();
         Ok(())
     }
 
@@ -225,11 +256,26 @@ impl PointedStore {
         ensures dirty { self.new.dirty ≡ self.old.dirty }
         ensures err { OnErr result (self.new ≡ self.old) }
     {
-        if self.points.is_empty() {
+        if self.points() == 0 {
             return Err(NoSuchPoint);
         }
         self.points.remove(0);
         Ok(())
+    }
+
+    /// The rows are those of the point from now on. It and the later ones are forgotten.
+    fn go_back(&mut self, point: usize)
+        requires { point < length self.old.points }
+        ensures rows { slice_get self.old.points point ≡ Some self.new.rows }
+        ensures points { self.new.points ≡ take point self.old.points }
+        ensures clean { KeepsCleanLeaves self.old self.new }
+    {
+        while self.points.len() > point {
+            if let Some(saved) = self.points.pop() {
+                self.dirty.add_saved(&saved);
+                self.store.restore(saved);
+            }
+        }
     }
 
     /// The rows are those of the point from now on, of which the oldest is 0. It and the later ones are forgotten.
@@ -240,29 +286,26 @@ impl PointedStore {
         ensures err { OnErr result (self.new ≡ self.old) }
         ensures clean { KeepsCleanLeaves self.old self.new }
     {
-        if point >= self.points.len() {
+        if point >= self.points() {
             return Err(NoSuchPoint);
         }
-        self.store = self.points.remove(point);
-        self.points.truncate(point);
-        self.dirty.add_all();
+        self.go_back(point);
         Ok(())
     }
 
     /// The rows are those of the point from now on, of which the oldest is 0. The later ones are forgotten.
-    pub fn rewind(&mut self, alloc: Global, point: usize) -> Result<(), RewindError>
+    pub fn rewind(&mut self, point: usize) -> Result<(), NoSuchPoint>
         ensures rows { OnOk result (slice_get self.old.points point ≡ Some self.new.rows) }
         ensures points { OnOk result (self.new.points ≡ take (point + 1) self.old.points) }
-        ensures none { (result ≡ Err rewind_error.NoSuchPoint) ↔ (length self.old.points ≤ point) }
+        ensures none { IsErr result ↔ (length self.old.points ≤ point) }
         ensures err { OnErr result (self.new ≡ self.old) }
         ensures clean { KeepsCleanLeaves self.old self.new }
     {
-        if point >= self.points.len() {
-            return Err(RewindError::NoSuchPoint);
+        if self.points() <= point {
+            return Err(NoSuchPoint);
         }
-        self.store = self.points[point].copied(alloc)?;
-        self.points.truncate(point + 1);
-        self.dirty.add_all();
+        self.go_back(point);
+        self.push_point();
         Ok(())
     }
 }

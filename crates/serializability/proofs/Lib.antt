@@ -1,5 +1,6 @@
 pub mod Agreement
 pub mod Batches
+pub mod BitSets
 pub mod Changes
 pub mod Cuts
 pub mod Examples
@@ -7,7 +8,9 @@ pub mod Folding
 pub mod Footprints
 pub mod JobOrders
 pub mod LevelNumbers
+pub mod LevelRows
 pub mod LevelRuns
 pub mod Lists
+pub mod RowSteps
 pub mod Signatures
 pub mod Swaps

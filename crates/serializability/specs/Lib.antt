@@ -1,8 +1,10 @@
+pub mod BitSets
 pub mod Changes
 pub mod Folds
 pub mod Footprints
 pub mod Framed
 pub mod Laws
+pub mod LevelRows
 pub mod Levels
 pub mod Machines
 pub mod Signatures

@@ -11,6 +11,9 @@
 //!   after the other (`serial`).
 //! - `LevelNumbers`: of two requests of a batch that meet, the later one has the greater level (`levels_rise`).
 //! - `Signatures`: footprints without a bit in common are apart (`apart_by_bits`).
+//! - `RowSteps`: with one set of bits for what each level reads and one for what it writes, of any length, the level of the
+//!   next footprint is one more than the greater of two places: the last set that meets what it writes, among those of what
+//!   is read, and the last that meets what it reads, among those of what is written (`level_by_rows`).
 //! - `Agreement`: what is picked at keys where two maps agree, and nowhere else, is the same in both (`same_picks`).
 //! - `Changes`: rows that differ by the last changes of each key alone are the rows after the changes (`applied`).
 //!

@@ -5,10 +5,10 @@ use Rattle.std.proofs.lemmas.Nat.Bits.{bit_at-trailing_zeros}
 use Rattle.std.specs.Int.{bit_at, trailing_zeros}
 use Rattle.std.specs.List.{list_any, range_with_len}
 use Rattle.std.specs.Simd.Lanes.{zip2, fold_l}
-use Rattle.signatures_simd.specs.Signatures.{has, meet}
+use Rattle.serializability.specs.BitSets.{has, meet}
+use Rattle.serializability.proofs.BitSets.{meet_at, common_bit, same_Bool, or_none}
 use Rattle.signatures_simd.specs.Words.{word_bits, words_bits}
-use Rattle.signatures_simd.proofs.Signatures.{meet_at, common_bit, same_Bool}
-use Rattle.signatures_simd.proofs.Words.{word_or, or_none, or_assoc, has-word_bits, has_both}
+use Rattle.signatures_simd.proofs.Words.{word_or, or_assoc, has-word_bits, has_both}
 
 -- some bit is in the list
 abbrev any : List Bool → Bool

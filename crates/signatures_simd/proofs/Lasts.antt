@@ -2,7 +2,7 @@
 use Rattle.std.proofs.Common.{◌≡◌, ℕ, zero, suc, ◌+◌, ◌<◌, ◌≤◌, Bool, true, false, List, [], ◌∷◌, Some, None, length, get_or, drop, sym, ap, ◌∙◌, arith, if◌then◌else◌}
 use Rattle.std.proofs.lemmas.List.{drop_more, drop_all}
 use Rattle.std.specs.Option.{option_or}
-use Rattle.signatures_simd.specs.Signatures.{last_from}
+use Rattle.serializability.specs.LevelRows.{last_from}
 
 module _ {X : Type 0} (p : X → Bool) where
   -- the last place from i on, from that behind i

@@ -7,7 +7,8 @@ use Rattle.std.specs.Simd.Lanes.{zip2}
 use Rattle.std.proofs.lemmas.List.FromFn.{get_or-map-range_with_len, length-map-range_with_len}
 use Rattle.std.proofs.lemmas.Nat.Bits.{bit_at-zero, bit_at-lt, bit_at_or, bit_at_and, bit_at_set_same, bit_at_set_other}
 use Rattle.std.specs.Int.{bit_at}
-use Rattle.signatures_simd.specs.Signatures.{has}
+use Rattle.serializability.specs.BitSets.{has}
+use Rattle.serializability.proofs.BitSets.{or_none}
 use Rattle.signatures_simd.specs.Words.{word_bits, words_bits}
 
 length-word_bits : (w : ℕ) → length (word_bits w) ≡ 64
@@ -97,10 +98,6 @@ has_both vs ws b same =
 pub or_assoc : (x y z : Bool) → ((x || y) || z) ≡ (x || (y || z))
 or_assoc true y z = refl
 or_assoc false y z = refl
-
-pub or_none : (x y : Bool) → y ≡ false → (x || y) ≡ x
-or_none true y h = refl
-or_none false y h = h
 
 -- in one word, numbers are the same where their rests are
 same_rest : (b k : ℕ) → b / 64 ≡ k / 64 → (b % 64 == k % 64) ≡ (b == k)

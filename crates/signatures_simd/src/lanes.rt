@@ -1,7 +1,7 @@
 //! The eight words of a signature in one vector, a word in each lane.
 ghost use Rattle.std.specs.Prelude.{◌≡◌, ℕ, ◌||◌};
 ghost use Rattle.std.specs.List.{list_any};
-ghost use Rattle.signatures_simd.specs.Signatures.{has, meet};
+ghost use Rattle.serializability.specs.BitSets.{has, meet};
 ghost use Rattle.signatures_simd.specs.Words.{word_bits, words_bits};
 
 use std::simd::prelude::*;

@@ -1,7 +1,8 @@
 //! Signatures, and the tests whether they meet.
 ghost use Rattle.std.specs.Prelude.{◌≡◌, ℕ, ◌||◌, map};
+ghost use Rattle.serializability.specs.BitSets.{IsSignatureOf, has, meet};
+ghost use Rattle.serializability.specs.LevelRows.{last_from};
 ghost use Rattle.signatures_simd.specs.Bits.{bit};
-ghost use Rattle.signatures_simd.specs.Signatures.{IsSignatureOf, has, meet, last_from};
 
 use crate::bit::granule_bit;
 use crate::lanes::{either, have_common};

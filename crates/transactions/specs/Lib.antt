@@ -6,3 +6,5 @@ pub mod Faults
 pub mod NewOrderParts
 pub mod DeliveryParts
 pub mod LowItems
+pub mod OnViews
+pub mod PaymentParts

@@ -5,10 +5,8 @@ use Rattle.requests.specs.declared.reply.Reply.{Reply}
 use Rattle.requests.specs.declared.reply.Reply.TheVariants as reply
 use Rattle.requests.specs.declared.reply.RequestRefusal.{RequestRefusal}
 use Rattle.requests.specs.declared.request.RequestKind.{RequestKind}
-use Rattle.tpcc_model.specs.Payments.{Paid}
 use Rattle.tpcc_model.specs.Steps.{StepOutcome}
 use Rattle.tpcc_rows.specs.RowMap.{Changes}
-use Rattle.transactions.specs.declared.payment.NewRows.{NewRows}
 use Rattle.transactions.specs.declared.fault.Fault.{Fault}
 use Rattle.transactions.specs.declared.fault.Fault.TheVariants as fault
 use Rattle.transactions.specs.declared.exec_error.ExecError.{ExecError}
@@ -39,6 +37,3 @@ concluded k (Err fault.Memory) = Err exec_error.Memory
 abbrev pub viewed : {A B : Type 0} → (A → B) → Result A RequestRefusal → Result B RequestRefusal
 viewed view (Ok x) = Ok (view x)
 viewed view (Err why) = Err why
-
-abbrev pub paid_of : NewRows → Paid
-paid_of n = record { warehouse = n.warehouse; district = n.district; customer = n.customer; history = n.history; customer_id = n.customer_id; credit = n.credit }

@@ -3,19 +3,18 @@
 ghost use Rattle.std.specs.Prelude.{◌≡◌, ◌≤◌, is_ok, map, option_copied, IfOk, OnOk};
 ghost use Rattle.std.specs.List.{list_all};
 ghost use Rattle.requests.specs.declared.request.RequestKind.TheVariants as kind;
-ghost use Rattle.tpcc_model.specs.Database.{database};
-ghost use Rattle.tpcc_model.specs.Deliveries.{amount_of, carried, credited, delivery, districts_delivered, line_dated, lines_amount, lines_dated, oldest_delivered, order_delivered};
+ghost use Rattle.tpcc_model.specs.Deliveries.{amount_of, carried, credited, delivery, districts_delivered, lines_amount, lines_dated, oldest_delivered, order_delivered};
+ghost use Rattle.tpcc_model.specs.Staging.{within};
 ghost use Rattle.tpcc_model.specs.Steps.{delivery_outcome};
 ghost use Rattle.tpcc_model.specs.Touches.{credited_touch, delivery_touch, district_touch, oldest_touch};
 ghost use Rattle.tpcc_rows.specs.Changing.{after};
 ghost use Rattle.tpcc_rows.specs.Limits.{ten};
 ghost use Rattle.tpcc_rows.specs.Picks.{oldest};
-ghost use Rattle.tpcc_rows.specs.Rows.{order_line_row};
-ghost use Rattle.tpcc_rows.specs.declared.key.RowKey.TheVariants as key;
-ghost use Rattle.transactions.specs.DeliveryParts.{delivered_of};
-ghost use Rattle.transactions.specs.Faults.{AnswersBy, AnswersWithin};
+ghost use Rattle.transactions.specs.DeliveryParts.{dated_at, delivered_of};
+ghost use Rattle.transactions.specs.Faults.{AnswersBy};
 ghost use Rattle.transactions.specs.Lending.{lent};
-ghost use Rattle.transactions.specs.Outcomes.{Executes, concluded};
+ghost use Rattle.transactions.specs.OnViews.{AnswersOn, ExecutesOn};
+ghost use Rattle.transactions.specs.Outcomes.{concluded};
 ghost use Rattle.worker_rows.specs.Views.{covers};
 
 use crate::fault::Fault;
@@ -68,19 +67,14 @@ fn lines_amount<V: RowView>(
     amount
 }
 
+/// None where a limit is passed.
 #[tactic(auto, unfolding(tpcc_model::specs::Deliveries::credited))]
-fn credited(old: &CustomerRow, amount: u32) -> Result<CustomerRow, RequestRefusal>
-    ensures { result ≡ credited old.now amount }
+fn credited(old: &CustomerRow, amount: u32) -> Option<CustomerRow>
+    ensures { within result ≡ credited old.now amount }
 {
-    let balance = old
-        .balance
-        .raised(amount)
-        .ok_or(RequestRefusal::LimitReached)?;
-    let delivery_count = old
-        .delivery_count
-        .raised(1)
-        .ok_or(RequestRefusal::LimitReached)?;
-    Ok(CustomerRow {
+    let balance = old.balance.raised(amount)?;
+    let delivery_count = old.delivery_count.raised(1)?;
+    Some(CustomerRow {
         balance,
         ytd_payment: old.ytd_payment,
         payment_count: old.payment_count,
@@ -99,7 +93,7 @@ fn line_dated<V: RowView>(
     number: LineNumber,
     changes: &mut Delta,
 ) -> Result<(), Memory>
-    ensures { OnOk result (changes.new ≡ line_dated moment (key.OrderLine p.now.warehouse district order number) (order_line_row (after (lent (V.sees view.now)) changes.old) p.now.warehouse district order number) changes.old) }
+    ensures { OnOk result (changes.new ≡ dated_at (lent (V.sees view.now)) p.now moment district order number changes.old) }
 {
     let rows = Seen {
         lent: Lent { view },
@@ -190,7 +184,7 @@ fn order_delivered<V: RowView>(
     let old = customer_row(&rows, p.warehouse, district, row.customer);
     let old = old.ok_or(RequestRefusal::UnknownKey)?;
     let amount = lines_amount(view, changes, p, district, order, row.line_count);
-    let new = credited(old, amount)?;
+    let new = credited(old, amount).ok_or(RequestRefusal::LimitReached)?;
     carried(p, district, order, row, changes)?;
     lines_dated(view, p, moment, district, order, row.line_count, changes)?;
     let customer_key = RowKey::Customer {
@@ -315,7 +309,7 @@ fn delivery<V: RowView>(
     moment: Moment,
     view: &V,
 ) -> Result<(DeliveryReply, Delta), Fault>
-    ensures { let db = database catalog.now (lent (V.sees view.now)) in AnswersWithin delivered_of (covers (V.sees view.now) (delivery_touch db p.now)) (delivery db p.now moment) result }
+    ensures { AnswersOn delivered_of (λ db. delivery_touch db p.now) (λ db. delivery db p.now moment) catalog.now (V.sees view.now) result }
 {
     catalog
         .warehouse(p.warehouse)
@@ -334,7 +328,8 @@ pub(crate) fn execute<V: RowView>(
     moment: Moment,
     view: &V,
 ) -> Result<(Reply, Delta), Fault>
-    ensures { let db = database catalog.now (lent (V.sees view.now)) in Executes (covers (V.sees view.now) (delivery_touch db p.now)) (delivery_outcome (delivery db p.now moment)) (concluded kind.Delivery result) }
+    ensures { ExecutesOn (λ db. delivery_touch db p.now) (λ db. delivery_outcome (delivery db p.now moment)) catalog.now (V.sees view.now)
+        (concluded kind.Delivery result) }
 {
     let (reply, changes) = delivery(alloc, catalog, p, moment, view)?;
     Ok((Reply::Delivery(reply), changes))

@@ -3,15 +3,15 @@
 ghost use Rattle.std.specs.Prelude.{◌≡◌, ◌<◌, ◌≤◌, ◌+◌, pos, [], length, map, IfOk, OnOk};
 ghost use Rattle.std.specs.List.{list_all, sum_by};
 ghost use Rattle.requests.specs.declared.request.RequestKind.TheVariants as kind;
-ghost use Rattle.tpcc_model.specs.Database.{database};
 ghost use Rattle.tpcc_model.specs.NewOrders.{all_local, line_done, lines_done, new_order, opened, order_of, raised_district};
 ghost use Rattle.tpcc_model.specs.Steps.{new_order_outcome};
 ghost use Rattle.tpcc_model.specs.Touches.{new_order_touch, ordered_touch, placed_touch};
 ghost use Rattle.tpcc_rows.specs.Prices.{total_cents};
-ghost use Rattle.transactions.specs.Faults.{AnswersBy, AnswersWithin};
+ghost use Rattle.transactions.specs.Faults.{AnswersBy};
 ghost use Rattle.transactions.specs.Lending.{lent};
 ghost use Rattle.transactions.specs.NewOrderParts.{line_cards_of, placed_order_of, so_far_of};
-ghost use Rattle.transactions.specs.Outcomes.{Executes, concluded};
+ghost use Rattle.transactions.specs.OnViews.{AnswersOn, ExecutesOn};
+ghost use Rattle.transactions.specs.Outcomes.{concluded};
 ghost use Rattle.worker_rows.specs.Views.{covers};
 
 use crate::fault::Fault;
@@ -80,11 +80,12 @@ fn line_done(
     so_far: &mut OrderSoFar,
 ) -> Result<(), Fault>
     requires { length so_far.old.lines < 15 }
-    ensures answer { AnswersBy (λ done. so_far_of so_far.new) (line_done p.now order number (line_cards_of line.now) old.now (so_far_of so_far.old)) result }
+    ensures answer { AnswersBy (λ done. so_far_of so_far.new)
+        (line_done p.now order number (line_cards_of line.now) old.now (so_far_of so_far.old)) result }
     ensures one_more { OnOk result (length so_far.new.lines ≡ length so_far.old.lines + 1) }
 {
-    let stock = ordered_stock(p.warehouse, line.ordered, old)?;
-    let amount = line_amount(line)?;
+    let stock = ordered_stock(p.warehouse, line.ordered, old).ok_or(RequestRefusal::LimitReached)?;
+    let amount = line_amount(line).ok_or(RequestRefusal::LimitReached)?;
     let reply = LineReply {
         stock: stock.quantity,
         brand: brand_of(line),
@@ -117,7 +118,8 @@ fn lines_done<V: RowView>(
 ) -> Result<(), Fault>
     requires few { length lines.now ≤ 15 }
     requires none { so_far.old.lines ≡ [] }
-    ensures { AnswersBy (λ done. so_far_of so_far.new) (lines_done (lent (V.sees view.now)) p.now order 1 (map line_cards_of lines.now) (so_far_of so_far.old)) result }
+    ensures { AnswersBy (λ done. so_far_of so_far.new)
+        (lines_done (lent (V.sees view.now)) p.now order 1 (map line_cards_of lines.now) (so_far_of so_far.old)) result }
 {
     for (index, line) in lines.iter().enumerate() {
         let OrderedLine { item, supply, .. } = *line.ordered;
@@ -239,7 +241,7 @@ fn new_order<V: RowView>(
     moment: Moment,
     view: &V,
 ) -> Result<(NewOrderReply, Delta), Fault>
-    ensures { let db = database catalog.now (lent (V.sees view.now)) in AnswersWithin placed_order_of (covers (V.sees view.now) (new_order_touch db p.now)) (new_order db p.now moment) result }
+    ensures { AnswersOn placed_order_of (λ db. new_order_touch db p.now) (λ db. new_order db p.now moment) catalog.now (V.sees view.now) result }
 {
     let warehouse = catalog
         .warehouse(p.warehouse)
@@ -279,7 +281,8 @@ pub(crate) fn execute<V: RowView>(
     moment: Moment,
     view: &V,
 ) -> Result<(Reply, Delta), Fault>
-    ensures { let db = database catalog.now (lent (V.sees view.now)) in Executes (covers (V.sees view.now) (new_order_touch db p.now)) (new_order_outcome (new_order db p.now moment)) (concluded kind.NewOrder result) }
+    ensures { ExecutesOn (λ db. new_order_touch db p.now) (λ db. new_order_outcome (new_order db p.now moment)) catalog.now (V.sees view.now)
+        (concluded kind.NewOrder result) }
 {
     let (reply, changes) = new_order(alloc, catalog, p, moment, view)?;
     Ok((Reply::NewOrder(reply), changes))

@@ -1,7 +1,7 @@
 //! One line of a new order (TPC-C clause 2.4.2.2): its cards, its stock after it, its brand and its row.
 ghost use Rattle.std.specs.Prelude.{◌≡◌, length, map, if◌then◌else◌, IfOk};
 ghost use Rattle.tpcc_model.specs.NewOrders.{brand_of, found_item, found_lines, found_stock, is_original, left_quantity, line_amount, order_line_of, ordered_stock, remote_orders};
-ghost use Rattle.tpcc_model.specs.Staging.{for_each};
+ghost use Rattle.tpcc_model.specs.Staging.{for_each, within};
 ghost use Rattle.transactions.specs.Faults.{AnswersBy};
 ghost use Rattle.transactions.specs.NewOrderParts.{line_cards_of, line_item_of};
 ghost use Rattle.transactions.specs.Outcomes.{viewed};
@@ -38,11 +38,13 @@ fn found_item<'a>(
 ) -> Result<LineItem<'a>, RequestRefusal>
     ensures { viewed line_item_of result ≡ found_item catalog.now line.now }
 {
-    let item = catalog.item(line.item).ok_or(RequestRefusal::ItemNotValid)?;
-    Ok(LineItem {
-        ordered: line,
-        item,
-    })
+    match catalog.item(line.item) {
+        Some(item) => Ok(LineItem {
+            ordered: line,
+            item,
+        }),
+        None => Err(RequestRefusal::ItemNotValid),
+    }
 }
 
 #[tactic(auto, unfolding(tpcc_model::specs::NewOrders::found_stock))]
@@ -52,14 +54,14 @@ fn found_stock<'a>(
 ) -> Result<LineCards<'a>, RequestRefusal>
     ensures { viewed line_cards_of result ≡ found_stock catalog.now (line_item_of line.now) }
 {
-    let stock = catalog
-        .stock(line.ordered.supply, line.ordered.item)
-        .ok_or(RequestRefusal::UnknownKey)?;
-    Ok(LineCards {
-        ordered: line.ordered,
-        item: line.item,
-        stock,
-    })
+    match catalog.stock(line.ordered.supply, line.ordered.item) {
+        Some(stock) => Ok(LineCards {
+            ordered: line.ordered,
+            item: line.item,
+            stock,
+        }),
+        None => Err(RequestRefusal::UnknownKey),
+    }
 }
 
 fn found_items<'a>(
@@ -117,29 +119,21 @@ fn remote_orders(warehouse: WarehouseId, line: &OrderedLine) -> u8
     if line.supply == warehouse { 0 } else { 1 }
 }
 
+/// None where a limit is passed.
 #[tactic(auto, unfolding(tpcc_model::specs::NewOrders::ordered_stock))]
 pub(crate) fn ordered_stock(
     warehouse: WarehouseId,
     line: &OrderedLine,
     old: &StockRow,
-) -> Result<StockRow, RequestRefusal>
-    ensures { result ≡ ordered_stock warehouse line.now old.now }
+) -> Option<StockRow>
+    ensures { within result ≡ ordered_stock warehouse line.now old.now }
 {
     let left = left_quantity(old.quantity, line.quantity);
-    let quantity = StockQuantity::new(left).ok_or(RequestRefusal::LimitReached)?;
-    let ytd = old
-        .ytd
-        .raised(line.quantity.value())
-        .ok_or(RequestRefusal::LimitReached)?;
-    let order_count = old
-        .order_count
-        .raised(1)
-        .ok_or(RequestRefusal::LimitReached)?;
-    let remote_count = old
-        .remote_count
-        .raised(remote_orders(warehouse, line))
-        .ok_or(RequestRefusal::LimitReached)?;
-    Ok(StockRow {
+    let quantity = StockQuantity::new(left)?;
+    let ytd = old.ytd.raised(line.quantity.value())?;
+    let order_count = old.order_count.raised(1)?;
+    let remote_count = old.remote_count.raised(remote_orders(warehouse, line))?;
+    Some(StockRow {
         quantity,
         ytd,
         order_count,
@@ -147,12 +141,13 @@ pub(crate) fn ordered_stock(
     })
 }
 
+/// None where the limit is passed.
 #[tactic(auto, unfolding(tpcc_model::specs::NewOrders::line_amount))]
-pub(crate) fn line_amount(line: &LineCards<'_>) -> Result<Amount, RequestRefusal>
-    ensures { result ≡ line_amount (line_cards_of line.now) }
+pub(crate) fn line_amount(line: &LineCards<'_>) -> Option<Amount>
+    ensures { within result ≡ line_amount (line_cards_of line.now) }
 {
     let quantity = u32::from(line.ordered.quantity.value());
-    Amount::new(quantity * line.item.price.cents()).ok_or(RequestRefusal::LimitReached)
+    Amount::new(quantity * line.item.price.cents())
 }
 
 #[tactic(auto, unfolding(tpcc_model::specs::NewOrders::is_original))]

@@ -2,15 +2,13 @@
 //! its lines. It changes nothing.
 ghost use Rattle.std.specs.Prelude.{◌≡◌};
 ghost use Rattle.requests.specs.declared.request.RequestKind.TheVariants as kind;
-ghost use Rattle.tpcc_model.specs.Database.{database};
 ghost use Rattle.tpcc_model.specs.OrderStatuses.{last_order, order_status, order_status_reply, shown_line, shown_lines, shown_order};
 ghost use Rattle.tpcc_model.specs.Steps.{order_status_outcome};
 ghost use Rattle.tpcc_model.specs.Touches.{order_status_touch};
 ghost use Rattle.tpcc_rows.specs.Picks.{latest};
-ghost use Rattle.transactions.specs.Faults.{AnswersWithin};
 ghost use Rattle.transactions.specs.Lending.{lent};
-ghost use Rattle.transactions.specs.Outcomes.{Executes, concluded};
-ghost use Rattle.worker_rows.specs.Views.{covers};
+ghost use Rattle.transactions.specs.OnViews.{AnswersOn, ExecutesOn};
+ghost use Rattle.transactions.specs.Outcomes.{concluded};
 
 use crate::fault::Fault;
 use crate::lent::{self, Lent};
@@ -122,7 +120,7 @@ fn order_status<V: RowView>(
     p: &OrderStatus,
     view: &V,
 ) -> Result<OrderStatusReply, Fault>
-    ensures { let db = database catalog.now (lent (V.sees view.now)) in AnswersWithin (λ shown. shown) (covers (V.sees view.now) (order_status_touch db p.now)) (order_status db p.now) result }
+    ensures { AnswersOn (λ shown. shown) (λ db. order_status_touch db p.now) (λ db. order_status db p.now) catalog.now (V.sees view.now) result }
 {
     let customer = chosen_customer(catalog, p.warehouse, p.district, &p.customer).ok_or(
         RequestRefusal::UnknownKey,
@@ -143,7 +141,8 @@ pub(crate) fn execute<V: RowView>(
     p: &OrderStatus,
     view: &V,
 ) -> Result<(Reply, Delta), Fault>
-    ensures { let db = database catalog.now (lent (V.sees view.now)) in Executes (covers (V.sees view.now) (order_status_touch db p.now)) (order_status_outcome (order_status db p.now)) (concluded kind.OrderStatus result) }
+    ensures { ExecutesOn (λ db. order_status_touch db p.now) (λ db. order_status_outcome (order_status db p.now)) catalog.now (V.sees view.now)
+        (concluded kind.OrderStatus result) }
 {
     let reply = order_status(catalog, p, view)?;
     Ok((Reply::OrderStatus(reply), Delta::new(alloc)))

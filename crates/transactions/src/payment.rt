@@ -1,20 +1,21 @@
 //! Payment (TPC-C clause 2.5): the cards of its keys are found, then their rows, then the new rows are made. What can
 //! fail for want of memory comes last.
 ghost use Rattle.std.specs.Prelude.{◌≡◌, ◌++◌, IfOk};
+ghost use Rattle.std.specs.Option.{option_map};
 ghost use Rattle.requests.specs.declared.request.RequestKind.TheVariants as kind;
-ghost use Rattle.tpcc_model.specs.Database.{database};
-ghost use Rattle.tpcc_model.specs.Payments.{field, found_cards, history_of, paid_customer, paid_data, paid_district, paid_warehouse, payment, payment_changes, payment_note, payment_reply};
+ghost use Rattle.tpcc_model.specs.Payments.{field, found_cards, found_rows, history_of, paid_customer, paid_data, paid_district, paid_rows, paid_warehouse, payment, payment_changes, payment_note, payment_reply};
+ghost use Rattle.tpcc_model.specs.Staging.{known, within};
 ghost use Rattle.tpcc_model.specs.Steps.{payment_outcome};
 ghost use Rattle.tpcc_model.specs.Touches.{paid_touch, payment_touch};
 ghost use Rattle.tpcc_rows.specs.Texts.{IsPrintable, clip};
-ghost use Rattle.transactions.specs.Faults.{AnswersWithin};
-ghost use Rattle.transactions.specs.Lending.{lent};
-ghost use Rattle.transactions.specs.Outcomes.{Executes, concluded, paid_of};
+ghost use Rattle.transactions.specs.OnViews.{AnswersOn, ExecutesOn};
+ghost use Rattle.transactions.specs.Outcomes.{concluded};
+ghost use Rattle.transactions.specs.PaymentParts.{paid_of, payment_cards_of, payment_rows_of};
 ghost use Rattle.worker_rows.specs.Views.{covers};
 
 use crate::fault::Fault;
 use crate::lent::{self, Lent};
-use catalog::{Catalog, Credit};
+use catalog::{Catalog, Credit, CustomerCard, DistrictCard, WarehouseCard};
 use requests::number::PaymentAmount;
 use requests::reply::{PaymentReply, Reply, RequestRefusal, ShownCredit};
 use requests::request::Payment;
@@ -28,7 +29,24 @@ use tpcc_rows::memory::Memory;
 use tpcc_rows::number::{Amount, Moment};
 use tpcc_rows::row::{CustomerRow, DistrictRow, HistoryRow, Row, WarehouseRow};
 use tpcc_rows::text::Text;
-use worker_rows::{RowView, customer_row, district_row, warehouse_row};
+use worker_rows::{KeyedRows, RowView, customer_row, district_row, warehouse_row};
+
+/// The customer who pays, and the cards of a payment's keys.
+#[derive(Drop)]
+pub(crate) struct PaymentCards<'a> {
+    pub customer_id: CustomerId,
+    pub warehouse: &'a WarehouseCard,
+    pub district: &'a DistrictCard,
+    pub customer: &'a CustomerCard,
+}
+
+/// The rows of a payment's keys.
+#[derive(Drop)]
+pub(crate) struct PaymentRows<'a> {
+    pub warehouse: &'a WarehouseRow,
+    pub district: &'a DistrictRow,
+    pub customer: &'a CustomerRow,
+}
 
 /// What a payment makes: the new rows, and who paid.
 #[derive(Drop)]
@@ -41,20 +59,21 @@ pub(crate) struct NewRows {
     pub credit: Credit,
 }
 
+/// None where a limit is passed, as for the rows below.
 #[tactic(auto, unfolding(tpcc_model::specs::Payments::paid_warehouse))]
-fn paid_warehouse(old: &WarehouseRow, amount: u32) -> Result<WarehouseRow, RequestRefusal>
-    ensures { result ≡ paid_warehouse old.now amount }
+fn paid_warehouse(old: &WarehouseRow, amount: u32) -> Option<WarehouseRow>
+    ensures { within result ≡ paid_warehouse old.now amount }
 {
-    let ytd = old.ytd.raised(amount).ok_or(RequestRefusal::LimitReached)?;
-    Ok(WarehouseRow { ytd })
+    let ytd = old.ytd.raised(amount)?;
+    Some(WarehouseRow { ytd })
 }
 
 #[tactic(auto, unfolding(tpcc_model::specs::Payments::paid_district))]
-fn paid_district(old: &DistrictRow, amount: u32) -> Result<DistrictRow, RequestRefusal>
-    ensures { result ≡ paid_district old.now amount }
+fn paid_district(old: &DistrictRow, amount: u32) -> Option<DistrictRow>
+    ensures { within result ≡ paid_district old.now amount }
 {
-    let ytd = old.ytd.raised(amount).ok_or(RequestRefusal::LimitReached)?;
-    Ok(DistrictRow { ytd, ..*old })
+    let ytd = old.ytd.raised(amount)?;
+    Some(DistrictRow { ytd, ..*old })
 }
 
 #[tactic(auto, using(tpcc_rows::proofs::Clips::then_clipped))]
@@ -100,23 +119,14 @@ fn paid_customer(
     customer: CustomerId,
     credit: Credit,
     old: &CustomerRow,
-) -> Result<CustomerRow, RequestRefusal>
-    ensures { result ≡ paid_customer p.now customer credit old.now }
+) -> Option<CustomerRow>
+    ensures { within result ≡ paid_customer p.now customer credit old.now }
 {
     let amount = p.amount.cents();
-    let balance = old
-        .balance
-        .lowered(amount)
-        .ok_or(RequestRefusal::LimitReached)?;
-    let ytd_payment = old
-        .ytd_payment
-        .raised(amount)
-        .ok_or(RequestRefusal::LimitReached)?;
-    let payment_count = old
-        .payment_count
-        .raised(1)
-        .ok_or(RequestRefusal::LimitReached)?;
-    Ok(CustomerRow {
+    let balance = old.balance.lowered(amount)?;
+    let ytd_payment = old.ytd_payment.raised(amount)?;
+    let payment_count = old.payment_count.raised(1)?;
+    Some(CustomerRow {
         balance,
         ytd_payment,
         payment_count,
@@ -180,56 +190,90 @@ fn may_pay<V: RowView>(view: &V, p: &Payment, customer: CustomerId) -> bool
         && lent::may_write(view, &customer)
 }
 
+/// The customer who pays, and the cards of the payment's keys; None where one is unknown.
+#[tactic(auto, unfolding(tpcc_model::specs::Payments::found_cards))]
+fn found_cards<'a>(catalog: &'a Catalog, p: &Payment) -> Option<PaymentCards<'a>>
+    ensures { known (option_map payment_cards_of result) ≡ found_cards catalog.now p.now }
+{
+    let warehouse = catalog.warehouse(p.warehouse)?;
+    let district = catalog.district(p.warehouse, p.district)?;
+    let (of_warehouse, of_district) = (p.customer_warehouse, p.customer_district);
+    let customer_id = chosen_customer(catalog, of_warehouse, of_district, &p.customer)?;
+    let customer = catalog.customer(of_warehouse, of_district, customer_id)?;
+    Some(PaymentCards {
+        customer_id,
+        warehouse,
+        district,
+        customer,
+    })
+}
+
+/// The rows of the payment's keys; None where one is unknown.
+#[tactic(auto, unfolding(tpcc_model::specs::Payments::found_rows))]
+fn found_rows<'a, R: KeyedRows>(
+    rows: &'a R,
+    p: &Payment,
+    customer: CustomerId,
+) -> Option<PaymentRows<'a>>
+    ensures { known (option_map payment_rows_of result) ≡ found_rows (R.rows rows.now) p.now customer }
+{
+    let (of_warehouse, of_district) = (p.customer_warehouse, p.customer_district);
+    Some(PaymentRows {
+        warehouse: warehouse_row(rows, p.warehouse)?,
+        district: district_row(rows, p.warehouse, p.district)?,
+        customer: customer_row(rows, of_warehouse, of_district, customer)?,
+    })
+}
+
+/// The new rows; None where a limit is passed.
+#[tactic(auto, unfolding(tpcc_model::specs::Payments::paid_rows))]
+fn paid_rows(
+    p: &Payment,
+    moment: Moment,
+    cards: &PaymentCards<'_>,
+    rows: &PaymentRows<'_>,
+) -> Option<NewRows>
+    ensures { within (option_map paid_of result) ≡ paid_rows p.now moment (payment_cards_of cards.now) (payment_rows_of rows.now) }
+{
+    let (customer_id, credit) = (cards.customer_id, cards.customer.credit);
+    let warehouse = paid_warehouse(rows.warehouse, p.amount.cents())?;
+    let district = paid_district(rows.district, p.amount.cents())?;
+    let customer = paid_customer(p, customer_id, credit, rows.customer)?;
+    let (warehouse_name, district_name) = (&cards.warehouse.name, &cards.district.name);
+    Some(NewRows {
+        warehouse,
+        district,
+        customer,
+        history: history_of(p, customer_id, moment, warehouse_name, district_name),
+        customer_id,
+        credit,
+    })
+}
+
 /// The new rows, which take no memory.
-#[tactic(auto, unfolding(tpcc_model::specs::Touches::payment_touch, tpcc_model::specs::Payments::payment, tpcc_model::specs::Payments::found_cards, tpcc_model::specs::Payments::found_rows, tpcc_model::specs::Payments::paid_rows))]
+#[tactic(auto, unfolding(tpcc_model::specs::Touches::payment_touch, tpcc_model::specs::Payments::payment))]
 fn payment<V: RowView>(
     catalog: &Catalog,
     p: &Payment,
     moment: Moment,
     view: &V,
 ) -> Result<NewRows, Fault>
-    ensures { let db = database catalog.now (lent (V.sees view.now)) in AnswersWithin paid_of (covers (V.sees view.now) (payment_touch db p.now)) (payment db p.now moment) result }
+    ensures { AnswersOn paid_of (λ db. payment_touch db p.now) (λ db. payment db p.now moment) catalog.now (V.sees view.now) result }
 {
-    let warehouse_card = catalog
-        .warehouse(p.warehouse)
-        .ok_or(RequestRefusal::UnknownKey)?;
-    let district_card = catalog
-        .district(p.warehouse, p.district)
-        .ok_or(RequestRefusal::UnknownKey)?;
-    let chosen = chosen_customer(
-        catalog,
-        p.customer_warehouse,
-        p.customer_district,
-        &p.customer,
-    );
-    let customer_id = chosen.ok_or(RequestRefusal::UnknownKey)?;
-    let customer_card = catalog
-        .customer(p.customer_warehouse, p.customer_district, customer_id)
-        .ok_or(RequestRefusal::UnknownKey)?;
-    if !may_pay(view, p, customer_id) {
+    let Some(cards) = found_cards(catalog, p) else {
+        return Err(Fault::Refused(RequestRefusal::UnknownKey));
+    };
+    if !may_pay(view, p, cards.customer_id) {
         return Err(Fault::Strayed);
     }
-    let rows = Lent { view };
-    let warehouse = warehouse_row(&rows, p.warehouse).ok_or(RequestRefusal::UnknownKey)?;
-    let district = district_row(&rows, p.warehouse, p.district).ok_or(RequestRefusal::UnknownKey)?;
-    let (of_warehouse, of_district) = (p.customer_warehouse, p.customer_district);
-    let customer = customer_row(&rows, of_warehouse, of_district, customer_id);
-    let customer = customer.ok_or(RequestRefusal::UnknownKey)?;
-    let amount = p.amount.cents();
-    Ok(NewRows {
-        warehouse: paid_warehouse(warehouse, amount)?,
-        district: paid_district(district, amount)?,
-        customer: paid_customer(p, customer_id, customer_card.credit, customer)?,
-        history: history_of(
-            p,
-            customer_id,
-            moment,
-            &warehouse_card.name,
-            &district_card.name,
-        ),
-        customer_id,
-        credit: customer_card.credit,
-    })
+    let lent_rows = Lent { view };
+    let Some(rows) = found_rows(&lent_rows, p, cards.customer_id) else {
+        return Err(Fault::Refused(RequestRefusal::UnknownKey));
+    };
+    match paid_rows(p, moment, &cards, &rows) {
+        Some(paid) => Ok(paid),
+        None => Err(Fault::Refused(RequestRefusal::LimitReached)),
+    }
 }
 
 #[tactic(auto, unfolding(tpcc_model::specs::Payments::payment_reply))]
@@ -286,7 +330,8 @@ pub(crate) fn execute<V: RowView>(
     moment: Moment,
     view: &V,
 ) -> Result<(Reply, Delta), Fault>
-    ensures { let db = database catalog.now (lent (V.sees view.now)) in Executes (covers (V.sees view.now) (payment_touch db p.now)) (payment_outcome p.now number (payment db p.now moment)) (concluded kind.Payment result) }
+    ensures { ExecutesOn (λ db. payment_touch db p.now) (λ db. payment_outcome p.now number (payment db p.now moment)) catalog.now (V.sees view.now)
+        (concluded kind.Payment result) }
 {
     let rows = payment(catalog, p, moment, view)?;
     let reply = payment_reply(&rows);

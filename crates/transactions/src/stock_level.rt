@@ -1,17 +1,16 @@
 //! Stock-Level (TPC-C clause 2.8): the card of its district is found, then its row, then the lines of the last twenty
 //! orders are read. It changes nothing.
-ghost use Rattle.std.specs.Prelude.{◌≡◌, ◌+◌, ◌-◌, ◌≤◌, ℕ, nat_eq, ◌∷◌, List, is_ok, length, option_copied, IfOk, OnOk};
+ghost use Rattle.std.specs.Prelude.{◌≡◌, ◌+◌, ◌≤◌, nat_eq, ◌∷◌, Some, is_ok, length, option_copied, IfOk, OnOk};
 ghost use Rattle.std.specs.Set.{distinct_count};
 ghost use Rattle.catalog.specs.Lookups.{stock_card};
 ghost use Rattle.requests.specs.declared.request.RequestKind.TheVariants as kind;
-ghost use Rattle.tpcc_model.specs.Database.{database};
-ghost use Rattle.tpcc_model.specs.StockLevels.{first_recent, is_low, low_items, stock_level, with_line, with_lines};
+ghost use Rattle.tpcc_model.specs.StockLevels.{is_low, stock_level, with_line, with_lines};
 ghost use Rattle.tpcc_model.specs.Steps.{stock_level_outcome};
-ghost use Rattle.tpcc_model.specs.Touches.{item_touch, line_touch, lines_touch, orders_touch, stock_level_touch};
-ghost use Rattle.transactions.specs.Faults.{AnswersWithin, EndsWithin};
-ghost use Rattle.transactions.specs.Lending.{lent};
-ghost use Rattle.transactions.specs.LowItems.{IsHeld};
-ghost use Rattle.transactions.specs.Outcomes.{Executes, concluded};
+ghost use Rattle.tpcc_model.specs.Touches.{item_touch, line_touch, lines_touch, recent_touch, stock_level_touch};
+ghost use Rattle.transactions.specs.Faults.{EndsWithin};
+ghost use Rattle.transactions.specs.LowItems.{HoldsToo, recent_items};
+ghost use Rattle.transactions.specs.OnViews.{AnswersOn, ExecutesOn, lent_database};
+ghost use Rattle.transactions.specs.Outcomes.{concluded};
 ghost use Rattle.worker_rows.specs.Views.{covers};
 
 use crate::fault::Fault;
@@ -24,7 +23,7 @@ use std::collections::BTreeSet;
 use tpcc_model::number::{line_number, order_id};
 use tpcc_rows::delta::Delta;
 use tpcc_rows::id::{ItemId, OrderId};
-use tpcc_rows::row::OrderLineRow;
+use tpcc_rows::row::{DistrictRow, OrderLineRow};
 use worker_rows::{RowView, Strayed, order_line_row};
 
 /// Whether the item's stock in the warehouse is low. One without a card is not looked at.
@@ -36,7 +35,7 @@ fn is_low<V: RowView>(
     item: ItemId,
 ) -> Result<bool, Strayed>
     ensures strays { is_ok result ≡ covers (V.sees view.now) (item_touch p.now item (stock_card catalog.now p.now.warehouse item)) }
-    ensures low { IfOk result (λ low. low ≡ is_low (database catalog.now (lent (V.sees view.now))) p.now item) }
+    ensures low { IfOk result (λ low. low ≡ is_low (lent_database catalog.now (V.sees view.now)) p.now item) }
 {
     if catalog.stock(p.warehouse, item).is_none() {
         return Ok(false);
@@ -49,7 +48,7 @@ fn is_low<V: RowView>(
 
 /// One item more, unless it is there already.
 fn hold(items: &mut BTreeSet<ItemId>, item: ItemId) -> Result<(), AllocError>
-    ensures held { (xs : List ℕ) → IsHeld items.old xs → OnOk result (IsHeld items.new (item ∷ xs)) }
+    ensures held { OnOk result (HoldsToo (λ xs. item ∷ xs) items.old items.new) }
     ensures len { length items.new.keys ≤ length items.old.keys + 1 }
 {
     items.insert(item)?;
@@ -65,7 +64,7 @@ fn hold_line<V: RowView>(
     items: &mut BTreeSet<ItemId>,
 ) -> Result<(), Fault>
     ensures within { EndsWithin (covers (V.sees view.now) (line_touch catalog.now p.now (option_copied line.entry))) result }
-    ensures held { (xs : List ℕ) → IsHeld items.old xs → OnOk result (IsHeld items.new (with_line (database catalog.now (lent (V.sees view.now))) p.now (option_copied line.entry) xs)) }
+    ensures held { OnOk result (HoldsToo (with_line (lent_database catalog.now (V.sees view.now)) p.now (option_copied line.entry)) items.old items.new) }
     ensures len { length items.new.keys ≤ length items.old.keys + 1 }
 {
     if let Some(line) = line {
@@ -84,8 +83,8 @@ fn hold_lines<V: RowView>(
     order: OrderId,
     items: &mut BTreeSet<ItemId>,
 ) -> Result<(), Fault>
-    ensures within { EndsWithin (covers (V.sees view.now) (lines_touch (database catalog.now (lent (V.sees view.now))) p.now order 15)) result }
-    ensures held { (xs : List ℕ) → IsHeld items.old xs → OnOk result (IsHeld items.new (with_lines (database catalog.now (lent (V.sees view.now))) p.now order 15 xs)) }
+    ensures within { EndsWithin (covers (V.sees view.now) (lines_touch (lent_database catalog.now (V.sees view.now)) p.now order 15)) result }
+    ensures held { OnOk result (HoldsToo (with_lines (lent_database catalog.now (V.sees view.now)) p.now order 15) items.old items.new) }
     ensures len { length items.new.keys ≤ length items.old.keys + 15 }
 {
     let rows = Lent { view };
@@ -103,14 +102,15 @@ fn low_stock<V: RowView>(
     catalog: &Catalog,
     view: &V,
     p: &StockLevel,
-    next: OrderId,
+    district: &DistrictRow,
 ) -> Result<u32, Fault>
-    ensures within { EndsWithin (covers (V.sees view.now) (orders_touch (database catalog.now (lent (V.sees view.now))) p.now (first_recent next) (next - first_recent next))) result }
-    ensures count { IfOk result (λ n. n ≡ distinct_count nat_eq (low_items (database catalog.now (lent (V.sees view.now))) p.now (first_recent next) (next - first_recent next))) }
+    ensures within { EndsWithin (covers (V.sees view.now) (recent_touch (lent_database catalog.now (V.sees view.now)) p.now (Some district.now))) result }
+    ensures count { IfOk result (λ n. n ≡ distinct_count nat_eq (recent_items (lent_database catalog.now (V.sees view.now)) p.now district.now)) }
 {
-    let first = next.number().saturating_sub(20).max(1);
+    let next = district.next_order.number();
+    let first = next.saturating_sub(20).max(1);
     let mut items = BTreeSet::new(alloc);
-    for order in first..next.number() {
+    for order in first..next {
         hold_lines(catalog, view, p, order_id(order), &mut items)?;
     }
     Ok(items.len() as u32)
@@ -123,7 +123,7 @@ fn stock_level<V: RowView>(
     p: &StockLevel,
     view: &V,
 ) -> Result<StockLevelReply, Fault>
-    ensures { let db = database catalog.now (lent (V.sees view.now)) in AnswersWithin (λ counted. counted) (covers (V.sees view.now) (stock_level_touch db p.now)) (stock_level db p.now) result }
+    ensures { AnswersOn (λ counted. counted) (λ db. stock_level_touch db p.now) (λ db. stock_level db p.now) catalog.now (V.sees view.now) result }
 {
     catalog
         .district(p.warehouse, p.district)
@@ -132,7 +132,7 @@ fn stock_level<V: RowView>(
     // The book is looked at, whether or not there are lines in it.
     lent::book(view, p.warehouse, p.district)?;
     let district = district.ok_or(RequestRefusal::UnknownKey)?;
-    let low_stock = low_stock(alloc, catalog, view, p, district.next_order)?;
+    let low_stock = low_stock(alloc, catalog, view, p, district)?;
     Ok(StockLevelReply { low_stock })
 }
 
@@ -143,7 +143,8 @@ pub(crate) fn execute<V: RowView>(
     p: &StockLevel,
     view: &V,
 ) -> Result<(Reply, Delta), Fault>
-    ensures { let db = database catalog.now (lent (V.sees view.now)) in Executes (covers (V.sees view.now) (stock_level_touch db p.now)) (stock_level_outcome (stock_level db p.now)) (concluded kind.StockLevel result) }
+    ensures { ExecutesOn (λ db. stock_level_touch db p.now) (λ db. stock_level_outcome (stock_level db p.now)) catalog.now (V.sees view.now)
+        (concluded kind.StockLevel result) }
 {
     let reply = stock_level(alloc, catalog, p, view)?;
     Ok((Reply::StockLevel(reply), Delta::new(alloc)))

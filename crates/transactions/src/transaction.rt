@@ -4,7 +4,7 @@ ghost use Rattle.requests.specs.Kinds.{kind_of};
 ghost use Rattle.tpcc_model.specs.Database.{database};
 ghost use Rattle.tpcc_model.specs.Steps.{step};
 ghost use Rattle.tpcc_model.specs.Touches.{touch};
-ghost use Rattle.transactions.specs.Lending.{lent};
+ghost use Rattle.transactions.specs.OnViews.{ExecutesOn};
 ghost use Rattle.transactions.specs.Outcomes.{Executes, concluded};
 ghost use Rattle.worker_rows.specs.Views.{covers};
 
@@ -30,7 +30,8 @@ fn executed<V: RowView>(
     moment: Moment,
     view: &V,
 ) -> Result<(Reply, Delta), Fault>
-    ensures { let db = database catalog.now (lent (V.sees view.now)) in Executes (covers (V.sees view.now) (touch db request.now)) (step db request.now number moment) (concluded (kind_of request.now) result) }
+    ensures { ExecutesOn (λ db. touch db request.now) (λ db. step db request.now number moment) catalog.now (V.sees view.now)
+        (concluded (kind_of request.now) result) }
 {
     match request {
         Request::NewOrder(p) => new_order::execute(alloc, catalog, p, moment, view),
@@ -68,7 +69,8 @@ pub fn execute<V: RowView>(
     moment: Moment,
     view: &V,
 ) -> Result<(Reply, Delta), ExecError>
-    ensures { let db = database catalog.now (V.sees view.now).rows in Executes (covers (V.sees view.now) (touch db request.now)) (step db request.now number moment) result }
+    ensures { let db = database catalog.now (V.sees view.now).rows in
+        Executes (covers (V.sees view.now) (touch db request.now)) (step db request.now number moment) result }
 {
     let answer = executed(alloc, catalog, request, number, moment, view);
     concluded(alloc, request.kind(), answer)

@@ -7,6 +7,7 @@ use Rattle.tpcc_model.specs.Machine.{tpcc}
 use Rattle.gather.specs.Books.{blank}
 use Rattle.executor.specs.Filing.{Awaits}
 use Rattle.executor.specs.LevelRuns.{cut_by, levels_by}
+use Rattle.executor.proofs.CleanLeaves.{kept_twice}
 use Rattle.executor.proofs.Filing.{FilesRest, files_more}
 use Rattle.executor.proofs.LevelSteps.{replies_on, rows_on, strays_here, strays_on, levels_from}
 use Rattle.executor.proofs.LevelResults.{each_place, lent_at, stray_up}
@@ -85,4 +86,5 @@ loop-index-preserved g c =
           (λ here. let same = (c.cuts.ensures c.args.plan.now.footprints.now).once i level place places others at there here has in absurd (omega (arith, same, low)))
           (c.loop-index.invariant.awaited level place others (omega (arith, low)) there has);
       points = c.in_ok-settle_level.ensures.points ∙ c.loop-index.invariant.points;
+      clean = kept_twice c.args.store.now c.loop-index.store c.settle_level.new.store c.loop-index.invariant.clean c.in_ok-settle_level.ensures.clean;
     }

@@ -1,6 +1,7 @@
 use Rattle.std.proofs.Common.{◌≡◌, ◌≤◌, ℕ, List, Some, drop, length, map, slice_get}
 use Rattle.serializability.specs.Footprints.{Has}
 use Rattle.serializability.specs.Levels.{jobs, jobs_at, run_replies, run_rows, strays}
+use Rattle.rollback.specs.Pointed.{KeepsCleanLeaves}
 use Rattle.tpcc_model.specs.Machine.{tpcc}
 use Rattle.gather.specs.Books.{blank}
 use Rattle.executor.specs.Filing.{Awaits}
@@ -20,4 +21,5 @@ invariant-loop-index g l =
       filed : FilesRest (run_replies machine l.fn.store.rows all) (run_replies machine l.store.rows left) (blank l.plan.first (length l.plan.batch.now.requests)) l.book;
       awaited : (level place : ℕ) (places : List ℕ) → l.index ≤ level → slice_get (cut_by l.plan.footprints.now) level ≡ Some places → Has places place → Awaits l.book place;
       points : l.store.points ≡ l.fn.store.points;
+      clean : KeepsCleanLeaves l.fn.store l.store;
     }

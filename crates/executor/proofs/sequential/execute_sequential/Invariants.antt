@@ -1,4 +1,5 @@
 use Rattle.std.proofs.Common.{◌≡◌, ◌+◌, ◌++◌, drop}
+use Rattle.rollback.specs.Pointed.{KeepsCleanLeaves}
 use Rattle.tpcc_model.specs.Steps.{replies, rows_after}
 use Rattle.executor.proofs.sequential.execute_sequential.Given as goal
 
@@ -8,4 +9,5 @@ invariant-loop-place g l = record {
   replies : l.replies.items ++ replies (record { cards = l.catalog; rows = l.store.rows }) l.next.batch.now.moment (l.next.stamp.next + l.place) (drop l.place l.next.batch.now.requests) ≡ replies (record { cards = l.catalog; rows = l.fn.store.rows }) l.next.batch.now.moment l.next.stamp.next l.next.batch.now.requests;
   rows : rows_after (record { cards = l.catalog; rows = l.store.rows }) l.next.batch.now.moment (l.next.stamp.next + l.place) (drop l.place l.next.batch.now.requests) ≡ rows_after (record { cards = l.catalog; rows = l.fn.store.rows }) l.next.batch.now.moment l.next.stamp.next l.next.batch.now.requests;
   points : l.store.points ≡ l.fn.store.points;
+  clean : KeepsCleanLeaves l.fn.store l.store;
 }

@@ -1,15 +1,16 @@
-use Rattle.std.proofs.Common.{◌+◌, ap, sym, subst, ◌∙◌}
+use Rattle.std.proofs.Common.{◌+◌, ap, arith, sym, subst, ◌∙◌}
 use Rattle.merkle.specs.Nodes.{at, IsTree, rehashed}
-use Rattle.merkle.proofs.Joins.{at-leaf, nearly, rehashed-leaf}
+use Rattle.merkle.proofs.Joins.{nearly, rehashed-leaf}
 use Rattle.merkle.proofs.tree.refresh_nodes.Goals as goal
 
 pub rejoin-requires-clause-nearly : goal.rejoin-requires-clause-nearly
 rejoin-requires-clause-nearly g c =
-    rw (c.copy_from_slice.ensures.after ∙ c.marks.ensures) (nearly c.split_at_mut-leaves.result.0.now c.split_at_mut-leaves.result.1.now c.rehash_on.new.leaves c.split_at_mut-below.result.0.now c.args.dirty.now c.args.store.now.rows
-    c.split_at_mut-leaves.ensures.front_len c.split_at_mut-below.ensures.front_len (record { each = c.rehash_on.ensures }) (subst IsTree c.split_at_mut-leaves.ensures.value c.requires))
+    rw c.copy_from_slice.ensures.after (nearly c.split_at_mut-leaves.result.0.now c.split_at_mut-leaves.result.1.now c.rehash_on.new.leaves c.split_at_mut-below.result.0.now c.args.dirty.now c.args.store.now.rows
+    c.split_at_mut-leaves.ensures.front_len c.split_at_mut-below.ensures.front_len (record { each = c.rehash_on.ensures.each }) (subst IsTree c.split_at_mut-leaves.ensures.value c.requires.tree))
 
 pub returns-clause-leaves : goal.returns-clause-leaves
-returns-clause-leaves g c = λ n small. sym (at-leaf c.rejoin.new.nodes n) ∙ ap (λ leaves. at leaves n) c.rejoin.ensures.leaves ∙ at-leaf _ n
+returns-clause-leaves g c = λ n small.
+    c.rejoin.ensures.leaves (4096 + n) (omega arith)
     ∙ rehashed-leaf c.split_at_mut-leaves.result.0.now c.split_at_mut-leaves.result.1.now c.rehash_on.new.leaves c.split_at_mut-below.result.0.now c.args.dirty.now c.args.store.now.rows
-    c.split_at_mut-leaves.ensures.front_len c.split_at_mut-below.ensures.front_len (record { each = c.rehash_on.ensures }) n small
+    c.split_at_mut-leaves.ensures.front_len c.split_at_mut-below.ensures.front_len (record { each = c.rehash_on.ensures.each }) n small
     ∙ ap (λ nodes. rehashed c.args.dirty.now c.args.store.now.rows (at nodes (4096 + n)) n) (sym c.split_at_mut-leaves.ensures.value)

@@ -1,6 +1,6 @@
-use Rattle.std.proofs.Common.{◌≡◌, ◌-◌, map, ◌++◌}
-use Rattle.serializability.specs.Levels.{cut, cut_from, places_from}
+use Rattle.std.proofs.Common.{◌≡◌, map, take}
+use Rattle.serializability.specs.Levels.{cut_from, depth, places_from}
 use Rattle.mixer.proofs.cut.cut_of.Given as goal
 
-abbrev pub invariant-loop-level : goal.invariant-loop-level
-invariant-loop-level l = map (λ places. places.items) l.cut.items ++ cut_from l.level (l.depth - l.level) (places_from 0 l.levels) ≡ cut l.levels
+abbrev pub invariant-loop-place : goal.invariant-loop-place
+invariant-loop-place l = map (λ places. places.items) l.cut.items ≡ cut_from 0 (depth l.levels) (places_from 0 (take l.place l.levels))

@@ -1,5 +1,5 @@
 use Rattle.std.proofs.Common.{refl, arith}
-use Rattle.mixer.proofs.RowSteps.{row_joined, row_pushed}
+use Rattle.serializability.proofs.RowSteps.{row_joined, row_pushed}
 use Rattle.mixer.proofs.rows.join.Goals as goal
 
 pub returns-then-level-len-clause-row : goal.returns-then-level-len-clause-row

@@ -1,5 +1,5 @@
 use Rattle.std.proofs.Common.{◌-◌, sym, ◌∙◌, arith}
-use Rattle.signatures_simd.specs.Signatures.{meet}
+use Rattle.serializability.specs.BitSets.{meet}
 use Rattle.signatures_simd.proofs.Lasts.{last_at, none_more, none_at_end}
 use Rattle.signatures_simd.proofs.signature.highest_meeting.Goals as goal
 

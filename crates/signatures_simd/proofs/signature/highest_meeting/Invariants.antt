@@ -1,5 +1,6 @@
 use Rattle.std.proofs.Common.{◌≡◌, None, drop}
-use Rattle.signatures_simd.specs.Signatures.{meet, last_from}
+use Rattle.serializability.specs.BitSets.{meet}
+use Rattle.serializability.specs.LevelRows.{last_from}
 use Rattle.signatures_simd.proofs.signature.highest_meeting.Given as goal
 
 abbrev pub invariant-loop-place : goal.invariant-loop-place

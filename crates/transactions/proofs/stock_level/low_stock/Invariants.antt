@@ -10,6 +10,6 @@ use Rattle.transactions.proofs.stock_level.low_stock.Given as goal
 -- the low items of the orders so far are held, fifteen an order at most
 abbrev pub invariant-loop-order : goal.invariant-loop-order
 invariant-loop-order g l =
-    IsHeld l.items (low_items (database l.catalog (lent (g.V.RowView.sees l.view))) l.p (first_recent l.fn.next) (l.order - first_recent l.fn.next))
-    × (length l.items.keys ≤ 15 * (l.order - first_recent l.fn.next))
-    × (covers (g.V.RowView.sees l.view) (orders_touch (database l.catalog (lent (g.V.RowView.sees l.view))) l.p (first_recent l.fn.next) (l.order - first_recent l.fn.next)) ≡ true)
+    IsHeld l.items (low_items (database l.catalog (lent (g.V.RowView.sees l.view))) l.p (first_recent l.district.next_order) (l.order - first_recent l.district.next_order))
+    × (length l.items.keys ≤ 15 * (l.order - first_recent l.district.next_order))
+    × (covers (g.V.RowView.sees l.view) (orders_touch (database l.catalog (lent (g.V.RowView.sees l.view))) l.p (first_recent l.district.next_order) (l.order - first_recent l.district.next_order)) ≡ true)

@@ -1,30 +1,14 @@
-use Rattle.std.proofs.Common.{ℕ, ap, ◌∙◌, rules, cond, true}
-use Rattle.std.specs.BTreeMap.{is_at}
-use Rattle.std.specs.Ordering.{nat_cmp}
-use Rattle.indexes.specs.declared.store.Indexes.{Indexes}
-use Rattle.indexes.specs.Indexed.{new_in, order_in}
-use Rattle.indexes.proofs.Placing.{same-at, has-same, has-new}
-use Rattle.indexes.proofs.Written.{on_err}
+use Rattle.std.proofs.Common.{true}
+use Rattle.std.proofs.lemmas.Result.{on_ok_weaker, on_err_weaker}
+use Rattle.indexes.proofs.Placing.{has-new, has-same, new-change, same-change}
 use Rattle.indexes.proofs.store.Indexes.add_new.Goals as goal
 
-pub returns-in_err-add_new-clause-err : goal.returns-in_err-add_new-clause-err
-returns-in_err-add_new-clause-err c =
-    let place : ℕ × ℕ = (c.args.warehouse, c.args.district) in
-    let old = c.add_district.new.self.districts in
-    let new = c.get_mut.follows.lender c.add_new.new.self in
-    let made : Indexes = record { alloc = c.add_district.new.self.alloc; districts = new } in
-    let written = ((c.get_mut.follows.holds c.add_new.new.self).3 (search rules)).0 in
-    on_err c.from_residual-in_err-add_new.result (has-same c.args.self.now made (record {
-      new_same = λ o w d. same-at old new place c.add_new.new.self written (new_in o) (c.in_err-add_new.ensures.err o ∙ ap (new_in o) c.in-Some.ensures.value) (w, d) ∙ c.add_district.ensures.new o w d;
-      order_same = λ b o w d. same-at old new place c.add_new.new.self written (order_in b o) (c.add_new.ensures.orders b o ∙ ap (order_in b o) c.in-Some.ensures.value) (w, d) ∙ c.add_district.ensures.orders b o w d;
-    }))
+pub returns-clause-ok : goal.returns-clause-ok
+returns-clause-ok c =
+    let ds = c.args.self.now.districts.items in
+    on_ok_weaker c.add_new.result (λ new. has-new ds _ c.args.warehouse c.args.district c.args.order true _ (new-change ds c.place-n.result c.args.warehouse c.args.district c.args.order true c.index_mut.result.now c.add_new.new.self (record { place = c.place-n.ensures.value; small = rw c.args.self.now.full c.place-n.ensures.small }) c.index_mut.ensures.value new c.add_new.ensures.orders)) c.add_new.ensures.open
 
-pub returns-in_ok-add_new-clause-ok : goal.returns-in_ok-add_new-clause-ok
-returns-in_ok-add_new-clause-ok c =
-    let new = c.get_mut.follows.lender c.add_new.new.self in
-    let made : Indexes = record { alloc = c.add_district.new.self.alloc; districts = new } in
-    λ b q. has-new c.add_district.new.self made c.args.warehouse c.args.district c.args.order true c.add_new.new.self (record {
-      at = ((c.get_mut.follows.holds c.add_new.new.self).3 (search rules)).0;
-      new_there = λ n. c.in_ok-add_new.ensures.open n ∙ ap (λ x. cond (is_at (nat_cmp c.args.order) n) true (new_in n x)) c.in-Some.ensures.value;
-      order_there = λ e n. c.add_new.ensures.orders e n ∙ ap (order_in e n) c.in-Some.ensures.value;
-    }) b q ∙ ap (cond _ true) (has-same c.args.self.now c.add_district.new.self (record { new_same = c.add_district.ensures.new; order_same = c.add_district.ensures.orders }) b q)
+pub returns-clause-err : goal.returns-clause-err
+returns-clause-err c =
+    let ds = c.args.self.now.districts.items in
+    on_err_weaker c.add_new.result (λ new. has-same ds _ (same-change ds c.place-n.result c.args.warehouse c.args.district c.index_mut.result.now c.add_new.new.self (record { place = c.place-n.ensures.value; small = rw c.args.self.now.full c.place-n.ensures.small }) c.index_mut.ensures.value new c.add_new.ensures.orders)) c.add_new.ensures.err

@@ -1,14 +1,16 @@
-use Rattle.std.proofs.Common.{sym, subst, ap, ◌∙◌, drop}
+use Rattle.std.proofs.Common.{ap, sym, subst, ◌∙◌, drop, length}
 use Rattle.std.proofs.lemmas.List.{with_items_is}
-use Rattle.merkle.specs.Nodes.{IsOf, IsTree}
+use Rattle.merkle.specs.Nodes.{IsTree, at}
+use Rattle.merkle.proofs.Joins.{at-leaf}
 use Rattle.merkle.proofs.tree.Tree.build.Goals as goal
 
 pub invariant_of-result : goal.invariant_of-result
 invariant_of-result g c =
-    let whole = with_items_is c.in_ok-nodes.nodes c.place_leaves.new.nodes (c.place_leaves.ensures.tree.full ∙ sym c.in_ok-nodes.ensures.len) in
-    subst IsTree (sym whole) c.place_leaves.ensures.tree
+    let nodes = with_items_is c.in_ok-nodes.nodes c.build_nodes.new.nodes (c.build_nodes.ensures.tree.full ∙ sym c.in_ok-nodes.ensures.len) in
+    let jobs = with_items_is c.in_ok-jobs.jobs c.build_nodes.new.jobs (c.build_nodes.ensures.room ∙ sym c.in_ok-jobs.ensures.len) in
+    (subst IsTree (sym nodes) c.build_nodes.ensures.tree, ap length jobs ∙ c.build_nodes.ensures.room)
 
 pub returns : goal.returns
 returns g c =
-    let whole = with_items_is c.in_ok-nodes.nodes c.place_leaves.new.nodes (c.place_leaves.ensures.tree.full ∙ sym c.in_ok-nodes.ensures.len) in
-    subst (λ leaves. IsOf leaves c.args.store.now.rows) (sym (ap (drop 4096) whole ∙ c.place_leaves.ensures.leaves ∙ c.deref.ensures.value)) c.in_ok-leaves.ensures.each
+    let nodes = with_items_is c.in_ok-nodes.nodes c.build_nodes.new.nodes (c.build_nodes.ensures.tree.full ∙ sym c.in_ok-nodes.ensures.len) in
+    record { each = λ n small. ap (λ all. at (drop 4096 all) n) nodes ∙ at-leaf c.build_nodes.new.nodes n ∙ c.build_nodes.ensures.leaves n small }

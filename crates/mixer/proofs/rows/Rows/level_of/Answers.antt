@@ -1,8 +1,9 @@
 use Rattle.std.proofs.Common.{◌≡◌, ℕ, ◌≤◌, Bool, List, [], Option, length, max, subst, sym, ◌∙◌, arith}
-use Rattle.signatures_simd.specs.Signatures.{meet, last_from}
-use Rattle.mixer.specs.LevelRows.{level_above}
-use Rattle.mixer.proofs.LevelRows.{last_bound}
-use Rattle.mixer.proofs.RowSteps.{rows_level}
+use Rattle.serializability.specs.BitSets.{meet}
+use Rattle.serializability.specs.LevelRows.{last_from, level_above}
+use Rattle.serializability.proofs.LevelRows.{last_bound}
+use Rattle.serializability.proofs.RowSteps.{level_by_rows}
+use Rattle.signatures_simd.specs.Bits.{bit}
 use Rattle.mixer.proofs.rows.Rows.level_of.Goals as goal
 
 above_within : (s : List Bool) (row items : List (List Bool)) (o : Option ℕ) → o ≡ last_from 0 (meet s) row → row ≡ items → level_above o ≤ length items
@@ -25,7 +26,7 @@ returns-clause-level c = λ done f are sig.
     ∙ (λ i. max (c.level_above-behind_writes.ensures i) (c.level_above-behind_reads.ensures i))
     ∙ (λ i. max (level_above (c.highest_meeting.ensures i)) (level_above (c.highest_meeting-2.ensures i)))
     ∙ (λ i. max (level_above (last_from 0 (meet c.args.own.now.reads) (c.deref.ensures.value i))) (level_above (last_from 0 (meet c.args.own.now.writes) (c.deref-2.ensures.value i))))
-    ∙ rows_level c.args.self.now done c.args.own.now f are sig
+    ∙ level_by_rows bit c.args.self.now.reads.items c.args.self.now.writes.items done c.args.own.now.reads c.args.own.now.writes f are sig
 
 pub returns-clause-bound : goal.returns-clause-bound
 returns-clause-bound c =

@@ -7,5 +7,5 @@ use Rattle.pages.proofs.store.RowStore.new.Goals as goal
 
 pub invariant_of-result : goal.invariant_of-result
 invariant_of-result c = record {
-  same = λ b q. c.new-indexes.ensures b q ∙ sym (ap (λ (rows : Rows). owns b q (owner_at (get rows q))) c.in_ok-pages.ensures ∙ ap (λ o. owns b q (owner_at o)) (get-empty row_key_cmp q) ∙ nobody b q);
+  same = λ b q. c.in_ok-indexes.ensures b q ∙ sym (ap (λ (rows : Rows). owns b q (owner_at (get rows q))) c.in_ok-pages.ensures ∙ ap (λ o. owns b q (owner_at o)) (get-empty row_key_cmp q) ∙ nobody b q);
 }

@@ -1,9 +1,9 @@
 use Rattle.std.proofs.Common.{◌≡◌, ℕ, ◌+◌, ◌/◌, ◌%◌, ◌*◌, ◌^◌, ◌<◌, List, length, ◌||◌, ◌==◌, map, drop, get_or, set, bit_or, refl, sym, ap, ◌∙◌, arith, length-set}
 use Rattle.std.proofs.lemmas.List.{drop_more}
 use Rattle.std.specs.List.{list_any}
+use Rattle.serializability.specs.BitSets.{has}
 use Rattle.tpcc_rows.specs.declared.granule.Granule.{Granule}
 use Rattle.signatures_simd.specs.Bits.{bit}
-use Rattle.signatures_simd.specs.Signatures.{has}
 use Rattle.signatures_simd.specs.Words.{words_bits}
 use Rattle.signatures_simd.proofs.Words.{no_bits, has_set, or_assoc}
 use Rattle.signatures_simd.proofs.signature.Signature.of.Goals as goal

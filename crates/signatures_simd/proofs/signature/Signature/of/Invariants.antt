@@ -1,7 +1,7 @@
 use Rattle.std.proofs.Common.{◌≡◌, ℕ, ◌==◌, ◌||◌, map, length, drop}
 use Rattle.std.specs.List.{list_any}
+use Rattle.serializability.specs.BitSets.{has}
 use Rattle.signatures_simd.specs.Bits.{bit}
-use Rattle.signatures_simd.specs.Signatures.{has}
 use Rattle.signatures_simd.specs.Words.{words_bits}
 use Rattle.signatures_simd.proofs.signature.Signature.of.Given as goal
 

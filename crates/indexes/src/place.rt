@@ -1,0 +1,40 @@
+//! Where the index page of a district stands.
+ghost use Rattle.std.specs.Prelude.{◌≡◌, ◌<◌, ℕ, IfNone, IfSome, false, true};
+ghost use Rattle.indexes.specs.Owners.{owns};
+ghost use Rattle.indexes.specs.Places.{is_of, is_place};
+ghost use Rattle.indexes.specs.declared.owner.Owner.{Owner};
+
+use tpcc_rows::id::{DistrictId, WarehouseId};
+use tpcc_rows::key::RowKey;
+
+/// So many places are there for index pages: one for each of the thousand districts. The first eleven are no district's.
+pub const PLACES: usize = 1_011;
+
+/// The place of the district.
+pub(crate) fn place(warehouse: WarehouseId, district: DistrictId) -> usize
+    ensures value { is_place result warehouse district ≡ true }
+    ensures small { result < PLACES }
+{
+    usize::from(warehouse.number()) * 10 + usize::from(district.number())
+}
+
+/// The place of the index page that has the key's number: None where none has it.
+pub fn place_of(key: &RowKey) -> Option<usize>
+    ensures some { IfSome result (λ n. is_of n key.now ≡ true) }
+    ensures small { IfSome result (λ n. n < PLACES) }
+    ensures none { IfNone result ((c : ℕ) (o : Owner) → owns c key.now o ≡ false) }
+{
+    match key {
+        RowKey::NewOrder {
+            warehouse,
+            district,
+            ..
+        }
+        | RowKey::Order {
+            warehouse,
+            district,
+            ..
+        } => Some(place(*warehouse, *district)),
+        _ => None,
+    }
+}

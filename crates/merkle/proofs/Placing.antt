@@ -1,0 +1,208 @@
+-- Jobs at the same places, and hashes put at their places.
+use Rattle.std.proofs.Common.{◌≡◌, ◌≢◌, ℕ, zero, suc, ◌+◌, ◌-◌, ◌*◌, ◌<◌, ◌≤◌, Bool, true, false, cond, eqb, ◌||◌, List, [], ◌∷◌, ◌++◌, All, length, get_or, set, take, drop, inl, inr, refl, sym, ap, subst, ◌∙◌, arith}
+use Rattle.std.specs.List.{list_any}
+use Rattle.std.specs.List.Sorted.{IsPermutation}
+use Rattle.std.proofs.lemmas.List.{get_or-drop, get_or-set_same, get_or-set_other, get_or-take, length-set, length-take, length-take-le, length-drop, take_all, take_at, take_more_set}
+use Rattle.std.proofs.lemmas.List.Folds.{list_any-append, list_any_at, Any-from_list_any}
+use Rattle.std.proofs.lemmas.List.Sorted.{list_any-IsPermutation}
+use Rattle.std.proofs.lemmas.Slice.{take-put_mid}
+use Rattle.std.proofs.lemmas.Bool.{cases_eq, eqb-true, eq-eqb, false_from_ne_true}
+use Rattle.std.proofs.lemmas.Bool.Decides.{eqb_tells}
+use Rattle.rollback.specs.Marks.{is_dirty}
+use Rattle.merkle.specs.Jobs.{has_place, AreHashed, IsDone}
+use Rattle.merkle.specs.Nodes.{at}
+use Rattle.merkle.specs.declared.jobs.Job.{Job}
+use borrow.Rule.Slice.PartMut.{put_mid, mid_of, post_of, put_same, same_len_mid}
+
+-- ---- places
+-- one job in place of another at the same place
+pub has_place-set : (jobs : List Job) (k : ℕ) (job d : Job) → k < length jobs → job.place ≡ (get_or jobs k d).place → (n : ℕ) → has_place (set jobs k job) n ≡ has_place jobs n
+has_place-set [] k job d h e n = absurd (omega arith)
+has_place-set (x ∷ xs) zero job d h e n = ap (λ p. eqb p n || has_place xs n) e
+has_place-set (x ∷ xs) (suc k) job d h e n = ap (λ b. eqb x.place n || b) (has_place-set xs k job d (omega arith) e n)
+
+-- what holds of the place of each job holds of each place that has one
+pub of-place : (P : ℕ → Type 0) (jobs : List Job) → All (λ job. P job.place) jobs → (n : ℕ) → has_place jobs n ≡ true → P n
+of-place P jobs all n h =
+    let (k, x, small, is, same) = Any-from_list_any (λ job. eqb job.place n) jobs h in
+    subst P (eqb-true x.place n same) (subst (λ job. P job.place) is (all k x small))
+
+-- so it holds of jobs at the same places
+pub all-kept : (P : ℕ → Type 0) (old new : List Job) → ((n : ℕ) → has_place new n ≡ has_place old n) → All (λ job. P job.place) old → All (λ job. P job.place) new
+all-kept P old new same all = λ k d small.
+    let n : ℕ = (get_or new k d).place in
+    of-place P old all n (sym (same n) ∙ list_any_at (λ job. eqb job.place n) new k d small (eq-eqb n n refl))
+
+-- ---- hashes put at their places
+pub put-more : (value : ℕ → List ℕ) (old now : List (List ℕ)) (p i : ℕ) (h : List ℕ) (b : Bool) → h ≡ value p → p < length now
+    → at now i ≡ cond b (value i) (at old i) → at (set now p h) i ≡ cond (b || eqb p i) (value i) (at old i)
+put-more value old now p i h b is small e = elim (eqb_tells p i) [
+  | inl t ↦ ap (at (set now p h)) (sym t.1) ∙ get_or-set_same now p h [] small ∙ is ∙ ap value t.1 ∙ sym (ap (λ t. cond (b || t) (value i) (at old i)) t.0 ∙ or-true b)
+  | inr t ↦ let ne : i ≢ p = λ q. t.1 (sym q) in get_or-set_other now p i h [] ne ∙ e ∙ sym (ap (λ t. cond (b || t) (value i) (at old i)) t.0 ∙ or-false b)
+] where
+  or-true : (b : Bool) → cond (b || true) (value i) (at old i) ≡ value i
+  or-true true = refl
+  or-true false = refl
+
+  or-false : (b : Bool) → cond (b || false) (value i) (at old i) ≡ cond b (value i) (at old i)
+  or-false true = refl
+  or-false false = refl
+
+-- ---- jobs done part by part
+-- the jobs are at the same places, and the first of them are hashed
+pub record IsDoneTo (value : ℕ → List ℕ) (k : ℕ) (old new : List Job) : Type 0 where
+  pub len : length new ≡ length old
+  pub places : (n : ℕ) → has_place new n ≡ has_place old n
+  pub hashed : AreHashed value (take k new)
+
+pub all-append : (P : Job → Type 0) (xs ys : List Job) → All P xs → All P ys → All P (xs ++ ys)
+all-append P [] ys a b k d h = b k d h
+all-append P (x ∷ xs) ys a b zero d h = a zero d (omega arith)
+all-append P (x ∷ xs) ys a b (suc k) d h = all-append P xs ys (λ j e l. a (suc j) e (omega arith)) b k d (omega arith)
+
+pub part-done : (value : ℕ → List ℕ) (old now mid : List Job) (s k e : ℕ) → s ≤ length now → s + k ≡ e → e ≤ length now → IsDoneTo value s old now → IsDone value (mid_of s k now) mid → IsDoneTo value e old (put_mid s k now mid)
+part-done value old now mid s k e low sum high before part = record {
+  len = same_len_mid s k now mid part.len ∙ before.len;
+  places = λ n.
+      let test : Job → Bool = λ job. eqb job.place n in
+      list_any-append test (take s now) (mid ++ post_of s k now)
+      ∙ ap (λ b. list_any test (take s now) || b) (list_any-append test mid (post_of s k now) ∙ ap (λ b. b || list_any test (post_of s k now)) (part.places n) ∙ sym (list_any-append test (mid_of s k now) (post_of s k now)))
+      ∙ sym (list_any-append test (take s now) (mid_of s k now ++ post_of s k now))
+      ∙ ap (λ jobs. has_place jobs n) (put_same s k now) ∙ before.places n;
+  hashed =
+      let wide : length (mid_of s k now) ≡ k = length-take k (drop s now) ∙ omega (arith, length-drop s now) in
+      subst (AreHashed value) (sym (take-put_mid s k now mid e (omega (arith, part.len, wide)) low))
+      (all-append (λ job. job.hash ≡ value job.place) (take s now) mid before.hashed part.hashed);
+}
+
+pub none-done : (value : ℕ → List ℕ) (jobs : List Job) → IsDoneTo value 0 jobs jobs
+none-done value jobs = record { len = refl; places = λ n. refl; hashed = λ k d h. absurd (omega arith) }
+
+pub all-done : (value : ℕ → List ℕ) (k : ℕ) (old new : List Job) → length new ≤ k → IsDoneTo value k old new → IsDone value old new
+all-done value k old new high to = record {
+  len = to.len;
+  places = to.places;
+  hashed = subst (AreHashed value) (take_all k new high) to.hashed;
+}
+
+-- the same from a part's ends
+pub step-done : (value : ℕ → List ℕ) (old now mid : List Job) (s e a b : ℕ) → s ≤ e → e ≤ length now → a ≡ s → b ≡ e → IsDoneTo value a old now → IsDone value (mid_of s (e - s) now) mid → IsDoneTo value b old (put_mid s (e - s) now mid)
+step-done value old now mid s e a b low high first last before part =
+    subst (λ n. IsDoneTo value n old (put_mid s (e - s) now mid)) (sym last)
+    (part-done value old now mid s (e - s) e (omega arith) (omega arith) high (subst (λ n. IsDoneTo value n old now) first before) part)
+
+pub all-part : (P : Job → Type 0) (xs : List Job) (s n : ℕ) → All P xs → All P (take n (drop s xs))
+all-part P xs s n all k d h =
+    let inside : k < length xs - s = omega (arith, h, length-take n (drop s xs), length-drop s xs) in
+    let below : k < n = omega (arith, h, length-take n (drop s xs)) in
+    subst P (sym (get_or-take n (drop s xs) k d below ∙ get_or-drop s xs k d)) (all (s + k) d (omega arith))
+
+pub below_four : (P : ℕ → Type 0) → P 0 → P 1 → P 2 → P 3 → (k : ℕ) → k < 4 → P k
+below_four P a b c d zero h = a
+below_four P a b c d (suc zero) h = b
+below_four P a b c d (suc (suc zero)) h = c
+below_four P a b c d (suc (suc (suc zero))) h = d
+below_four P a b c d (suc (suc (suc (suc k)))) h = absurd (omega arith)
+
+-- what a place past the last job is read as
+abbrev pub blank : Job
+blank = record { place = 0; bytes = 0; hash = [] }
+
+-- one more job hashed
+pub one-done : (value : ℕ → List ℕ) (old now : List Job) (k : ℕ) (job d : Job) → k < length now → job.place ≡ (get_or now k d).place → job.hash ≡ value job.place → IsDoneTo value k old now → IsDoneTo value (k + 1) old (set now k job)
+one-done value old now k job d small same hash before = record {
+  len = length-set now k job ∙ before.len;
+  places = λ n. has_place-set now k job d small same n ∙ before.places n;
+  hashed = subst (AreHashed value) (sym (take_more_set now k job small))
+      (all-append (λ job. job.hash ≡ value job.place) (take k now) (job ∷ []) before.hashed (one hash));
+} where
+  one : job.hash ≡ value job.place → AreHashed value (job ∷ [])
+  one h zero d l = h
+  one h (suc k) d l = absurd (omega arith)
+
+-- jobs moved and then done
+pub moved-done : (value : ℕ → List ℕ) (old moved new : List Job) → length moved ≡ length old → ((n : ℕ) → has_place moved n ≡ has_place old n) → IsDone value moved new → IsDone value old new
+moved-done value old moved new len places after = record { len = after.len ∙ len; places = λ n. after.places n ∙ places n; hashed = after.hashed }
+
+pub places-sorted : (old new : List Job) → IsPermutation old new → (n : ℕ) → has_place new n ≡ has_place old n
+places-sorted old new h n = sym (list_any-IsPermutation (λ job. eqb job.place n) old new h)
+
+-- ---- jobs gathered one by one
+or-nothing : (b : Bool) → (b || false) ≡ b
+or-nothing true = refl
+or-nothing false = refl
+
+pub has_place-more : (jobs : List Job) (count : ℕ) (job : Job) → count < length jobs → (k : ℕ) → has_place (take (count + 1) (set jobs count job)) k ≡ (has_place (take count jobs) k || eqb job.place k)
+has_place-more jobs count job small k =
+    ap (λ l. has_place l k) (take_more_set jobs count job small) ∙ list_any-append (λ j. eqb j.place k) (take count jobs) (job ∷ []) ∙ ap (λ b. has_place (take count jobs) k || b) (or-nothing (eqb job.place k))
+
+-- the first jobs are at the places from low to before n that pass the test
+pub record IsGathered (test : ℕ → Bool) (low n count : ℕ) (jobs : List Job) : Type 0 where
+  pub few : count + low ≤ n
+  pub range : All (λ job. (low ≤ job.place) × (job.place < n)) (take count jobs)
+  pub found : (k : ℕ) → low ≤ k → k < n → has_place (take count jobs) k ≡ test k
+
+pub gathered-past : (test : ℕ → Bool) (low n count : ℕ) (jobs : List Job) → IsGathered test low n count jobs → (k : ℕ) → n ≤ k → has_place (take count jobs) k ≡ false
+gathered-past test low n count jobs g k h = false_from_ne_true (has_place (take count jobs) k) (λ e. let r = of-place (λ p. (low ≤ p) × (p < n)) (take count jobs) g.range k e in omega (arith, r.1))
+
+pub gathered-zero : (test : ℕ → Bool) (low : ℕ) (jobs : List Job) → IsGathered test low low 0 jobs
+gathered-zero test low jobs = record { few = omega arith; range = λ k d h. absurd (omega arith); found = λ k l h. absurd (omega arith) }
+
+pub gathered-one : (test : ℕ → Bool) (low n count : ℕ) (jobs : List Job) (job : Job) → count < length jobs → job.place ≡ n → test n ≡ true → IsGathered test low n count jobs → IsGathered test low (n + 1) (count + 1) (set jobs count job)
+gathered-one test low n count jobs job small is passes g = record {
+  few = omega (arith, g.few);
+  range = subst (All (λ job. (low ≤ job.place) × (job.place < n + 1))) (sym (take_more_set jobs count job small))
+      (all-append (λ job. (low ≤ job.place) × (job.place < n + 1)) (take count jobs) (job ∷ []) (λ k d h. let r = g.range k d h in (r.0, omega (arith, r.1))) (only (omega (arith, is, g.few), omega (arith, is))));
+  found = λ k l h. has_place-more jobs count job small k ∙ elim (eqb_tells job.place k) [
+    | inl t ↦ ap (λ b. has_place (take count jobs) k || b) t.0 ∙ or-true (has_place (take count jobs) k) ∙ sym (ap test (sym t.1 ∙ is) ∙ passes)
+    | inr t ↦ let ne : n ≢ k = λ e. t.1 (is ∙ e) in ap (λ b. has_place (take count jobs) k || b) t.0 ∙ or-nothing (has_place (take count jobs) k) ∙ g.found k l (omega arith)
+  ];
+} where
+  only : (low ≤ job.place) × (job.place < n + 1) → All (λ job. (low ≤ job.place) × (job.place < n + 1)) (job ∷ [])
+  only r zero d h = r
+  only r (suc k) d h = absurd (omega arith)
+
+  or-true : (b : Bool) → (b || true) ≡ true
+  or-true true = refl
+  or-true false = refl
+
+pub gathered-none : (test : ℕ → Bool) (low n count : ℕ) (jobs : List Job) → test n ≡ false → IsGathered test low n count jobs → IsGathered test low (n + 1) count jobs
+gathered-none test low n count jobs fails g = record {
+  few = omega (arith, g.few);
+  range = λ k d h. let r = g.range k d h in (r.0, omega (arith, r.1));
+  found = λ k l h. elim (cases_eq k n) [
+    | inl e ↦ gathered-past test low n count jobs g k (omega arith) ∙ sym (ap test e ∙ fails)
+    | inr ne ↦ g.found k l (omega arith)
+  ];
+}
+
+-- marks of what was gathered
+pub marked-one : (marks first : List Bool) (jobs : List Job) (count n : ℕ) (job : Job) → count < length jobs → n < length marks → job.place ≡ n → ((k : ℕ) → is_dirty marks k ≡ (has_place (take count jobs) k || is_dirty first k))
+    → (k : ℕ) → is_dirty (set marks n true) k ≡ (has_place (take (count + 1) (set jobs count job)) k || is_dirty first k)
+marked-one marks first jobs count n job small inside is marked k = elim (eqb_tells job.place k) [
+  | inl t ↦ ap (is_dirty (set marks n true)) (sym t.1 ∙ is) ∙ get_or-set_same marks n true false inside ∙ sym (ap (λ b. b || is_dirty first k) (has_place-more jobs count job small k ∙ ap (λ b. has_place (take count jobs) k || b) t.0) ∙ two (has_place (take count jobs) k) (is_dirty first k))
+  | inr t ↦ let ne : k ≢ n = λ e. t.1 (is ∙ sym e) in get_or-set_other marks n k true false ne ∙ marked k ∙ sym (ap (λ b. b || is_dirty first k) (has_place-more jobs count job small k ∙ ap (λ b. has_place (take count jobs) k || b) t.0 ∙ or-nothing (has_place (take count jobs) k)))
+] where
+  two : (a b : Bool) → ((a || true) || b) ≡ true
+  two true b = refl
+  two false b = refl
+
+-- marks of children are as they were
+pub same-above : (test : ℕ → Bool) (marks first : List Bool) (jobs : List Job) (low n count : ℕ) → IsGathered test low n count jobs → ((k : ℕ) → is_dirty marks k ≡ (has_place (take count jobs) k || is_dirty first k))
+    → (is_dirty marks (2 * n) || is_dirty marks (2 * n + 1)) ≡ (is_dirty first (2 * n) || is_dirty first (2 * n + 1))
+same-above test marks first jobs low n count g marked = ap (λ b. b || is_dirty marks (2 * n + 1)) (same (2 * n) (omega arith)) ∙ ap (λ b. is_dirty first (2 * n) || b) (same (2 * n + 1) (omega arith)) where
+  same : (k : ℕ) → n ≤ k → is_dirty marks k ≡ is_dirty first k
+  same k h = marked k ∙ ap (λ b. b || is_dirty first k) (gathered-past test low n count jobs g k h)
+
+-- ---- the first jobs of a list, done and put at their places
+module _ (value : ℕ → List ℕ) (count : ℕ) (gathered first rest : List Job) (few : count ≤ length gathered) (done : IsDone value (take count gathered) first) where
+  first-is : take count (first ++ rest) ≡ first
+  first-is = take_at first rest count (done.len ∙ length-take-le count gathered few)
+
+  pub first-below : (bound : ℕ) → All (λ job. job.place < bound) (take count gathered) → All (λ job. job.place < bound) (take count (first ++ rest))
+  first-below bound all = subst (All (λ job. job.place < bound)) (sym first-is) (all-kept (λ n. n < bound) (take count gathered) first done.places all)
+
+  pub first-put : (old new : List (List ℕ)) → (AreHashed value (take count (first ++ rest)) → (i : ℕ) → at new i ≡ cond (has_place (take count (first ++ rest)) i) (value i) (at old i))
+      → (i : ℕ) → at new i ≡ cond (has_place (take count gathered) i) (value i) (at old i)
+  first-put old new put i =
+      put (subst (AreHashed value) (sym first-is) done.hashed) i ∙ ap (λ b. cond b (value i) (at old i)) (ap (λ jobs. has_place jobs i) first-is ∙ done.places i)

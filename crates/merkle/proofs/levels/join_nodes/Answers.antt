@@ -1,0 +1,21 @@
+use Rattle.std.proofs.Common.{◌<◌, ◌+◌, ◌-◌, ◌*◌, arith, length, min}
+use Rattle.merkle.specs.Nodes.{join_at}
+use Rattle.merkle.proofs.Placing.{all-done, all-kept, all-part, step-done}
+use Rattle.merkle.proofs.levels.join_nodes.Goals as goal
+
+pub join_group-requires : goal.join_group-requires
+join_group-requires c = all-part (λ job. 2 * job.place + 1 < length c.args.nodes.now) c.loop-group.jobs (4 * c.loop-group.group) (c.min-end.result - 4 * c.loop-group.group) (all-kept (λ i. 2 * i + 1 < length c.args.nodes.now) c.args.jobs.now c.loop-group.jobs c.loop-group.invariant.places c.requires)
+
+pub loop-group-preserved : goal.loop-group-preserved
+loop-group-preserved c =
+    let len = c.loop-group.invariant.len in
+    let last = c.min-end.ensures in
+    let groups = c.div_ceil-group-end.ensures in
+    let test = c.loop-group-test.true in
+    step-done (join_at c.args.nodes.now) c.args.jobs.now c.loop-group.jobs c.join_group.new.jobs (4 * c.loop-group.group) c.min-end.result (min (4 * c.loop-group.group) (length c.args.jobs.now)) (min (4 * (c.loop-group.group + 1)) (length c.args.jobs.now))
+    (omega (arith, len, last, groups, test)) (omega (arith, len, last, groups, test)) (omega (arith, len, last, groups, test)) (omega (arith, len, last, groups, test)) c.loop-group.invariant c.join_group.ensures
+
+pub returns : goal.returns
+returns c =
+    let len = c.loop-group.invariant.len in
+    all-done (join_at c.args.nodes.now) (min (4 * c.loop-group.group) (length c.args.jobs.now)) c.args.jobs.now c.loop-group.jobs (omega (arith, len, c.div_ceil-group-end.ensures, c.loop-group-test.false)) c.loop-group.invariant

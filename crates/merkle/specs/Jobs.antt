@@ -1,0 +1,23 @@
+-- Places of a tree that are to be hashed, and their hashes.
+use Rattle.std.specs.Prelude.{◌≡◌, ℕ, Bool, List, All, eqb, length}
+use Rattle.std.specs.List.{list_any}
+use Rattle.merkle.specs.declared.jobs.Job.{Job}
+
+-- whether one of the jobs is at this place
+abbrev pub has_place : List Job → ℕ → Bool
+has_place jobs n = list_any (λ job. eqb job.place n) jobs
+
+-- each job's hash is the value at its place
+abbrev pub AreHashed : (ℕ → List ℕ) → List Job → Type 0
+AreHashed value jobs = All (λ job. job.hash ≡ value job.place) jobs
+
+-- the new jobs are at the same places, in some order
+pub record KeepsPlaces (old new : List Job) : Type 0 where
+  pub len : length new ≡ length old
+  pub places : (n : ℕ) → has_place new n ≡ has_place old n
+
+-- they are, and each is hashed
+pub record IsDone (value : ℕ → List ℕ) (old new : List Job) : Type 0 where
+  pub len : length new ≡ length old
+  pub places : (n : ℕ) → has_place new n ≡ has_place old n
+  pub hashed : AreHashed value new

@@ -1,0 +1,216 @@
+-- What points stand for after a change, and after going back.
+use Rattle.std.proofs.Common.{◌≡◌, ℕ, zero, suc, ◌<◌, ◌≤◌, ◌+◌, Bool, true, false, ◌&&◌, ◌||◌, eqb, nat_lt, List, [], ◌∷◌, ◌++◌, length, get_or, set, take, drop, Option, Some, Result, Ok, Err, inl, inr, refl, sym, ap, subst, ◌∙◌, arith}
+use Rattle.std.proofs.lemmas.Bool.{cases_Bool, eqb-true, eq-eqb, lt-ltb, le-ltb, ltb-true, ltb-false}
+use Rattle.std.proofs.lemmas.List.{get_or-set_same, get_or-set_other, take-append-le, take_all}
+use Rattle.std.specs.List.{refill, slice_get}
+use Rattle.std.specs.Result.{OnOk, OnErr}
+use Rattle.serializability.specs.Changes.{changed}
+use Rattle.tpcc_rows.specs.declared.key.RowKey.{RowKey}
+use Rattle.tpcc_rows.specs.declared.row.Row.{Row}
+use Rattle.tpcc_rows.specs.RowMap.{Rows}
+use Rattle.tpcc_rows.specs.Leaves.{page_rows}
+use Rattle.pages.specs.declared.saved.Saved.{Saved}
+use Rattle.pages.specs.Saving.{HasPages, has_leaf, IsSavedOf, restored}
+use Rattle.pages.proofs.Restoring.{restored-changed, restored-page, saved-changed}
+use Rattle.rollback.specs.Marks.{is_dirty, HasAlsoSaved}
+use Rattle.rollback.specs.Pointed.{AreSaved, first_or, NewestHas, points_of}
+use Rattle.rollback.proofs.Marking.{or-left, or-right, page-past}
+
+-- ---- a change at a key whose pages the newest point has
+pub points-changed : (ss : List Saved) (rows : Rows) (k : RowKey) (c : Option Row) → NewestHas ss k → points_of ss (changed rows k c) ≡ points_of ss rows
+points-changed [] rows k c h = refl
+points-changed (s ∷ []) rows k c h = ap (λ (r : Rows). r ∷ []) (restored-changed s.kept.items rows k c h)
+points-changed (s ∷ t ∷ ss) rows k c h = ap (λ (ps : List Rows). restored s.kept.items (first_or ps rows) ∷ ps) (points-changed (t ∷ ss) rows k c h)
+
+pub saved-points : (ss : List Saved) (rows : Rows) (k : RowKey) (c : Option Row) → NewestHas ss k → AreSaved ss rows → AreSaved ss (changed rows k c)
+saved-points [] rows k c h a = a
+saved-points (s ∷ []) rows k c h a = (saved-changed s.kept.items rows k c h a.0, tt)
+saved-points (s ∷ t ∷ ss) rows k c h a = (subst (λ (ps : List Rows). IsSavedOf s.kept.items (first_or ps rows)) (sym (points-changed (t ∷ ss) rows k c h)) a.0, saved-points (t ∷ ss) rows k c h a.1)
+
+-- ---- the newest point's pages replaced
+pub record IsMore (s d : Saved) (rows : Rows) : Type 0 where
+  pub rows_same : restored s.kept.items rows ≡ restored d.kept.items rows
+  pub of_same : IsSavedOf d.kept.items rows → IsSavedOf s.kept.items rows
+
+pub points-set : (ss : List Saved) (s d : Saved) (rows : Rows) (n : ℕ) → n + 1 ≡ length ss → IsMore s (get_or ss n d) rows → points_of (set ss n s) rows ≡ points_of ss rows
+points-set [] s d rows n e h = refl
+points-set (t ∷ []) s d rows zero e h = ap (λ (r : Rows). r ∷ []) h.rows_same
+points-set (t ∷ u ∷ ss) s d rows zero e h = absurd (omega arith)
+points-set (t ∷ []) s d rows (suc n) e h = absurd (omega arith)
+points-set (t ∷ u ∷ ss) s d rows (suc n) e h = ap (λ (ps : List Rows). restored t.kept.items (first_or ps rows) ∷ ps) (points-set (u ∷ ss) s d rows n (omega arith) h)
+
+pub saved-set : (ss : List Saved) (s d : Saved) (rows : Rows) (n : ℕ) → n + 1 ≡ length ss → IsMore s (get_or ss n d) rows → AreSaved ss rows → AreSaved (set ss n s) rows
+saved-set [] s d rows n e h a = a
+saved-set (t ∷ []) s d rows zero e h a = (h.of_same a.0, tt)
+saved-set (t ∷ u ∷ ss) s d rows zero e h a = absurd (omega arith)
+saved-set (t ∷ []) s d rows (suc n) e h a = absurd (omega arith)
+saved-set (t ∷ u ∷ ss) s d rows (suc n) e h a = (subst (λ (ps : List Rows). IsSavedOf t.kept.items (first_or ps rows)) (sym (points-set (u ∷ ss) s d rows n (omega arith) h)) a.0, saved-set (u ∷ ss) s d rows n (omega arith) h a.1)
+
+pub newest-set : (ss : List Saved) (s : Saved) (k : RowKey) (n : ℕ) → n + 1 ≡ length ss → HasPages s.kept.items k → NewestHas (set ss n s) k
+newest-set [] s k n e h = absurd (omega arith)
+newest-set (t ∷ []) s k zero e h = h
+newest-set (t ∷ u ∷ ss) s k zero e h = absurd (omega arith)
+newest-set (t ∷ []) s k (suc n) e h = absurd (omega arith)
+newest-set (t ∷ u ∷ []) s k (suc zero) e h = h
+newest-set (t ∷ u ∷ []) s k (suc (suc n)) e h = absurd (omega arith)
+newest-set (t ∷ u ∷ v ∷ ss) s k (suc zero) e h = absurd (omega arith)
+newest-set (t ∷ u ∷ v ∷ ss) s k (suc (suc n)) e h = newest-set (u ∷ v ∷ ss) s k (suc n) (omega arith) h
+
+-- ---- one point more
+first-push : (ps : List Rows) (p rows : Rows) → first_or (ps ++ p ∷ []) rows ≡ first_or ps p
+first-push [] p rows = refl
+first-push (q ∷ ps) p rows = refl
+
+pub points-push : (ss : List Saved) (s : Saved) (rows : Rows) → points_of (ss ++ s ∷ []) rows ≡ points_of ss (restored s.kept.items rows) ++ restored s.kept.items rows ∷ []
+points-push [] s rows = refl
+points-push (t ∷ ss) s rows =
+    let back = restored s.kept.items rows in
+    ap (λ (ps : List Rows). restored t.kept.items (first_or ps rows) ∷ ps) (points-push ss s rows)
+    ∙ ap (λ (r : Rows). restored t.kept.items r ∷ (points_of ss back ++ back ∷ [])) (first-push (points_of ss back) back rows)
+
+pub saved-push : (ss : List Saved) (s : Saved) (rows : Rows) → IsSavedOf s.kept.items rows → AreSaved ss (restored s.kept.items rows) → AreSaved (ss ++ s ∷ []) rows
+saved-push [] s rows of a = (of, tt)
+saved-push (t ∷ ss) s rows of a =
+    let back = restored s.kept.items rows in
+    (subst (λ (r : Rows). IsSavedOf t.kept.items r) (sym (ap (λ (ps : List Rows). first_or ps rows) (points-push ss s rows) ∙ first-push (points_of ss back) back rows)) a.0, saved-push ss s rows of a.1)
+
+-- the newest of them
+pub saved-last : (ss : List Saved) (s : Saved) (rows : Rows) → AreSaved (ss ++ s ∷ []) rows → IsSavedOf s.kept.items rows
+saved-last [] s rows a = a.0
+saved-last (t ∷ ss) s rows a = saved-last ss s rows a.1
+
+-- and the others
+pub saved-pop : (ss : List Saved) (s : Saved) (rows : Rows) → AreSaved (ss ++ s ∷ []) rows → AreSaved ss (restored s.kept.items rows)
+saved-pop [] s rows a = tt
+saved-pop (t ∷ ss) s rows a =
+    let back = restored s.kept.items rows in
+    (subst (λ (r : Rows). IsSavedOf t.kept.items r) (ap (λ (ps : List Rows). first_or ps rows) (points-push ss s rows) ∙ first-push (points_of ss back) back rows) a.0, saved-pop ss s rows a.1)
+
+pub nothing-saved : (s : Saved) (rows : Rows) → s.kept.items ≡ [] → IsSavedOf s.kept.items rows
+nothing-saved s rows e = subst (λ ks. IsSavedOf ks rows) (sym e) (record { same = λ c q. refl })
+
+pub nothing-restored : (s : Saved) (rows : Rows) → s.kept.items ≡ [] → restored s.kept.items rows ≡ rows
+nothing-restored s rows e = ap (λ ks. restored ks rows) e
+
+pub length-points : (ss : List Saved) (rows : Rows) → length (points_of ss rows) ≡ length ss
+length-points [] rows = refl
+length-points (s ∷ ss) rows = let e = length-points ss rows in omega arith
+
+pub no-points : (ss : List Saved) (rows : Rows) → points_of ss rows ≡ [] → ss ≡ []
+no-points [] rows e = refl
+no-points (s ∷ ss) rows e = cc
+
+pub drop-saved : (ss : List Saved) (rows : Rows) → points_of (drop 1 ss) rows ≡ drop 1 (points_of ss rows)
+drop-saved [] rows = refl
+drop-saved (s ∷ ss) rows = refl
+
+pub saved-drop : (ss : List Saved) (rows : Rows) → AreSaved ss rows → AreSaved (drop 1 ss) rows
+saved-drop [] rows a = a
+saved-drop (s ∷ ss) rows a = a.1
+
+-- ---- going back by one point, as seen from point n on
+pub record IsBack (n : ℕ) (old : List Rows) (present : Rows) (ss : List Saved) (rows : Rows) : Type 0 where
+  pub few : take n (points_of ss rows) ≡ take n old
+  pub first : first_or (drop n (points_of ss rows)) rows ≡ first_or (drop n old) present
+  pub saved : AreSaved ss rows
+
+first-drop : (n : ℕ) (ps : List Rows) (p rows : Rows) → n ≤ length ps → first_or (drop n (ps ++ p ∷ [])) rows ≡ first_or (drop n ps) p
+first-drop zero [] p rows h = refl
+first-drop zero (q ∷ ps) p rows h = refl
+first-drop (suc n) [] p rows h = absurd (omega arith)
+first-drop (suc n) (q ∷ ps) p rows h = first-drop n ps p rows (omega arith)
+
+pub back-pop : (n : ℕ) (old : List Rows) (present : Rows) (ss : List Saved) (s : Saved) (rows : Rows) → n ≤ length ss → IsBack n old present (ss ++ s ∷ []) rows → IsBack n old present ss (restored s.kept.items rows)
+back-pop n old present ss s rows h b =
+    let back = restored s.kept.items rows in
+    let few : n ≤ length (points_of ss back) = rw (length-points ss back) h in
+    record {
+      few = sym (ap (take n) (points-push ss s rows) ∙ take-append-le n (points_of ss back) (back ∷ []) few) ∙ b.few;
+      first = sym (ap (λ (ps : List Rows). first_or (drop n ps) rows) (points-push ss s rows) ∙ first-drop n (points_of ss back) back rows few) ∙ b.first;
+      saved = saved-pop ss s rows b.saved;
+    }
+
+drop_empty : (n : ℕ) → drop {A = Rows} n [] ≡ []
+drop_empty zero = refl
+drop_empty (suc n) = refl
+
+drop_none : (n : ℕ) (ps : List Rows) → length ps ≤ n → drop n ps ≡ []
+drop_none n [] h = drop_empty n
+drop_none zero (p ∷ ps) h = absurd (omega arith)
+drop_none (suc n) (p ∷ ps) h = drop_none n ps (omega arith)
+
+first-at : (n : ℕ) (ps : List Rows) (rows : Rows) → n < length ps → slice_get ps n ≡ Some (first_or (drop n ps) rows)
+first-at n [] rows h = absurd (omega arith)
+first-at zero (p ∷ ps) rows h = refl
+first-at (suc n) (p ∷ ps) rows h = first-at n ps rows (omega arith)
+
+pub back-rows : (n : ℕ) (old : List Rows) (present : Rows) (ss : List Saved) (rows : Rows) → n < length old → length ss ≤ n → IsBack n old present ss rows → slice_get old n ≡ Some rows
+back-rows n old present ss rows small h b = first-at n old present small ∙ ap (λ (r : Rows). Some r) (sym b.first ∙ ap (λ (ps : List Rows). first_or ps rows) (drop_none n (points_of ss rows) (rw (length-points ss rows) h)))
+
+pub back-points : (n : ℕ) (old : List Rows) (present : Rows) (ss : List Saved) (rows : Rows) → length ss ≤ n → IsBack n old present ss rows → points_of ss rows ≡ take n old
+back-points n old present ss rows h b = sym (take_all n (points_of ss rows) (rw (length-points ss rows) h)) ∙ b.few
+
+take-next : (n m : ℕ) (ps : List Rows) (p : Rows) → m ≡ n + 1 → slice_get ps n ≡ Some p → take n ps ++ p ∷ [] ≡ take m ps
+take-next n m [] p e at = let no : Some p ≡ slice_get {X = Rows} [] n = sym at in cc
+take-next n zero (q ∷ ps) p e at = absurd (omega arith)
+take-next zero (suc m) (q ∷ ps) p e at = let none : m ≡ 0 = omega arith in let same : q ≡ p = cc in rw none (ap (λ (r : Rows). r ∷ []) (sym same))
+take-next (suc n) (suc m) (q ∷ ps) p e at = ap (λ (rs : List Rows). q ∷ rs) (take-next n m ps p (omega arith) at)
+
+pub rewound : (n : ℕ) (old new : List Rows) (p : Rows) → slice_get old n ≡ Some p → new ≡ take n old ++ p ∷ [] → new ≡ take (n + 1) old
+rewound n old new p at e = e ∙ take-next n (n + 1) old p refl at
+
+-- ---- the leaves that come back
+pub record KeepsClean (before after : List Bool) (old new : Rows) : Type 0 where
+  pub kept : (n : ℕ) → is_dirty after n ≡ false → (is_dirty before n ≡ false) × (page_rows new n ≡ page_rows old n)
+
+not-saved : (s : Saved) (n : ℕ) → (nat_lt n 4096 && has_leaf s.kept.items n) ≡ false → (rows : Rows) → page_rows (restored s.kept.items rows) n ≡ page_rows rows n
+not-saved s n h rows = elim (cases_Bool (nat_lt n 4096)) [
+  | inl t ↦ restored-page s.kept.items rows n (sym (ap (λ b. b && has_leaf s.kept.items n) t) ∙ h)
+  | inr f ↦ page-past (restored s.kept.items rows) rows n f
+]
+
+pub clean-back : (first before after : List Bool) (old rows : Rows) (s : Saved) → HasAlsoSaved before s after → KeepsClean first before old rows → KeepsClean first after old (restored s.kept.items rows)
+clean-back first before after old rows s marks h = record {
+  kept = λ n clean.
+      let both : ((nat_lt n 4096 && has_leaf s.kept.items n) || is_dirty before n) ≡ false = sym (marks n) ∙ clean in
+      let earlier = h.kept n (or-right (nat_lt n 4096 && has_leaf s.kept.items n) (is_dirty before n) both) in
+      (earlier.0, not-saved s n (or-left (nat_lt n 4096 && has_leaf s.kept.items n) (is_dirty before n) both) rows ∙ earlier.1);
+}
+
+-- marks joined with those of saved leaves, one more
+pub joined-more : (marks : List Bool) (i : ℕ) (b : Bool) (has old : ℕ → Bool) → i < length marks → b ≡ (get_or marks i false || has i) → ((n : ℕ) → get_or marks n false ≡ ((nat_lt n i && has n) || old n)) → (n : ℕ) → get_or (set marks i b) n false ≡ ((nat_lt n (i + 1) && has n) || old n)
+joined-more marks i b has old small e h n = elim (cases_Bool (eqb n i)) [
+  | inl t ↦
+      let same : n ≡ i = eqb-true n i t in
+      ap (λ m. get_or (set marks i b) m false) same ∙ get_or-set_same marks i b false small ∙ e ∙ ap (λ x. x || has i) (h i ∙ ap (λ x. (x && has i) || old i) (le-ltb i i (omega arith)))
+      ∙ swap (old i) (has i) ∙ sym (ap (λ m. (nat_lt m (i + 1) && has m) || old m) same ∙ ap (λ x. (x && has i) || old i) (lt-ltb i (i + 1) (omega arith)))
+  | inr f ↦ get_or-set_other marks i n b false (differ f) ∙ h n ∙ ap (λ x. (x && has n) || old n) (next f)
+]
+  where
+    swap : (o x : Bool) → (o || x) ≡ (x || o)
+    swap true true = refl
+    swap true false = refl
+    swap false true = refl
+    swap false false = refl
+
+    differ : eqb n i ≡ false → n ≡ i → ⊥
+    differ f s = let bad : true ≡ false = sym (eq-eqb n i s) ∙ f in cc
+
+    next : eqb n i ≡ false → nat_lt n i ≡ nat_lt n (i + 1)
+    next f = elim (cases_Bool (nat_lt n i)) [
+      | inl t ↦ let less : n < i = ltb-true n i t in t ∙ sym (lt-ltb n (i + 1) (omega arith))
+      | inr g ↦ elim (cases_Bool (nat_lt n (i + 1))) [
+        | inl t ↦
+            let less : n < i + 1 = ltb-true n (i + 1) t in
+            let more : i ≤ n = ltb-false n i g in
+            absurd (differ f (omega arith))
+        | inr g2 ↦ g ∙ sym g2
+      ]
+    ]
+
+pub refill_whole : (xs ws : List Saved) → length ws ≡ length xs → refill (length xs) xs ws ≡ ws
+refill_whole xs ws e = take-append-le (length xs) ws (drop (length ws) xs) (omega arith) ∙ take_all (length xs) ws (omega arith)
+
+pub either : {T E P : Type 0} (r : Result T E) → OnOk r P → OnErr r P → P
+either (Ok x) p q = p
+either (Err e) p q = q

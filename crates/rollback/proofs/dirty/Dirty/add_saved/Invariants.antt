@@ -1,0 +1,8 @@
+use Rattle.std.proofs.Common.{◌≡◌, ℕ, ◌&&◌, ◌||◌, nat_lt}
+use Rattle.pages.specs.Saving.{has_leaf}
+use Rattle.rollback.specs.Marks.{is_dirty}
+use Rattle.rollback.proofs.dirty.Dirty.add_saved.Given as goal
+
+-- the leaves so far are there
+abbrev pub invariant-loop-leaf : goal.invariant-loop-leaf
+invariant-loop-leaf l = (n : ℕ) → is_dirty l.self-inside.marks n ≡ ((nat_lt n l.leaf && has_leaf l.saved.kept.items n) || is_dirty l.initial.self-inside.marks n)

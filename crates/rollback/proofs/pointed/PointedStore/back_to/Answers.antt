@@ -1,5 +1,0 @@
-use Rattle.rollback.proofs.Marking.{keeps-all}
-use Rattle.rollback.proofs.pointed.PointedStore.back_to.Goals as goal
-
-pub returns-clause-clean : goal.returns-clause-clean
-returns-clause-clean c = keeps-all (record { rows = c.self.inside.store; points = c.self.inside.points.items; dirty = c.self.inside.dirty }) c.args.self.now (record { rows = c.remove.result; points = c.truncate.new.self.items; dirty = c.add_all.new.self }) c.self.view_is c.add_all.ensures
