@@ -27,10 +27,13 @@ use Rattle.command_line.specs.declared.line.LineFault.TheVariants.{Refused, Unre
 abbrev pub required_rule : Text → Rule
 required_rule id = record (new_rule id) { required = true }
 
--- the same, of a number between these two
+-- an argument of a number between these two
+abbrev pub ranged_rule : Text → ℕ → ℕ → Rule
+ranged_rule id least most = record (new_rule id) { parser = Some (Signed (pos least) (pos most)) }
+
+-- the same, which is known by its place and has to be given
 abbrev pub number_rule : Text → ℕ → ℕ → Rule
-number_rule id least most =
-    record (required_rule id) { parser = Some (Signed (pos least) (pos most)) }
+number_rule id least most = record (ranged_rule id least most) { required = true }
 
 abbrev pub image_rule : Rule
 image_rule = required_rule (codes "IMAGE")
@@ -49,10 +52,9 @@ items_rule = number_rule (codes "I") 1 100000
 
 -- the option `--workers N`, which is 1 where it is left out
 abbrev pub workers_rule : Rule
-workers_rule = record (new_rule (codes "workers")) {
+workers_rule = record (ranged_rule (codes "workers") 1 64) {
   long = Some (codes "workers");
   value_names = 1;
-  parser = Some (Signed (pos 1) (pos 64));
   defaults = codes "1" ∷ [];
 }
 

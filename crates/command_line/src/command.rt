@@ -1,14 +1,16 @@
 //! The command that `clap` reads the words by: a function for each argument and each subcommand.
 ghost use Rattle.std.specs.Prelude.{◌≡◌, ◌≤◌, IfOk, pos};
 ghost use Rattle.clap.specs.declared.builder.value_parser.ValueParser.TheVariants.{Signed};
-ghost use Rattle.command_line.specs.CommandLine.{IsArgument, IsCommand, bare_app, batches_rule};
-ghost use Rattle.command_line.specs.CommandLine.{check_app, customers_rule, image_rule, items_rule};
-ghost use Rattle.command_line.specs.CommandLine.{make_app, program_app, run_app, warehouses_rule};
+ghost use Rattle.command_line.specs.CommandLine.{IsArgument, IsCommand, bare_app, check_app, make_app};
+ghost use Rattle.command_line.specs.CommandLine.{number_rule, program_app, ranged_rule, required_rule, run_app};
 ghost use Rattle.command_line.specs.CommandLine.{workers_rule};
 
 use clap::builder::ValueParser;
 use clap::{Arg, Command, value_parser};
 use std::alloc::{AllocError, Global};
+
+/// What help says of an image.
+const IMAGE: &str = "The file of the database's image";
 
 /// What takes the numbers from 1 to this one.
 fn up_to<'a>(most: u32) -> ValueParser<'a>
@@ -18,58 +20,36 @@ fn up_to<'a>(most: u32) -> ValueParser<'a>
     value_parser!(u32).range(1..=i64::from(most))
 }
 
-fn image<'a>(alloc: Global) -> Arg<'a>
-    ensures { IsArgument image_rule result }
+/// An argument that is known by its place and has to be given.
+fn required<'a>(alloc: Global, id: &'a str, help: &'a str) -> Arg<'a>
+    ensures { IsArgument (required_rule id.entry.now) result }
 {
-    Arg::new(alloc, "IMAGE")
-        .required(true)
-        .help("The file of the database's image")
+    Arg::new(alloc, id).required(true).help(help)
 }
 
-fn batches<'a>(alloc: Global) -> Arg<'a>
-    ensures { IsArgument batches_rule result }
+/// An argument that takes the numbers from 1 to this one.
+fn ranged<'a>(alloc: Global, id: &'a str, most: u32, help: &'a str) -> Arg<'a>
+    requires { 1 ≤ most }
+    ensures { IsArgument (ranged_rule id.entry.now 1 most) result }
 {
-    Arg::new(alloc, "BATCHES")
-        .required(true)
-        .help("The file of the batches")
+    Arg::new(alloc, id).value_parser(up_to(most)).help(help)
+}
+
+/// The same, which is known by its place and has to be given.
+fn number<'a>(alloc: Global, id: &'a str, most: u32, help: &'a str) -> Arg<'a>
+    requires { 1 ≤ most }
+    ensures { IsArgument (number_rule id.entry.now 1 most) result }
+{
+    ranged(alloc, id, most, help).required(true)
 }
 
 fn workers<'a>(alloc: Global) -> Arg<'a>
     ensures { IsArgument workers_rule result }
 {
-    Arg::new(alloc, "workers")
+    ranged(alloc, "workers", 64, "The number of workers, 1 to 64")
         .long("workers")
         .value_name("N")
-        .value_parser(up_to(64))
         .default_value("1")
-        .help("The number of workers, 1 to 64")
-}
-
-fn warehouses<'a>(alloc: Global) -> Arg<'a>
-    ensures { IsArgument warehouses_rule result }
-{
-    Arg::new(alloc, "W")
-        .required(true)
-        .value_parser(up_to(100))
-        .help("The number of warehouses, 1 to 100")
-}
-
-fn customers<'a>(alloc: Global) -> Arg<'a>
-    ensures { IsArgument customers_rule result }
-{
-    Arg::new(alloc, "C")
-        .required(true)
-        .value_parser(up_to(3_000))
-        .help("The number of customers of a district, 1 to 3000")
-}
-
-fn items<'a>(alloc: Global) -> Arg<'a>
-    ensures { IsArgument items_rule result }
-{
-    Arg::new(alloc, "I")
-        .required(true)
-        .value_parser(up_to(100_000))
-        .help("The number of items, 1 to 100000")
 }
 
 fn run<'a>(alloc: Global) -> Result<Command<'a>, AllocError>
@@ -77,8 +57,8 @@ fn run<'a>(alloc: Global) -> Result<Command<'a>, AllocError>
 {
     Command::new(alloc, "run")
         .about("Executes the batches of a file on the database of an image")
-        .arg(image(alloc))?
-        .arg(batches(alloc))?
+        .arg(required(alloc, "IMAGE", IMAGE))?
+        .arg(required(alloc, "BATCHES", "The file of the batches"))?
         .arg(workers(alloc))
 }
 
@@ -87,7 +67,7 @@ fn check<'a>(alloc: Global) -> Result<Command<'a>, AllocError>
 {
     Command::new(alloc, "check")
         .about("Checks the image of a database")
-        .arg(image(alloc))
+        .arg(required(alloc, "IMAGE", IMAGE))
 }
 
 fn make<'a>(alloc: Global) -> Result<Command<'a>, AllocError>
@@ -95,9 +75,14 @@ fn make<'a>(alloc: Global) -> Result<Command<'a>, AllocError>
 {
     Command::new(alloc, "make")
         .about("Writes the image of a new database")
-        .arg(warehouses(alloc))?
-        .arg(customers(alloc))?
-        .arg(items(alloc))
+        .arg(number(alloc, "W", 100, "The number of warehouses, 1 to 100"))?
+        .arg(number(
+            alloc,
+            "C",
+            3_000,
+            "The number of customers of a district, 1 to 3000",
+        ))?
+        .arg(number(alloc, "I", 100_000, "The number of items, 1 to 100000"))
 }
 
 // The program without its subcommands. Its name stands in the usage as it is given here, whatever
