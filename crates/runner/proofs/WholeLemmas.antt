@@ -1,5 +1,5 @@
 -- A run on the database of an image.
-use Rattle.std.proofs.Common.{◌≡◌, ℕ, List, [], sym, append-nil, refl, true, false, Option, Some, None, Result, Ok, Err, IfOk, IfErr, IfSome, OnErr, OnOk, is_err}
+use Rattle.std.proofs.Common.{arith, ◌≡◌, ◌+◌, ℕ, List, [], sym, append-nil, refl, true, false, if◌then◌else◌, Bool, Option, Some, None, Result, Ok, Err, IfOk, IfErr, IfSome, OnErr, OnOk, is_err}
 use Rattle.std.specs.Io.KnownBytes.{Appends, Keeps}
 use Rattle.executor.specs.States.{IsSoundState}
 use Rattle.executor.specs.declared.refusal.Refusal.TheVariants as refusal
@@ -8,8 +8,9 @@ use Rattle.records.specs.Io.{AppendsFront}
 use Rattle.requests.specs.Batches.{batches}
 use Rattle.runner.proofs.RunLemmas.{then_kept, took_none}
 use Rattle.runner.specs.CheckTexts.{ChecksImage, LeavesCheck, opening_text}
-use Rattle.runner.specs.Runs.{Taken}
-use Rattle.runner.specs.WholeRuns.{IsOfDatabase, LeavesDatabase, LeavesRun, RanOn, RanWhole}
+use Rattle.records.specs.declared.fault.ReadError.TheVariants as read_error
+use Rattle.runner.specs.Runs.{IsOfBatches, Taken}
+use Rattle.runner.specs.WholeRuns.{IsOfDatabase, LeavesDatabase, LeavesRun, RanOn, RanWhole, is_batches_read}
 use Rattle.runner.specs.declared.fault.RunFault.{RunFault}
 use Rattle.runner.specs.declared.fault.RunFault.TheVariants as run_fault
 use Rattle.tpcc_model.specs.Database.{Database}
@@ -19,6 +20,26 @@ use Rattle.tpcc_model.specs.Serial.{opening}
 pub refused_at_once : (db : Database) (left : Option (List ℕ)) (t : Taken) → IsSoundState db.cards (opening db.cards db.rows) → IfSome left (λ batch_bytes. LeavesDatabase (run_fault.Exec refusal.Memory) db batch_bytes t t)
 refused_at_once db None t sound = tt
 refused_at_once db (Some batch_bytes) t sound = took_none db.cards (opening db.cards db.rows) (batches batch_bytes).0 t sound
+
+-- ---- batches that are in memory, which aren't read again
+pub no_batches_read : (r : Result ℕ RunFault) → IfErr r IsOfBatches → is_batches_read r ≡ false
+no_batches_read (Ok count) kind = refl
+no_batches_read (Err (run_fault.Load e)) kind = absurd kind
+no_batches_read (Err (run_fault.Read (read_error.BadField n))) kind = refl
+no_batches_read (Err (run_fault.Read (read_error.WrongCount n))) kind = refl
+no_batches_read (Err (run_fault.Read (read_error.OutOfRange n))) kind = refl
+no_batches_read (Err (run_fault.Read (read_error.UnknownKind n))) kind = refl
+no_batches_read (Err (run_fault.Read (read_error.BatchTooLong n))) kind = refl
+no_batches_read (Err (run_fault.Read read_error.Memory)) kind = refl
+no_batches_read (Err (run_fault.Read read_error.Read)) kind = absurd kind
+no_batches_read (Err (run_fault.Read read_error.InputTooLong)) kind = absurd kind
+no_batches_read (Err (run_fault.Exec r)) kind = refl
+no_batches_read (Err run_fault.Write) kind = refl
+no_batches_read (Err run_fault.Memory) kind = refl
+
+pub counted_none : (old new : ℕ) (is : Bool) → is ≡ false → new ≡ old → new ≡ old + (if is then 1 else 0)
+counted_none old new true no same = cc
+counted_none old new false no same = omega (arith, same)
 
 -- ---- a run on the database of an image
 pub ran_whole : (r : Result ℕ RunFault) (images batches : Option (List ℕ)) (db : Database) (old new : Taken) → IfSome images (λ image_bytes. image image_bytes ≡ Ok db)
