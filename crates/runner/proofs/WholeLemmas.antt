@@ -38,8 +38,8 @@ no_batches_read (Err run_fault.Write) kind = refl
 no_batches_read (Err run_fault.Memory) kind = refl
 
 pub counted_none : (old new : ℕ) (is : Bool) → is ≡ false → new ≡ old → new ≡ old + (if is then 1 else 0)
-counted_none old new true no same = cc
-counted_none old new false no same = omega (arith, same)
+counted_none old new true off same = cc
+counted_none old new false off same = omega (arith, same)
 
 -- ---- a run on the database of an image
 pub ran_whole : (r : Result ℕ RunFault) (images batches : Option (List ℕ)) (db : Database) (old new : Taken) → IfSome images (λ image_bytes. image image_bytes ≡ Ok db)
