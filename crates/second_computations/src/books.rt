@@ -1,204 +1,195 @@
-//! What requests touch on a made database, computed a second time: from the rows, and from the numbers that the database was
-//! made of.
+//! What requests touch on a made database, computed a second time: from its rows by their keys, and from the numbers that it
+//! was made of.
 use crate::granules::{Touch, book, customer_row, district_row, stock_row, warehouse_row};
-use requests::request::{CustomerChoice, Delivery, NewOrder, Payment, Request, StockLevel};
+use requests::request::{
+    CustomerChoice, Delivery, NewOrder, OrderStatus, OrderedLine, Payment, Request, StockLevel,
+};
 use rollback::PointedStore;
-use std::alloc::{AllocError, Global};
-use tpcc_rows::id::{DistrictId, OrderId, WarehouseId};
+use std::alloc::Global;
+use tpcc_rows::id::{DistrictId, LineNumber, OrderId, WarehouseId};
 use tpcc_rows::key::RowKey;
-use tpcc_rows::plain;
 use tpcc_rows::row::Row;
 
-/// The warehouse, district and number of an order.
-type OrderColumns = (u8, u8, u32);
-
-fn columns(warehouse: WarehouseId, district: DistrictId, order: OrderId) -> OrderColumns {
-    (warehouse.number(), district.number(), order.number())
+/// The rows of a database that was made of so many warehouses, 45 customers in each district, and 100 items.
+#[derive(Clone, Copy)]
+pub struct Books<'a> {
+    pub warehouses: u8,
+    pub store: &'a PointedStore,
 }
 
-/// A made database of so many warehouses, and what stands in the rows of its districts and of their order books.
-#[derive(Drop)]
-pub struct Books {
-    warehouses: u8,
-    /// D_NEXT_O_ID of a district.
-    next_orders: Vec<OrderColumns>,
-    /// O_C_ID of an order.
-    orders: Vec<(OrderColumns, u16)>,
-    new_orders: Vec<OrderColumns>,
-    /// OL_I_ID of a line.
-    lines: Vec<(OrderColumns, u32)>,
-}
-
-impl Books {
-    pub fn new(alloc: Global, warehouses: u8, store: &PointedStore) -> Result<Books, AllocError> {
-        let mut books = Books {
-            warehouses,
-            next_orders: Vec::new(alloc),
-            orders: Vec::new(alloc),
-            new_orders: Vec::new(alloc),
-            lines: Vec::new(alloc),
+impl Books<'_> {
+    /// D_NEXT_O_ID.
+    fn next_order(&self, warehouse: WarehouseId, district: DistrictId) -> u32 {
+        let key = RowKey::District {
+            warehouse,
+            district,
         };
-        for leaf in 0..4096 {
-            books.take_page(store.page(leaf))?;
+        match self.store.get(&key) {
+            Some(Row::District(row)) => row.next_order.number(),
+            _ => 0,
         }
-        Ok(books)
     }
 
-    fn take_page(&mut self, page: &plain::RowStore) -> Result<(), AllocError> {
-        for (key, row) in page.iter() {
-            self.take(key, row)?;
-        }
-        Ok(())
+    fn is_new(&self, warehouse: WarehouseId, district: DistrictId, order: OrderId) -> bool {
+        let key = RowKey::NewOrder {
+            warehouse,
+            district,
+            order,
+        };
+        self.store.get(&key).is_some()
     }
 
-    fn take(&mut self, key: &RowKey, row: &Row) -> Result<(), AllocError> {
-        match *key {
-            RowKey::District {
-                warehouse: w,
-                district: d,
-            } => {
-                if let Some(row) = row.as_district() {
-                    self.next_orders.push(columns(w, d, row.next_order))?;
-                }
+    /// The oldest new order of a district.
+    fn oldest(&self, warehouse: WarehouseId, district: DistrictId) -> Option<OrderId> {
+        for number in 1..self.next_order(warehouse, district) {
+            let order = OrderId::new(number)?;
+            if self.is_new(warehouse, district, order) {
+                return Some(order);
             }
-            RowKey::Order {
-                warehouse: w,
-                district: d,
-                order: o,
-            } => {
-                if let Some(row) = row.as_order() {
-                    self.orders.push((columns(w, d, o), row.customer.number()))?;
-                }
-            }
-            RowKey::NewOrder {
-                warehouse: w,
-                district: d,
-                order: o,
-            } => self.new_orders.push(columns(w, d, o))?,
-            RowKey::OrderLine {
-                warehouse: w,
-                district: d,
-                order: o,
-                ..
-            } => {
-                if let Some(row) = row.as_order_line() {
-                    self.lines.push((columns(w, d, o), row.item.number()))?;
-                }
-            }
-            _ => {}
         }
-        Ok(())
+        None
+    }
+
+    /// O_C_ID.
+    fn customer_of(&self, warehouse: WarehouseId, district: DistrictId, order: OrderId) -> u16 {
+        let key = RowKey::Order {
+            warehouse,
+            district,
+            order,
+        };
+        match self.store.get(&key) {
+            Some(Row::Order(row)) => row.customer.number(),
+            _ => 0,
+        }
     }
 
     /// What the request touches, in order.
-    pub fn touch(&self, alloc: Global, request: &Request) -> Result<Touch, AllocError> {
+    pub fn touch(&self, alloc: Global, request: &Request) -> Option<Touch> {
         let mut touch = Touch::new(alloc);
         self.add(alloc, request, &mut touch)?;
         touch.sort();
-        Ok(touch)
+        Some(touch)
     }
 
-    fn add(&self, alloc: Global, request: &Request, touch: &mut Touch) -> Result<(), AllocError> {
+    fn add(&self, alloc: Global, request: &Request, touch: &mut Touch) -> Option<()> {
         match request {
             Request::NewOrder(p) => self.order(p, touch),
             Request::Payment(p) => self.pay(alloc, p, touch),
-            Request::OrderStatus(p) => {
-                let (w, d) = (p.warehouse.number(), p.district.number());
-                if let (true, Some(c)) = (w <= self.warehouses, chosen(alloc, &p.customer)?) {
-                    touch.read(customer_row(w, d, c))?;
-                    touch.read(book(w, d))?;
-                }
-                Ok(())
-            }
+            Request::OrderStatus(p) => self.tell(alloc, p, touch),
             Request::Delivery(p) => self.deliver(p, touch),
             Request::StockLevel(p) => self.look(p, touch),
         }
     }
 
-    fn order(&self, p: &NewOrder, touch: &mut Touch) -> Result<(), AllocError> {
-        let (w, d) = (p.warehouse.number(), p.district.number());
-        let lines = p.lines.as_slice();
-        let has_lines = lines.iter().all(|line| line.item.number() <= 100
-            && line.supply.number() <= self.warehouses);
-        if self.warehouses < w || 45 < p.customer.number() || !has_lines {
-            return Ok(());
+    fn are_known(&self, lines: &[OrderedLine]) -> bool {
+        for line in lines {
+            if 100 < line.item.number() || self.warehouses < line.supply.number() {
+                return false;
+            }
+        }
+        true
+    }
+
+    fn order(&self, p: &NewOrder, touch: &mut Touch) -> Option<()> {
+        let (w, d, lines) = (
+            p.warehouse.number(),
+            p.district.number(),
+            p.lines.as_slice(),
+        );
+        if self.warehouses < w || 45 < p.customer.number() || !self.are_known(lines) {
+            return Some(());
         }
         touch.write(district_row(w, d))?;
         touch.write(book(w, d))?;
         for line in lines {
             touch.write(stock_row(line.supply.number(), line.item.number()))?;
         }
-        Ok(())
+        Some(())
     }
 
-    fn pay(&self, alloc: Global, p: &Payment, touch: &mut Touch) -> Result<(), AllocError> {
+    fn pay(&self, alloc: Global, p: &Payment, touch: &mut Touch) -> Option<()> {
         let (w, d) = (p.warehouse.number(), p.district.number());
         let (cw, cd) = (p.customer_warehouse.number(), p.customer_district.number());
-        let is_known = w <= self.warehouses && cw <= self.warehouses;
-        if let (true, Some(c)) = (is_known, chosen(alloc, &p.customer)?) {
-            touch.write(warehouse_row(w))?;
-            touch.write(district_row(w, d))?;
-            touch.write(customer_row(cw, cd, c))?;
+        let customer = chosen(alloc, &p.customer)?;
+        if self.warehouses < w || self.warehouses < cw || customer == 0 {
+            return Some(());
         }
-        Ok(())
+        touch.write(warehouse_row(w))?;
+        touch.write(district_row(w, d))?;
+        touch.write(customer_row(cw, cd, customer))
     }
 
-    fn oldest(&self, w: u8, d: u8) -> Option<u32> {
-        let new_orders = self.new_orders.iter();
-        new_orders
-            .filter(|order| order.0 == w && order.1 == d)
-            .map(|order| order.2)
-            .min()
+    fn tell(&self, alloc: Global, p: &OrderStatus, touch: &mut Touch) -> Option<()> {
+        let (w, d) = (p.warehouse.number(), p.district.number());
+        let customer = chosen(alloc, &p.customer)?;
+        if self.warehouses < w || customer == 0 {
+            return Some(());
+        }
+        touch.read(customer_row(w, d, customer))?;
+        touch.read(book(w, d))
     }
 
-    fn deliver(&self, p: &Delivery, touch: &mut Touch) -> Result<(), AllocError> {
-        let w = p.warehouse.number();
-        if self.warehouses < w {
-            return Ok(());
+    fn deliver_in(&self, w: WarehouseId, d: DistrictId, touch: &mut Touch) -> Option<()> {
+        let granule = book(w.number(), d.number());
+        let Some(order) = self.oldest(w, d) else {
+            return touch.read(granule);
+        };
+        touch.write(granule)?;
+        touch.write(customer_row(w.number(), d.number(), self.customer_of(w, d, order)))
+    }
+
+    fn deliver(&self, p: &Delivery, touch: &mut Touch) -> Option<()> {
+        if self.warehouses < p.warehouse.number() {
+            return Some(());
         }
-        for d in 1..11 {
-            match self.oldest(w, d) {
-                None => touch.read(book(w, d))?,
-                Some(o) => {
-                    touch.write(book(w, d))?;
-                    if let Some(order) = self.orders.iter().find(|order| order.0 == (w, d, o)) {
-                        touch.write(customer_row(w, d, order.1))?;
-                    }
-                }
+        for district in 1..11 {
+            self.deliver_in(p.warehouse, DistrictId::new(district)?, touch)?;
+        }
+        Some(())
+    }
+
+    /// OL_I_ID of each line of an order.
+    fn look_at(
+        &self,
+        warehouse: WarehouseId,
+        district: DistrictId,
+        order: OrderId,
+        touch: &mut Touch,
+    ) -> Option<()> {
+        for line in 1..16 {
+            let key = RowKey::OrderLine {
+                warehouse,
+                district,
+                order,
+                number: LineNumber::new(line)?,
+            };
+            if let Some(Row::OrderLine(row)) = self.store.get(&key) {
+                touch.read(stock_row(warehouse.number(), row.item.number()))?;
             }
         }
-        Ok(())
+        Some(())
     }
 
-    fn next_order(&self, w: u8, d: u8) -> u32 {
-        let mut districts = self.next_orders.iter();
-        districts
-            .find(|district| district.0 == w && district.1 == d)
-            .map_or(0, |district| district.2)
-    }
-
-    fn look(&self, p: &StockLevel, touch: &mut Touch) -> Result<(), AllocError> {
+    fn look(&self, p: &StockLevel, touch: &mut Touch) -> Option<()> {
         let (w, d) = (p.warehouse.number(), p.district.number());
         if self.warehouses < w {
-            return Ok(());
+            return Some(());
         }
         touch.read(district_row(w, d))?;
         touch.read(book(w, d))?;
-        let next = self.next_order(w, d);
-        for (order, item) in &self.lines {
-            let is_recent = order.2 < next && next <= order.2.saturating_add(20);
-            if order.0 == w && order.1 == d && is_recent {
-                touch.read(stock_row(w, *item))?;
-            }
+        let next = self.next_order(p.warehouse, p.district);
+        for order in next.saturating_sub(20).max(1)..next {
+            self.look_at(p.warehouse, p.district, OrderId::new(order)?, touch)?;
         }
-        Ok(())
+        Some(())
     }
 }
 
-/// The number of the customer whom a request means, where there is one.
-fn chosen(alloc: Global, choice: &CustomerChoice) -> Result<Option<u16>, AllocError> {
+/// The number of the customer whom a request means, 0 where there is none.
+fn chosen(alloc: Global, choice: &CustomerChoice) -> Option<u16> {
     match choice {
-        CustomerChoice::Number(c) => Ok(Some(c.number()).filter(|c| *c <= 45)),
+        CustomerChoice::Number(c) if c.number() <= 45 => Some(c.number()),
+        CustomerChoice::Number(_) => Some(0),
         CustomerChoice::LastName(last) => middle(alloc, last.as_bytes()),
     }
 }
@@ -208,14 +199,16 @@ fn is_named(customer: u16, last: &[u8]) -> bool {
 }
 
 /// Of the customers of a last name, by first name and number, the one in the middle.
-fn middle(alloc: Global, last: &[u8]) -> Result<Option<u16>, AllocError> {
+fn middle(alloc: Global, last: &[u8]) -> Option<u16> {
     let mut holders = Vec::new(alloc);
     for customer in 1..46u16 {
         if is_named(customer, last) {
-            holders.push((9 - customer / 20 % 10, customer))?;
+            holders.push((9 - customer / 20 % 10, customer)).ok()?;
         }
     }
     holders.sort_unstable();
-    let place = holders.len().saturating_sub(1) / 2;
-    Ok(holders.get(place).map(|holder| holder.1))
+    match holders.get(holders.len().saturating_sub(1) / 2) {
+        Some((_, customer)) => Some(*customer),
+        None => Some(0),
+    }
 }

@@ -135,7 +135,7 @@ fn random_pair(dice: &mut Dice, alloc: Global) -> Option<Option<Pair>> {
         4 => order(place, number, customer_number, moment, place.1 - 1, lines),
         5 => new_order(place, number),
         6 => {
-            let delivery = Moment::new(moment).filter(|_| lines > 7);
+            let delivery = if lines > 7 { Moment::new(moment) } else { None };
             order_line(
                 place,
                 (number, lines),
@@ -149,12 +149,21 @@ fn random_pair(dice: &mut Dice, alloc: Global) -> Option<Option<Pair>> {
     })
 }
 
+fn has_key(pairs: &Pairs, wanted: &RowKey) -> bool {
+    for (key, _) in pairs {
+        if *key == *wanted {
+            return true;
+        }
+    }
+    false
+}
+
 /// Appends as many rows as this or fewer, of any kinds, whose keys are new.
 pub fn push_random(alloc: Global, pairs: &mut Pairs, seed: u64, count: u32) -> Option<()> {
     let mut dice = Dice::new(seed);
     for _ in 0..count {
         if let Some(pair) = random_pair(&mut dice, alloc)?
-            && pairs.iter().all(|(key, _)| *key != pair.0)
+            && !has_key(pairs, &pair.0)
         {
             pairs.push(pair).ok()?;
         }

@@ -2,8 +2,8 @@
 use crate::books::Books;
 use crate::database::{Database, Plan};
 use crate::dice::Dice;
-use crate::granules::{Touch, touch_of};
-use crate::levels::second_cut;
+use crate::granules::Touch;
+use crate::levels::{places_of, second_levels};
 use crate::printing::print_agreeing;
 use crate::random::random_batch;
 use mixer::Cut;
@@ -14,45 +14,48 @@ use tpcc_rows::footprint::Footprint;
 /// How many batches are compared.
 const BATCHES: u64 = 64;
 
-/// What the requests of a batch touch on this database, by the second computation.
-fn second_touches(alloc: Global, books: &Books, batch: &Batch) -> Option<Vec<Touch>> {
-    let mut touches = Vec::new(alloc);
-    for request in batch.requests.as_slice() {
-        touches.push(books.touch(alloc, request).ok()?).ok()?;
-    }
-    Some(touches)
-}
-
-fn is_touch(alloc: Global, footprint: &Footprint, touch: &Touch) -> Option<bool> {
-    let declared = touch_of(alloc, footprint)?;
-    Some(declared.reads == touch.reads && declared.writes == touch.writes)
-}
-
-fn are_touches(alloc: Global, footprints: &[Footprint], touches: &[Touch]) -> Option<bool> {
-    let mut all = footprints.len() == touches.len();
-    for (footprint, touch) in footprints.iter().zip(touches.iter()) {
-        all = is_touch(alloc, footprint, touch)? && all;
+/// Whether what each request is declared to touch is what it touches by the second computation, which is appended.
+fn are_touches(
+    alloc: Global,
+    books: &Books<'_>,
+    batch: &Batch,
+    footprints: &[Footprint],
+    touches: &mut Vec<Touch>,
+) -> Option<bool> {
+    let mut all = footprints.len() == batch.requests.len();
+    for (request, footprint) in batch.requests.as_slice().iter().zip(footprints.iter()) {
+        let touch = books.touch(alloc, request)?;
+        all = touch.is_declared(alloc, footprint)? && all;
+        touches.push(touch).ok()?;
     }
     Some(all)
 }
 
-fn is_cut(cut: &Cut, levels: &[Vec<usize>]) -> bool {
-    let mut all = cut.depth() == levels.len();
-    for (level, places) in levels.iter().enumerate() {
-        all = cut.level(level) == Some(places.as_slice()) && all;
+/// Whether the levels of a cut have these places, and no place is missing.
+fn is_cut(alloc: Global, cut: &Cut, levels: &[usize]) -> Option<bool> {
+    let mut all = true;
+    let mut count = 0usize;
+    for level in 0..cut.depth() {
+        let places = places_of(alloc, levels, level).ok()?;
+        all = !places.is_empty() && cut.level(level) == Some(places.as_slice()) && all;
+        count = count.saturating_add(places.len());
     }
-    all
+    Some(all && count == levels.len())
 }
 
-fn is_plan(alloc: Global, plan: &Plan, touches: &[Touch]) -> Option<bool> {
-    let levels = second_cut(alloc, touches).ok()?;
-    Some(are_touches(alloc, &plan.footprints, touches)? && is_cut(&plan.cut, &levels))
+fn is_plan(alloc: Global, books: &Books<'_>, batch: &Batch, plan: &Plan) -> Option<bool> {
+    let mut touches = Vec::new(alloc);
+    let are_declared = are_touches(alloc, books, batch, &plan.footprints, &mut touches)?;
+    let levels = second_levels(alloc, &touches).ok()?;
+    Some(is_cut(alloc, &plan.cut, &levels)? && are_declared)
 }
 
 fn agree_on(alloc: Global, database: &Database, batch: &Batch) -> Option<bool> {
-    let books = Books::new(alloc, 2, &database.store).ok()?;
-    let touches = second_touches(alloc, &books, batch)?;
-    is_plan(alloc, &database.plan(alloc, batch)?, &touches)
+    let books = Books {
+        warehouses: 2,
+        store: &database.store,
+    };
+    is_plan(alloc, &books, batch, &database.plan(alloc, batch)?)
 }
 
 /// Whether the computations agree on thirty requests after forty others.

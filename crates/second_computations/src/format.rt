@@ -1,9 +1,7 @@
-//! The bytes of a row, written down field by field.
-use std::alloc::Global;
+//! The bytes of a row, hashed field by field as they are written down.
+use sha2::{Digest, Sha256};
 use tpcc_rows::id::{DistrictId, OrderId, WarehouseId};
 use tpcc_rows::key::RowKey;
-use tpcc_rows::memory::Memory;
-use tpcc_rows::number::{Carrier, Moment};
 use tpcc_rows::row::{CustomerRow, HistoryRow, OrderLineRow, OrderRow, Row, StockRow};
 
 fn in_district(warehouse: WarehouseId, district: DistrictId) -> u64 {
@@ -57,84 +55,97 @@ pub fn code(key: &RowKey) -> u64 {
     (table << 56) | rest
 }
 
-fn customer(row: &CustomerRow, out: &mut Vec<u8>) -> Result<(), Memory> {
-    out.extend_from_slice(&row.balance.amount().to_be_bytes())?;
-    out.extend_from_slice(&row.ytd_payment.amount().to_be_bytes())?;
-    out.extend_from_slice(&row.payment_count.value().to_be_bytes())?;
-    out.extend_from_slice(&row.delivery_count.value().to_be_bytes())?;
-    out.extend_from_slice(&(row.data.as_bytes().len() as u16).to_be_bytes())?;
-    out.extend_from_slice(row.data.as_bytes())?;
-    Ok(())
+/// How many bytes the body of a row has.
+fn length(row: &Row) -> u16 {
+    match row {
+        Row::Warehouse(_) => 8,
+        Row::District(_) => 12,
+        Row::Customer(shared) => 26 + shared.row().data.as_bytes().len() as u16,
+        Row::Stock(_) => 16,
+        Row::Order(_) => 13,
+        Row::NewOrder => 0,
+        Row::OrderLine(row) => 20 + row.district_info.as_bytes().len() as u16,
+        Row::History(row) => 19 + row.data.as_bytes().len() as u16,
+    }
 }
 
-fn stock(row: &StockRow, out: &mut Vec<u8>) -> Result<(), Memory> {
-    out.extend_from_slice(&i32::from(row.quantity.value()).to_be_bytes())?;
-    out.extend_from_slice(&row.ytd.value().to_be_bytes())?;
-    out.extend_from_slice(&row.order_count.value().to_be_bytes())?;
-    out.extend_from_slice(&row.remote_count.value().to_be_bytes())?;
-    Ok(())
+fn hash_customer(row: &CustomerRow, hasher: &mut Sha256) {
+    let text = row.data.as_bytes();
+    hasher.update(row.balance.amount().to_be_bytes().as_slice());
+    hasher.update(row.ytd_payment.amount().to_be_bytes().as_slice());
+    hasher.update(row.payment_count.value().to_be_bytes().as_slice());
+    hasher.update(row.delivery_count.value().to_be_bytes().as_slice());
+    hasher.update((text.len() as u16).to_be_bytes().as_slice());
+    hasher.update(text);
 }
 
-fn order(row: &OrderRow, out: &mut Vec<u8>) -> Result<(), Memory> {
-    out.extend_from_slice(&row.customer.number().to_be_bytes())?;
-    out.extend_from_slice(&row.entry.seconds().to_be_bytes())?;
-    let carrier = row.carrier.map_or(0, Carrier::number);
-    out.extend_from_slice(&[carrier, row.line_count.number(), u8::from(row.all_local)])?;
-    Ok(())
+fn hash_stock(row: &StockRow, hasher: &mut Sha256) {
+    hasher.update(i32::from(row.quantity.value()).to_be_bytes().as_slice());
+    hasher.update(row.ytd.value().to_be_bytes().as_slice());
+    hasher.update(row.order_count.value().to_be_bytes().as_slice());
+    hasher.update(row.remote_count.value().to_be_bytes().as_slice());
 }
 
-fn order_line(row: &OrderLineRow, out: &mut Vec<u8>) -> Result<(), Memory> {
-    out.extend_from_slice(&row.item.number().to_be_bytes())?;
-    let is_delivered = u8::from(row.delivery.is_some());
-    out.extend_from_slice(&[row.supply.number(), is_delivered])?;
-    let delivery = row.delivery.map_or(0, Moment::seconds);
-    out.extend_from_slice(&delivery.to_be_bytes())?;
-    out.push(row.quantity.value())?;
-    out.extend_from_slice(&row.amount.cents().to_be_bytes())?;
-    out.push(row.district_info.as_bytes().len() as u8)?;
-    out.extend_from_slice(row.district_info.as_bytes())?;
-    Ok(())
+fn hash_order(row: &OrderRow, hasher: &mut Sha256) {
+    let carrier = match row.carrier {
+        Some(carrier) => carrier.number(),
+        None => 0,
+    };
+    hasher.update(row.customer.number().to_be_bytes().as_slice());
+    hasher.update(row.entry.seconds().to_be_bytes().as_slice());
+    hasher.update([carrier, row.line_count.number(), u8::from(row.all_local)].as_slice());
 }
 
-fn history(row: &HistoryRow, out: &mut Vec<u8>) -> Result<(), Memory> {
-    out.extend_from_slice(&row.customer.number().to_be_bytes())?;
-    let payer = [
+fn hash_order_line(row: &OrderLineRow, hasher: &mut Sha256) {
+    let text = row.district_info.as_bytes();
+    let (is_delivered, delivery) = match row.delivery {
+        Some(moment) => (1, moment.seconds()),
+        None => (0, 0),
+    };
+    hasher.update(row.item.number().to_be_bytes().as_slice());
+    hasher.update([row.supply.number(), is_delivered].as_slice());
+    hasher.update(delivery.to_be_bytes().as_slice());
+    hasher.update([row.quantity.value()].as_slice());
+    hasher.update(row.amount.cents().to_be_bytes().as_slice());
+    hasher.update([text.len() as u8].as_slice());
+    hasher.update(text);
+}
+
+fn hash_history(row: &HistoryRow, hasher: &mut Sha256) {
+    let text = row.data.as_bytes();
+    let places = [
         row.customer_district.number(),
         row.customer_warehouse.number(),
+        row.district.number(),
+        row.warehouse.number(),
     ];
-    out.extend_from_slice(&payer)?;
-    out.extend_from_slice(&[row.district.number(), row.warehouse.number()])?;
-    out.extend_from_slice(&row.date.seconds().to_be_bytes())?;
-    out.extend_from_slice(&row.amount.cents().to_be_bytes())?;
-    out.push(row.data.as_bytes().len() as u8)?;
-    out.extend_from_slice(row.data.as_bytes())?;
-    Ok(())
+    hasher.update(row.customer.number().to_be_bytes().as_slice());
+    hasher.update(places.as_slice());
+    hasher.update(row.date.seconds().to_be_bytes().as_slice());
+    hasher.update(row.amount.cents().to_be_bytes().as_slice());
+    hasher.update([text.len() as u8].as_slice());
+    hasher.update(text);
 }
 
-fn body(row: &Row, out: &mut Vec<u8>) -> Result<(), Memory> {
+fn hash_body(row: &Row, hasher: &mut Sha256) {
     match row {
-        Row::Warehouse(row) => out.extend_from_slice(&row.ytd.amount().to_be_bytes())?,
+        Row::Warehouse(row) => hasher.update(row.ytd.amount().to_be_bytes().as_slice()),
         Row::District(row) => {
-            out.extend_from_slice(&row.ytd.amount().to_be_bytes())?;
-            out.extend_from_slice(&row.next_order.number().to_be_bytes())?;
+            hasher.update(row.ytd.amount().to_be_bytes().as_slice());
+            hasher.update(row.next_order.number().to_be_bytes().as_slice());
         }
-        Row::Customer(shared) => customer(shared.row(), out)?,
-        Row::Stock(row) => stock(row, out)?,
-        Row::Order(row) => order(row, out)?,
+        Row::Customer(shared) => hash_customer(shared.row(), hasher),
+        Row::Stock(row) => hash_stock(row, hasher),
+        Row::Order(row) => hash_order(row, hasher),
         Row::NewOrder => {}
-        Row::OrderLine(row) => order_line(row, out)?,
-        Row::History(row) => history(row, out)?,
+        Row::OrderLine(row) => hash_order_line(row, hasher),
+        Row::History(row) => hash_history(row, hasher),
     }
-    Ok(())
 }
 
-/// The bytes of a row: the code of its key, the length of its body, and the body.
-pub fn bytes(alloc: Global, key: &RowKey, row: &Row) -> Result<Vec<u8>, Memory> {
-    let mut columns = Vec::new(alloc);
-    body(row, &mut columns)?;
-    let mut out = Vec::new(alloc);
-    out.extend_from_slice(&code(key).to_be_bytes())?;
-    out.extend_from_slice(&(columns.len() as u64).to_be_bytes()[6..])?;
-    out.extend_from_slice(&columns)?;
-    Ok(out)
+/// Hashes a row: the code of its key, the length of its body, and the body.
+pub fn hash_row(key: &RowKey, row: &Row, hasher: &mut Sha256) {
+    hasher.update(code(key).to_be_bytes().as_slice());
+    hasher.update(length(row).to_be_bytes().as_slice());
+    hash_body(row, hasher);
 }

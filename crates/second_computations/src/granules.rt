@@ -4,31 +4,34 @@ use tpcc_rows::footprint::Footprint;
 use tpcc_rows::granule::Granule;
 
 /// A granule as the format packs it: the number of its kind, its warehouse, its district and its own number, 0 where the
-/// kind has none.
-pub type Packed = (u64, u64, u64, u64);
+/// kind has none, in 16, 16, 8 and 24 bits.
+pub type Packed = u64;
+
+fn packed(kind: u64, warehouse: u8, district: u8, number: u32) -> Packed {
+    (kind << 48) | (u64::from(warehouse) << 32) | (u64::from(district) << 24) | u64::from(number)
+}
 
 pub fn warehouse_row(warehouse: u8) -> Packed {
-    (1, u64::from(warehouse), 0, 0)
+    packed(1, warehouse, 0, 0)
 }
 
 pub fn district_row(warehouse: u8, district: u8) -> Packed {
-    (2, u64::from(warehouse), u64::from(district), 0)
+    packed(2, warehouse, district, 0)
 }
 
 pub fn customer_row(warehouse: u8, district: u8, customer: u16) -> Packed {
-    let (warehouse, district) = (u64::from(warehouse), u64::from(district));
-    (3, warehouse, district, u64::from(customer))
+    packed(3, warehouse, district, u32::from(customer))
 }
 
 pub fn stock_row(warehouse: u8, item: u32) -> Packed {
-    (4, u64::from(warehouse), 0, u64::from(item))
+    packed(4, warehouse, 0, item)
 }
 
 pub fn book(warehouse: u8, district: u8) -> Packed {
-    (5, u64::from(warehouse), u64::from(district), 0)
+    packed(5, warehouse, district, 0)
 }
 
-fn packed(granule: &Granule) -> Packed {
+fn pack(granule: &Granule) -> Packed {
     match *granule {
         Granule::Warehouse { warehouse: w } => warehouse_row(w.number()),
         Granule::District {
@@ -66,15 +69,13 @@ impl Touch {
         }
     }
 
-    pub fn read(&mut self, granule: Packed) -> Result<(), AllocError> {
-        self.reads.push(granule)?;
-        Ok(())
+    pub fn read(&mut self, granule: Packed) -> Option<()> {
+        self.reads.push(granule).ok()
     }
 
-    pub fn write(&mut self, granule: Packed) -> Result<(), AllocError> {
-        self.reads.push(granule)?;
-        self.writes.push(granule)?;
-        Ok(())
+    pub fn write(&mut self, granule: Packed) -> Option<()> {
+        self.reads.push(granule).ok()?;
+        self.writes.push(granule).ok()
     }
 
     /// Puts the granules in rising order, each once.
@@ -83,6 +84,12 @@ impl Touch {
         self.reads.dedup();
         self.writes.sort_unstable();
         self.writes.dedup();
+    }
+
+    /// Whether this is what a footprint reads and writes.
+    pub fn is_declared(&self, alloc: Global, footprint: &Footprint) -> Option<bool> {
+        let declared = touch_of(alloc, footprint)?;
+        Some(self.reads == declared.reads && self.writes == declared.writes)
     }
 
     /// Prints what is read, a bar, and what is written, each granule behind the letter of its kind, as in ` C1.2.3 S1.0.4 |`.
@@ -94,22 +101,32 @@ impl Touch {
 }
 
 fn print_granules(rt: &impl Print, granules: &[Packed]) {
-    for (kind, warehouse, district, number) in granules {
-        let letter = match *kind {
+    for granule in granules {
+        let letter = match granule >> 48 {
             1 => 'W',
             2 => 'D',
             3 => 'C',
             4 => 'S',
             _ => 'B',
         };
+        let (warehouse, district) = ((granule >> 32) % 65_536, (granule >> 24) % 256);
+        let number = granule % 16_777_216;
         let _ = print!(rt; " {letter}{warehouse}.{district}.{number}");
     }
 }
 
+fn packed_all(alloc: Global, granules: &[Granule]) -> Result<Vec<Packed>, AllocError> {
+    let mut all = Vec::new(alloc);
+    for granule in granules {
+        all.push(pack(granule))?;
+    }
+    Ok(all)
+}
+
 /// What a footprint reads and writes, in order.
 pub fn touch_of(alloc: Global, footprint: &Footprint) -> Option<Touch> {
-    let reads = footprint.reads().iter().map(packed).collect(alloc).ok()?;
-    let writes = footprint.writes().iter().map(packed).collect(alloc).ok()?;
+    let reads = packed_all(alloc, footprint.reads()).ok()?;
+    let writes = packed_all(alloc, footprint.writes()).ok()?;
     let mut touch = Touch { reads, writes };
     touch.sort();
     Some(touch)

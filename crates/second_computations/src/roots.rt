@@ -40,22 +40,46 @@ fn show_root<R: Threads + Sync + Print>(
     Some(())
 }
 
-fn push_two(pairs: &mut Pairs) -> Option<()> {
-    pairs.push(district((1, 1), 3_000_000, 1)?).ok()?;
-    pairs.push(warehouse(1, 30_000_000)?).ok()
+/// Rows that are chosen.
+#[derive(Clone, Copy)]
+enum Chosen {
+    Nothing,
+    WarehouseAndDistrict,
+    EveryKind,
+    OneLeaf,
 }
 
-fn show_chosen<R: Threads + Sync + Print>(rt: &R, alloc: Global) -> Option<()> {
+const CHOSEN: [(&str, Chosen); 4] = [
+    ("root of no rows", Chosen::Nothing),
+    (
+        "root of a warehouse and a district",
+        Chosen::WarehouseAndDistrict,
+    ),
+    ("root of rows of every kind", Chosen::EveryKind),
+    ("root of rows of one leaf", Chosen::OneLeaf),
+];
+
+fn push_chosen(alloc: Global, pairs: &mut Pairs, chosen: Chosen) -> Option<()> {
+    match chosen {
+        Chosen::Nothing => Some(()),
+        Chosen::WarehouseAndDistrict => {
+            pairs.push(district((1, 1), 3_000_000, 1)?).ok()?;
+            pairs.push(warehouse(1, 30_000_000)?).ok()
+        }
+        Chosen::EveryKind => push_every_kind(alloc, pairs),
+        Chosen::OneLeaf => push_one_leaf(alloc, pairs),
+    }
+}
+
+fn show_chosen<R: Threads + Sync + Print>(
+    rt: &R,
+    alloc: Global,
+    name: &str,
+    chosen: Chosen,
+) -> Option<()> {
     let mut pairs = Vec::new(alloc);
-    show_root(rt, alloc, "root of no rows", &pairs)?;
-    push_two(&mut pairs)?;
-    show_root(rt, alloc, "root of a warehouse and a district", &pairs)?;
-    pairs.clear();
-    push_every_kind(alloc, &mut pairs)?;
-    show_root(rt, alloc, "root of rows of every kind", &pairs)?;
-    pairs.clear();
-    push_one_leaf(alloc, &mut pairs)?;
-    show_root(rt, alloc, "root of rows of one leaf", &pairs)
+    push_chosen(alloc, &mut pairs, chosen)?;
+    show_root(rt, alloc, name, &pairs)
 }
 
 /// Of more than 30 rows of one leaf, of all but seven, of all but fourteen, and so on.
@@ -74,15 +98,17 @@ fn show_long_leaf<R: Threads + Sync + Print>(rt: &R, alloc: Global) -> Option<()
     Some(())
 }
 
-fn show_random<R: Threads + Sync + Print>(rt: &R, alloc: Global) -> Option<()> {
+/// Whether the roots of more than 200 rows that look random agree.
+fn agree_on_random<R: Threads + Sync>(rt: &R, alloc: Global, seed: u64) -> Option<bool> {
     let mut pairs = Vec::new(alloc);
+    push_random(alloc, &mut pairs, seed, 400)?;
+    Some(200 < pairs.len() && agree(rt, alloc, &pairs)?)
+}
+
+fn show_random<R: Threads + Sync + Print>(rt: &R, alloc: Global) -> Option<()> {
     let mut agreeing = 0u64;
     for seed in 1..4 {
-        pairs.clear();
-        push_random(alloc, &mut pairs, seed, 400)?;
-        agreeing = agreeing.saturating_add(u64::from(
-            200 < pairs.len() && agree(rt, alloc, &pairs)?,
-        ));
+        agreeing = agreeing.saturating_add(u64::from(agree_on_random(rt, alloc, seed)?));
     }
     print_agreeing(
         rt,
@@ -99,7 +125,9 @@ pub fn show<R: Threads + Sync + Print>(rt: &R, alloc: Global) -> Option<()> {
         "hash of an empty leaf",
         &hash_leaf(&plain::RowStore::new(alloc)),
     );
-    show_chosen(rt, alloc)?;
+    for (name, chosen) in &CHOSEN {
+        show_chosen(rt, alloc, name, *chosen)?;
+    }
     show_long_leaf(rt, alloc)?;
     show_random(rt, alloc)
 }

@@ -20,6 +20,10 @@ pub type Pairs = Vec<Pair>;
 /// A warehouse, and a district's number in it.
 pub type Place = (u8, u8);
 
+fn ids(place: Place) -> Option<(WarehouseId, DistrictId)> {
+    Some((WarehouseId::new(place.0)?, DistrictId::new(place.1)?))
+}
+
 pub fn warehouse(number: u8, ytd: i64) -> Option<Pair> {
     let warehouse = WarehouseId::new(number)?;
     let ytd = Cents::new(ytd)?;
@@ -30,9 +34,10 @@ pub fn warehouse(number: u8, ytd: i64) -> Option<Pair> {
 }
 
 pub fn district(place: Place, ytd: i64, next: u32) -> Option<Pair> {
+    let (warehouse, district) = ids(place)?;
     let key = RowKey::District {
-        warehouse: WarehouseId::new(place.0)?,
-        district: DistrictId::new(place.1)?,
+        warehouse,
+        district,
     };
     let row = DistrictRow {
         ytd: Cents::new(ytd)?,
@@ -50,9 +55,10 @@ pub fn customer(
     counts: (u32, u32),
     data: &[u8],
 ) -> Option<Pair> {
+    let (warehouse, district) = ids(place)?;
     let key = RowKey::Customer {
-        warehouse: WarehouseId::new(place.0)?,
-        district: DistrictId::new(place.1)?,
+        warehouse,
+        district,
         customer: CustomerId::new(number)?,
     };
     let row = CustomerRow {
@@ -88,9 +94,10 @@ pub fn order(
     carrier: u8,
     lines: u8,
 ) -> Option<Pair> {
+    let (warehouse, district) = ids(place)?;
     let key = RowKey::Order {
-        warehouse: WarehouseId::new(place.0)?,
-        district: DistrictId::new(place.1)?,
+        warehouse,
+        district,
         order: OrderId::new(number)?,
     };
     let row = OrderRow {
@@ -104,9 +111,10 @@ pub fn order(
 }
 
 pub fn new_order(place: Place, number: u32) -> Option<Pair> {
+    let (warehouse, district) = ids(place)?;
     let key = RowKey::NewOrder {
-        warehouse: WarehouseId::new(place.0)?,
-        district: DistrictId::new(place.1)?,
+        warehouse,
+        district,
         order: OrderId::new(number)?,
     };
     Some((key, Row::NewOrder))
@@ -121,9 +129,10 @@ pub fn order_line(
     sold: (u8, u32),
     info: &[u8],
 ) -> Option<Pair> {
+    let (warehouse, district) = ids(place)?;
     let key = RowKey::OrderLine {
-        warehouse: WarehouseId::new(place.0)?,
-        district: DistrictId::new(place.1)?,
+        warehouse,
+        district,
         order: OrderId::new(number.0)?,
         number: LineNumber::new(number.1)?,
     };
@@ -150,12 +159,14 @@ pub fn history(
     let key = RowKey::History {
         number: RequestNumber::new(number)?,
     };
+    let (customer_warehouse, customer_district) = ids(places.0)?;
+    let (warehouse, district) = ids(places.1)?;
     let row = HistoryRow {
         customer: CustomerId::new(customer)?,
-        customer_district: DistrictId::new(places.0.1)?,
-        customer_warehouse: WarehouseId::new(places.0.0)?,
-        district: DistrictId::new(places.1.1)?,
-        warehouse: WarehouseId::new(places.1.0)?,
+        customer_district,
+        customer_warehouse,
+        district,
+        warehouse,
         date: Moment::new(date)?,
         amount: Amount::new(amount)?,
         data: Text::parse(data)?,
