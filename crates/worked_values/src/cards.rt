@@ -12,8 +12,8 @@ use tpcc_rows::text::Text;
 fn warehouse(number: u8, name: &[u8]) -> Option<Card> {
     Some(Card::Warehouse(WarehouseCard {
         warehouse: WarehouseId::new(number)?,
-        name: Text::parse(name)?,
         tax: Rate::new(1_000)?,
+        name: Text::parse(name)?,
     }))
 }
 
@@ -21,8 +21,8 @@ fn district(place: (u8, u8), name: &[u8]) -> Option<Card> {
     Some(Card::District(DistrictCard {
         warehouse: WarehouseId::new(place.0)?,
         district: DistrictId::new(place.1)?,
-        name: Text::parse(name)?,
         tax: Rate::new(500)?,
+        name: Text::parse(name)?,
     }))
 }
 
@@ -33,53 +33,51 @@ fn customer(
     first: &[u8],
     credit: Credit,
 ) -> Option<Card> {
-    let (last, first) = (Text::parse(last)?, Text::parse(first)?);
     Some(Card::Customer(CustomerCard {
         warehouse: WarehouseId::new(place.0)?,
         district: DistrictId::new(place.1)?,
         customer: CustomerId::new(number)?,
-        last,
-        middle: Text::parse(b"OE")?,
-        first,
         credit,
         discount: Rate::new(1_234)?,
+        last: Text::parse(last)?,
+        middle: Text::parse(b"OE")?,
+        first: Text::parse(first)?,
     }))
 }
 
 /// `DIST01` to `DIST10`.
+const INFOS: [&[u8]; 10] = [
+    b"DIST01", b"DIST02", b"DIST03", b"DIST04", b"DIST05", b"DIST06", b"DIST07", b"DIST08",
+    b"DIST09", b"DIST10",
+];
+
 fn push_infos(infos: &mut Vec<Text<24>>) -> Option<()> {
-    for number in 1..11u8 {
-        let name = [
-            b'D',
-            b'I',
-            b'S',
-            b'T',
-            b'0' + number / 10,
-            b'0' + number % 10,
-        ];
-        infos.push(Text::parse(&name)?).ok()?;
+    for info in &INFOS {
+        infos.push(Text::parse(*info)?).ok()?;
     }
     Some(())
 }
 
-fn stock(alloc: Global) -> Option<Card> {
-    let (warehouse, item) = (WarehouseId::new(1)?, ItemId::new(100_000)?);
-    let data = Text::parse(b"ORIGINAL")?;
+fn infos(alloc: Global) -> Option<DistrictInfos> {
     let mut infos = Vec::new(alloc);
     push_infos(&mut infos)?;
+    DistrictInfos::new(infos)
+}
+
+fn stock(alloc: Global) -> Option<Card> {
     Some(Card::Stock(StockCard {
-        warehouse,
-        item,
-        data,
-        district_infos: DistrictInfos::new(infos)?,
+        warehouse: WarehouseId::new(1)?,
+        item: ItemId::new(100_000)?,
+        data: Text::parse(b"ORIGINAL")?,
+        district_infos: infos(alloc)?,
     }))
 }
 
 fn item(number: u32, price: u32) -> Option<Card> {
     Some(Card::Item(ItemCard {
         item: ItemId::new(number)?,
-        name: Text::parse(b"ITEM")?,
         price: Price::new(price)?,
+        name: Text::parse(b"ITEM")?,
         data: Text::parse(b"PLAIN")?,
     }))
 }
@@ -135,16 +133,12 @@ const CARDS: [Columns; 4] = [
     Columns::Warehouse(1, b"W2"),
 ];
 
-fn show_name(rt: &impl Print, catalog: &Catalog) -> Option<()> {
-    let name = &catalog.warehouse(WarehouseId::new(1)?)?.name;
-    print_written(rt, "name of a warehouse", name.as_bytes());
-    Some(())
-}
-
-fn show_numbers(rt: &impl Print, catalog: &Catalog) -> Option<()> {
+fn show_cards(rt: &impl Print, catalog: &Catalog) -> Option<()> {
     let (warehouse, district) = (WarehouseId::new(1)?, DistrictId::new(10)?);
+    let name = &catalog.warehouse(warehouse)?.name;
     let tax = catalog.district(warehouse, district)?.tax.value();
     let price = catalog.item(ItemId::new(7)?)?.price.cents();
+    print_written(rt, "name of a warehouse", name.as_bytes());
     let _ = println!(rt;
         "cards: {}, tax of a district: {tax}, price of an item: {price}",
         catalog.len()
@@ -164,8 +158,7 @@ fn show_found(rt: &impl Print, catalog: &Catalog) -> Option<()> {
 }
 
 fn show_few(rt: &impl Print, catalog: &Catalog) -> Option<()> {
-    show_name(rt, catalog)?;
-    show_numbers(rt, catalog)?;
+    show_cards(rt, catalog)?;
     show_found(rt, catalog)
 }
 
@@ -212,8 +205,8 @@ fn show_choice(rt: &impl Print, catalog: &Catalog, number: u8, last: &str) -> Op
 }
 
 fn show_choices(rt: &impl Print, catalog: &Catalog) -> Option<()> {
-    for (district, last) in CHOICES {
-        show_choice(rt, catalog, district, last)?;
+    for (district, last) in &CHOICES {
+        show_choice(rt, catalog, *district, *last)?;
     }
     Some(())
 }
@@ -262,8 +255,8 @@ fn show_digest(rt: &impl Print, alloc: Global, name: &str, cards: &[Columns]) ->
 }
 
 fn show_digests(rt: &impl Print, alloc: Global) -> Option<()> {
-    for (name, cards) in CATALOGS {
-        show_digest(rt, alloc, name, cards)?;
+    for (name, cards) in &CATALOGS {
+        show_digest(rt, alloc, *name, *cards)?;
     }
     Some(())
 }

@@ -78,28 +78,27 @@ fn show_texts(rt: &impl Print) {
     print_written(rt, "clipped text", note.as_bytes());
 }
 
-/// 5,175 is exact, 4.5 is rounded up, and the last one is the greatest total of fifteen lines.
-fn show_totals(rt: &impl Print) {
-    let cases = [
-        (5_000, 1_000, 1_000, 500),
-        (5, 1_000, 0, 0),
-        (14_999_850, 0, 9_999, 9_999),
-    ];
-    for (sum, discount, warehouse, district) in cases {
-        if let (Some(discount), Some(warehouse), Some(district)) = (
-            Rate::new(discount),
-            Rate::new(warehouse),
-            Rate::new(district),
-        ) {
-            let total = total_cents(sum, discount, warehouse, district);
-            let _ = println!(rt; "total of {sum} cents: {total}");
-        }
+/// Sums of lines, with the discount and the taxes. 5,175 is exact, 4.5 is rounded up, and the last one is the greatest
+/// total of fifteen lines.
+const TOTALS: [(u32, u16, u16, u16); 3] = [
+    (5_000, 1_000, 1_000, 500),
+    (5, 1_000, 0, 0),
+    (14_999_850, 0, 9_999, 9_999),
+];
+
+fn show_totals(rt: &impl Print) -> Option<()> {
+    for (sum, discount, warehouse, district) in &TOTALS {
+        let discount = Rate::new(*discount)?;
+        let (warehouse, district) = (Rate::new(*warehouse)?, Rate::new(*district)?);
+        let total = total_cents(*sum, discount, warehouse, district);
+        let _ = println!(rt; "total of {sum} cents: {total}");
     }
+    Some(())
 }
 
-pub fn show(rt: &impl Print) {
+pub fn show(rt: &impl Print) -> Option<()> {
     show_keys(rt);
     show_columns(rt);
     show_texts(rt);
-    show_totals(rt);
+    show_totals(rt)
 }

@@ -341,13 +341,9 @@ fn show_case(rt: &impl Print, alloc: Global, steps: &[Step]) -> Option<()> {
     follow_all(rt, alloc, &mut Database::make(alloc, 2).ok()?, steps)
 }
 
-fn show_cases(rt: &impl Print, alloc: Global, cases: &[&[Step]]) -> Option<()> {
-    for steps in cases {
+pub fn show(rt: &impl Print, alloc: Global) -> Option<()> {
+    for steps in &CASES {
         show_case(rt, alloc, *steps)?;
     }
     Some(())
-}
-
-pub fn show(rt: &impl Print, alloc: Global) -> Option<()> {
-    show_cases(rt, alloc, &CASES)
 }

@@ -130,13 +130,8 @@ const CASES: [(&[Columns], &str); 4] = [
     (&LINES, "S,1,1,10\nS,1,2,10"),
 ];
 
-fn show_cases(
-    rt: &impl Print,
-    alloc: Global,
-    database: &mut Database,
-    cases: &[(&[Columns], &str)],
-) -> Option<()> {
-    for (rows, requests) in cases {
+fn show_cases(rt: &impl Print, alloc: Global, database: &mut Database) -> Option<()> {
+    for (rows, requests) in &CASES {
         put_all(alloc, &mut database.store, *rows)?;
         show_each(rt, alloc, database, *requests)?;
     }
@@ -144,6 +139,6 @@ fn show_cases(
 }
 
 pub fn show(rt: &impl Print, alloc: Global) -> Option<()> {
-    show_cases(rt, alloc, &mut Database::make(alloc, 2).ok()?, &CASES)?;
+    show_cases(rt, alloc, &mut Database::make(alloc, 2).ok()?)?;
     show_each(rt, alloc, &database_after(alloc, 1, SEVEN_ORDERS)?, "D,1,5")
 }

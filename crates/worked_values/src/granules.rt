@@ -44,30 +44,29 @@ fn customer() -> Option<Granule> {
     })
 }
 
-fn print_bit(rt: &impl Print, granule: Option<Granule>) {
-    if let Some(granule) = granule {
-        let _ = print!(rt; " {}", granule_bit(&granule));
-    }
+fn print_bit(rt: &impl Print, granule: &Granule) {
+    let _ = print!(rt; " {}", granule_bit(granule));
 }
 
 /// The bits of warehouse 1, of a customer, of the districts and their books, and of the items 1 to 50.
-pub fn show_bits(rt: &impl Print) {
+pub fn show_bits(rt: &impl Print) -> Option<()> {
     let _ = print!(rt; "bits of a warehouse and a customer:");
-    print_bit(rt, warehouse());
-    print_bit(rt, customer());
+    print_bit(rt, &warehouse()?);
+    print_bit(rt, &customer()?);
     let _ = print!(rt; "\nbits of districts:");
     for number in 1..11 {
-        print_bit(rt, district(number));
+        print_bit(rt, &district(number)?);
     }
     let _ = print!(rt; "\nbits of books:");
     for number in 1..11 {
-        print_bit(rt, book(number));
+        print_bit(rt, &book(number)?);
     }
     let _ = print!(rt; "\nbits of stocks:");
     for item in 1..51 {
-        print_bit(rt, stock(item));
+        print_bit(rt, &stock(item)?);
     }
     let _ = println!(rt; "");
+    Some(())
 }
 
 // ---- signatures
@@ -211,8 +210,8 @@ fn show_levels(rt: &impl Print, alloc: Global, name: &str, touches: &[Touch]) ->
     show_cut(rt, alloc, name, &footprints)
 }
 
-fn show_batches(rt: &impl Print, alloc: Global, batches: &[(&str, &[Touch])]) -> Option<()> {
-    for (name, touches) in batches {
+fn show_batches(rt: &impl Print, alloc: Global) -> Option<()> {
+    for (name, touches) in &BATCHES {
         show_levels(rt, alloc, *name, *touches)?;
     }
     Some(())
@@ -221,5 +220,5 @@ fn show_batches(rt: &impl Print, alloc: Global, batches: &[(&str, &[Touch])]) ->
 pub fn show(rt: &impl Print, alloc: Global) -> Option<()> {
     show_signatures(rt)?;
     show_growing(rt, &mut Footprint::new(alloc), &mut Footprint::new(alloc))?;
-    show_batches(rt, alloc, &BATCHES)
+    show_batches(rt, alloc)
 }

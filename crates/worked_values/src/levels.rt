@@ -194,34 +194,21 @@ fn show_one<R: Threads + Sync + Print, G: Gate>(
 
 // ---- any number of workers
 
-/// Two payments of different warehouses, whose second customer is declared or isn't.
-#[derive(Drop)]
-struct TwoPayments {
-    declared: Declared,
-    other: Declared,
-}
-
-fn two_payments(alloc: Global, database: &Database) -> Option<TwoPayments> {
-    Some(TwoPayments {
-        declared: declared_itself(alloc, database, TWO_PAYMENTS)?,
-        other: declared_as(alloc, database, TWO_PAYMENTS, OTHER_PAYMENTS)?,
-    })
-}
-
 /// Each payment has the number of its place, and its gate. Where the customer isn't declared, the place strays.
 fn show_payments<R: Threads + Sync + Print>(
     rt: &R,
     alloc: Global,
     database: &Database,
-    payments: &TwoPayments,
+    declared: &Declared,
+    other: &Declared,
 ) -> Option<()> {
-    for count in WORKERS {
+    for count in &WORKERS {
         let _ = println!(rt; "by {count} workers");
-        show_counted(rt, alloc, database, &payments.declared, count)?;
-        show_all(rt, alloc, database, &payments.other, count, &NoGate)?;
+        show_counted(rt, alloc, database, declared, *count)?;
+        show_all(rt, alloc, database, other, *count, &NoGate)?;
     }
     let gate = CountingGate::new();
-    show_one(rt, alloc, database, &payments.declared, 1, &gate)?;
+    show_one(rt, alloc, database, declared, 1, &gate)?;
     show_counts(rt, &gate);
     Some(())
 }
@@ -277,8 +264,8 @@ fn show_strays<R: Threads + Sync + Print>(
     alloc: Global,
     database: &Database,
 ) -> Option<()> {
-    for others in STRAYS {
-        let three = declared_as(alloc, database, THREE_PAYMENTS, others)?;
+    for others in &STRAYS {
+        let three = declared_as(alloc, database, THREE_PAYMENTS, *others)?;
         show_counted(rt, alloc, database, &three, 1)?;
     }
     Some(())
@@ -291,8 +278,8 @@ fn show_any_stray<R: Threads + Sync + Print>(
     database: &Database,
     three: &Declared,
 ) -> Option<()> {
-    for count in WORKERS {
-        let end = run_all(rt, alloc, database, three, Workers::new(count)?, &NoGate)?;
+    for count in &WORKERS {
+        let end = run_all(rt, alloc, database, three, Workers::new(*count)?, &NoGate)?;
         let strays = matches!(end, LevelEnd::Strayed(0) | LevelEnd::Strayed(1));
         let _ = println!(rt; "one of the first two strays by {count} workers: {strays}");
     }
@@ -379,8 +366,8 @@ fn show_two_at_once<R: Threads + Sync + Print>(
 }
 
 fn show_workers(rt: &impl Print) {
-    for count in [0, 1, 64, 65] {
-        let workers = Workers::new(count).map(Workers::count);
+    for count in &[0, 1, 64, 65] {
+        let workers = Workers::new(*count).map(Workers::count);
         let _ = println!(rt; "{count} workers: {workers:?}");
     }
 }
@@ -392,7 +379,9 @@ fn show_two_payments<R: Threads + Sync + Print>(
     alloc: Global,
     database: &Database,
 ) -> Option<()> {
-    show_payments(rt, alloc, database, &two_payments(alloc, database)?)
+    let declared = declared_itself(alloc, database, TWO_PAYMENTS)?;
+    let other = declared_as(alloc, database, TWO_PAYMENTS, OTHER_PAYMENTS)?;
+    show_payments(rt, alloc, database, &declared, &other)
 }
 
 fn show_two_strays<R: Threads + Sync + Print>(

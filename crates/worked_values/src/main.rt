@@ -17,6 +17,7 @@ mod printing;
 mod replies;
 mod row_bytes;
 mod rows;
+mod signatures;
 mod stores;
 mod views;
 mod worlds;
@@ -24,9 +25,9 @@ mod worlds;
 use std::process::ExitCode;
 
 fn main(rt: HostRuntime) -> ExitCode {
-    columns::show(&rt);
-    granules::show_bits(&rt);
     let parts = [
+        columns::show(&rt),
+        granules::show_bits(&rt),
         row_bytes::show(&rt, rt.alloc()),
         cards::show(&rt, rt.alloc()),
         stores::show(&rt, rt.alloc()),
@@ -39,6 +40,7 @@ fn main(rt: HostRuntime) -> ExitCode {
         footprints::show(&rt, rt.alloc()),
         executions::show(&rt, rt.alloc()),
         levels::show(&rt, rt.alloc()),
+        signatures::show(&rt, rt.alloc()),
     ];
     if parts.iter().all(Option::is_some) {
         ExitCode::SUCCESS

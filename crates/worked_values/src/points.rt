@@ -59,11 +59,6 @@ fn show_kinds(rt: &impl Print, store: &PointedStore) -> Option<()> {
     let ytd = ytd_of(store.warehouse(warehouse));
     let next = next_of(store.district(warehouse, district));
     let _ = println!(rt; "rows: {}, by kind: {ytd:?} {next:?}", store.len());
-    Some(())
-}
-
-fn show_missing_rows(rt: &impl Print, store: &PointedStore) -> Option<()> {
-    let (warehouse, district) = (WarehouseId::new(1)?, DistrictId::new(1)?);
     let customer = CustomerId::new(1)?;
     let no_customer = store.customer(warehouse, district, customer).is_none();
     let no_new = store.oldest_new(warehouse, district).is_none();
@@ -76,7 +71,7 @@ fn show_missing_rows(rt: &impl Print, store: &PointedStore) -> Option<()> {
 
 fn show_removed(rt: &impl Print, alloc: Global, store: &mut PointedStore) -> Option<()> {
     let key = Columns::Warehouse(1, 0).key(alloc)?;
-    let removed = store.remove(&key)?.as_warehouse().is_some();
+    let removed = store.remove(&key).ok()??.as_warehouse().is_some();
     let left = store.page(DISTRICT_LEAF).len();
     let _ = println!(rt; "removed a warehouse: {removed}, rows of the district's leaf: {left}");
     Some(())
@@ -84,7 +79,6 @@ fn show_removed(rt: &impl Print, alloc: Global, store: &mut PointedStore) -> Opt
 
 fn show_first(rt: &impl Print, alloc: Global, store: &mut PointedStore) -> Option<()> {
     show_kinds(rt, store)?;
-    show_missing_rows(rt, store)?;
     show_dirty(rt, "at first", store);
     show_dirty(rt, "where nothing is changed", store);
     show_removed(rt, alloc, store)?;
@@ -114,6 +108,8 @@ enum Step {
     Missing(usize),
     /// The rows are changed to the other ones.
     Change,
+    /// The rows are changed to those that they were at first.
+    Undo,
     /// The changed leaves are taken.
     Take,
     Rows(&'static str),
@@ -121,8 +117,8 @@ enum Step {
 }
 
 /// No points; then one, rewound to and gone back to; then one where a second is refused. Where it is dropped, the changed
-/// rows are what a next point goes back to.
-const STEPS: [Step; 30] = [
+/// rows are what a next point goes back to, however often they change after it.
+const STEPS: [Step; 36] = [
     Step::Show("drop the oldest of no points", Call::DropOldest),
     Step::Show("rewind to none of no points", Call::Rewind(0)),
     Step::Rows("at first"),
@@ -153,38 +149,45 @@ const STEPS: [Step; 30] = [
     Step::Call(Call::Mark),
     Step::Call(Call::BackTo(0)),
     Step::Rows("marked and back"),
+    Step::Call(Call::Mark),
+    Step::Undo,
+    Step::Change,
+    Step::Undo,
+    Step::Show("back over three changes", Call::BackTo(0)),
+    Step::Rows("as marked"),
 ];
 
-fn carry_out(alloc: Global, store: &mut PointedStore, call: Call) -> Option<()> {
+fn carry_out(store: &mut PointedStore, call: Call) -> Option<()> {
     match call {
-        Call::Mark => store.mark(alloc).ok(),
+        Call::Mark => store.mark().ok(),
         Call::DropOldest => store.drop_oldest().ok(),
         Call::BackTo(point) => store.back_to(point).ok(),
-        Call::Rewind(point) => store.rewind(alloc, point).ok(),
+        Call::Rewind(point) => store.rewind(point).ok(),
     }
 }
 
-fn show_call(rt: &impl Print, alloc: Global, store: &mut PointedStore, what: &str, call: Call) {
+fn show_call(rt: &impl Print, store: &mut PointedStore, what: &str, call: Call) {
     let _ = match call {
-        Call::Mark => println!(rt; "{what}: {:?}", store.mark(alloc)),
+        Call::Mark => println!(rt; "{what}: {:?}", store.mark()),
         Call::DropOldest => println!(rt; "{what}: {:?}", store.drop_oldest()),
         Call::BackTo(point) => println!(rt; "{what}: {:?}", store.back_to(point)),
-        Call::Rewind(point) => println!(rt; "{what}: {:?}", store.rewind(alloc, point)),
+        Call::Rewind(point) => println!(rt; "{what}: {:?}", store.rewind(point)),
     };
 }
 
 /// Goes back to a point that isn't there, and rewinds to it.
-fn show_no_point(rt: &impl Print, alloc: Global, store: &mut PointedStore, point: usize) {
-    let (back, rewound) = (store.back_to(point), store.rewind(alloc, point));
+fn show_no_point(rt: &impl Print, store: &mut PointedStore, point: usize) {
+    let (back, rewound) = (store.back_to(point), store.rewind(point));
     let _ = println!(rt; "to a point that isn't there: {back:?} {rewound:?}");
 }
 
 fn follow(rt: &impl Print, alloc: Global, store: &mut PointedStore, step: Step) -> Option<()> {
     match step {
-        Step::Call(made) => carry_out(alloc, store, made)?,
-        Step::Show(what, made) => show_call(rt, alloc, store, what, made),
-        Step::Missing(point) => show_no_point(rt, alloc, store, point),
+        Step::Call(made) => carry_out(store, made)?,
+        Step::Show(what, made) => show_call(rt, store, what, made),
+        Step::Missing(point) => show_no_point(rt, store, point),
         Step::Change => apply(alloc, store, &OTHER)?,
+        Step::Undo => apply(alloc, store, &BOTH)?,
         Step::Take => {
             let _ = store.take_dirty();
         }
@@ -201,28 +204,42 @@ fn follow_all(rt: &impl Print, alloc: Global, store: &mut PointedStore) -> Optio
     Some(())
 }
 
-// ---- new orders
+// ---- orders
 
-const NEW_ORDERS: [Columns; 2] = [Columns::NewOrder((1, 1), 3), Columns::NewOrder((1, 1), 7)];
+/// New orders 3 and 7, and an order of the first customer.
+const ORDERS: [Columns; 3] = [
+    Columns::NewOrder((1, 1), 3),
+    Columns::NewOrder((1, 1), 7),
+    Columns::Order((1, 1), 5, 1, 7, 0, 5),
+];
 
-fn show_oldest(rt: &impl Print, what: &str, store: &PointedStore) -> Option<()> {
-    let oldest = number_of(store.oldest_new(WarehouseId::new(1)?, DistrictId::new(1)?));
+/// The same order of the second customer.
+const ANOTHER_CUSTOMER: [Columns; 1] = [Columns::Order((1, 1), 5, 2, 7, 0, 5)];
+
+fn show_orders(rt: &impl Print, what: &str, store: &PointedStore) -> Option<()> {
+    let (warehouse, district) = (WarehouseId::new(1)?, DistrictId::new(1)?);
+    let oldest = number_of(store.oldest_new(warehouse, district));
     let _ = println!(rt; "oldest new order {what}: {oldest:?}");
+    let (one, two) = (CustomerId::new(1)?, CustomerId::new(2)?);
+    let one = number_of(store.last_order(warehouse, district, one));
+    let two = number_of(store.last_order(warehouse, district, two));
+    let _ = println!(rt; "last orders of two customers: {one:?} {two:?}");
     Some(())
 }
 
-/// New orders 3 and 7, of which the older one is removed after a mark.
-fn show_new_orders(rt: &impl Print, alloc: Global, store: &mut PointedStore) -> Option<()> {
-    put_all(alloc, store, &NEW_ORDERS)?;
-    store.mark(alloc).ok()?;
-    let _ = store.remove(&NEW_ORDERS[0].key(alloc)?);
-    show_oldest(rt, "after a removal", store)?;
+/// After a mark the older new order is removed, and the order's customer changes.
+fn show_indexes(rt: &impl Print, alloc: Global, store: &mut PointedStore) -> Option<()> {
+    put_all(alloc, store, &ORDERS)?;
+    store.mark().ok()?;
+    store.remove(&ORDERS[0].key(alloc)?).ok()?;
+    put_all(alloc, store, &ANOTHER_CUSTOMER)?;
+    show_orders(rt, "after a removal", store)?;
     store.back_to(0).ok()?;
-    show_oldest(rt, "after going back", store)
+    show_orders(rt, "after going back", store)
 }
 
 pub fn show(rt: &impl Print, alloc: Global) -> Option<()> {
     show_first(rt, alloc, &mut both_rows(alloc)?)?;
     follow_all(rt, alloc, &mut both_rows(alloc)?)?;
-    show_new_orders(rt, alloc, &mut both_rows(alloc)?)
+    show_indexes(rt, alloc, &mut both_rows(alloc)?)
 }

@@ -20,9 +20,9 @@ use tpcc_rows::text::Text;
 // ---- digests
 
 /// The digest of one reply, with the number of its request.
-fn show_digest(rt: &impl Print, name: &str, number: u64, reply: Option<Reply>) {
-    if let (Some(number), Some(reply)) = (RequestNumber::new(number), reply) {
-        print_hash(rt, name, &reply_digest(number.number(), &[reply]));
+fn show_digest(rt: &impl Print, name: &str, number: u64, reply: &[Reply; 1]) {
+    if number < 1_000 {
+        print_hash(rt, name, &reply_digest(number, reply));
     }
 }
 
@@ -40,9 +40,7 @@ fn new_order() -> Option<Reply> {
     let two = line_reply(-9_999, Brand::Brand, 300)?;
     let mut lines = LineReplies::new();
     lines.push(one);
-    if lines.as_slice().len() < 15 {
-        lines.push(two);
-    }
+    lines.push(two);
     Some(Reply::NewOrder(NewOrderReply {
         order,
         total,
@@ -50,17 +48,22 @@ fn new_order() -> Option<Reply> {
     }))
 }
 
-fn payment(customer: u16, credit: ShownCredit) -> Option<Reply> {
+fn payment_of_good_credit() -> Option<Reply> {
     Some(Reply::Payment(PaymentReply {
-        customer: CustomerId::new(customer)?,
+        customer: CustomerId::new(37)?,
         balance: Cents::new(-2_000)?,
-        credit,
+        credit: ShownCredit::Good,
     }))
 }
 
 fn payment_of_bad_credit() -> Option<Reply> {
+    let (customer, balance) = (CustomerId::new(10)?, Cents::new(-2_000)?);
     let data = Text::parse(b"10 1 1 1 1 1000|xxx")?;
-    payment(10, ShownCredit::Bad { data })
+    Some(Reply::Payment(PaymentReply {
+        customer,
+        balance,
+        credit: ShownCredit::Bad { data },
+    }))
 }
 
 fn delivery() -> Reply {
@@ -80,15 +83,22 @@ fn delivery() -> Reply {
     })
 }
 
-fn order_status(order: Option<ShownOrder>) -> Option<Reply> {
-    Some(Reply::OrderStatus(OrderStatusReply {
+/// A customer without orders.
+fn customer_reply() -> Option<OrderStatusReply> {
+    Some(OrderStatusReply {
         customer: CustomerId::new(2)?,
+        balance: Cents::new(-1_000)?,
+        order: None,
         first: Text::parse(b"F9")?,
         middle: Text::parse(b"OE")?,
         last: Text::parse(b"NAME2")?,
-        balance: Cents::new(-1_000)?,
-        order,
-    }))
+    })
+}
+
+fn order_status(order: Option<ShownOrder>) -> Option<Reply> {
+    let mut reply = customer_reply()?;
+    reply.order = order;
+    Some(Reply::OrderStatus(reply))
 }
 
 /// An item out of a warehouse: so many for so many cents.
@@ -102,34 +112,33 @@ fn line(item: (u32, u8), sold: (u8, u32), delivery: Option<Moment>) -> Option<Sh
     })
 }
 
-fn shown_order(entry: u64, carrier: Option<Carrier>, lines: ShownLines) -> Option<ShownOrder> {
+/// Five of item 1 out of warehouse 80, and 99 of item 26 out of warehouse 2, which were delivered at moment 0.
+fn order_without_carrier() -> Option<ShownOrder> {
+    let one = line((1, 80), (5, 100), None)?;
+    let two = line((26, 2), (99, 963), Moment::new(0))?;
+    let (order, entry) = (OrderId::new(12)?, Moment::new(999_999_999_999)?);
+    let mut lines = ShownLines::new();
+    lines.push(one);
+    lines.push(two);
     Some(ShownOrder {
-        order: OrderId::new(12)?,
-        entry: Moment::new(entry)?,
-        carrier,
+        order,
+        entry,
+        carrier: None,
         lines,
     })
 }
 
-/// Five of item 1 out of warehouse 80, and 99 of item 26 out of warehouse 2, which were delivered at moment 0.
-fn order_without_carrier() -> Option<Reply> {
-    let one = line((1, 80), (5, 100), None)?;
-    let two = line((26, 2), (99, 963), Moment::new(0))?;
-    let mut lines = ShownLines::new();
-    lines.push(one);
-    if lines.as_slice().len() < 15 {
-        lines.push(two);
-    }
-    let order = shown_order(999_999_999_999, None, lines)?;
-    order_status(Some(order))
-}
-
-fn delivered_order() -> Option<Reply> {
+fn delivered_order() -> Option<ShownOrder> {
     let one = line((1, 80), (5, 100), Moment::new(86_400))?;
+    let (order, entry) = (OrderId::new(12)?, Moment::new(7)?);
     let mut lines = ShownLines::new();
     lines.push(one);
-    let order = shown_order(7, Carrier::new(10), lines)?;
-    order_status(Some(order))
+    Some(ShownOrder {
+        order,
+        entry,
+        carrier: Carrier::new(10),
+        lines,
+    })
 }
 
 fn refused(kind: RequestKind, refusal: RequestRefusal) -> Reply {
@@ -140,38 +149,33 @@ fn stock_level(low_stock: u32) -> Reply {
     Reply::StockLevel(StockLevelReply { low_stock })
 }
 
-fn show_changes_of_rows(rt: &impl Print) {
-    show_digest(rt, "digest of a new order", 12, new_order());
-    show_digest(
-        rt,
-        "digest of a payment of good credit",
-        1,
-        payment(37, ShownCredit::Good),
-    );
-    show_digest(
-        rt,
-        "digest of a payment of bad credit",
-        1,
-        payment_of_bad_credit(),
-    );
-    show_digest(rt, "digest of a delivery", 8, Some(delivery()));
+fn show_changes_of_rows(rt: &impl Print) -> Option<()> {
+    show_digest(rt, "digest of a new order", 12, &[new_order()?]);
+    let name = "digest of a payment of good credit";
+    show_digest(rt, name, 1, &[payment_of_good_credit()?]);
+    let name = "digest of a payment of bad credit";
+    show_digest(rt, name, 1, &[payment_of_bad_credit()?]);
+    show_digest(rt, "digest of a delivery", 8, &[delivery()]);
+    Some(())
 }
 
-fn show_queries(rt: &impl Print) {
-    show_digest(
+fn show_status(rt: &impl Print, name: &str, number: u64, order: Option<ShownOrder>) -> Option<()> {
+    show_digest(rt, name, number, &[order_status(order)?]);
+    Some(())
+}
+
+fn show_queries(rt: &impl Print) -> Option<()> {
+    show_status(rt, "digest of a customer without orders", 3, None)?;
+    let name = "digest of an order without carrier";
+    show_status(rt, name, 3, Some(order_without_carrier()?))?;
+    show_status(
         rt,
-        "digest of a customer without orders",
-        3,
-        order_status(None),
-    );
-    show_digest(
-        rt,
-        "digest of an order without carrier",
-        3,
-        order_without_carrier(),
-    );
-    show_digest(rt, "digest of a delivered order", 4, delivered_order());
-    show_digest(rt, "digest of a stock level", 2, Some(stock_level(17)));
+        "digest of a delivered order",
+        4,
+        Some(delivered_order()?),
+    )?;
+    show_digest(rt, "digest of a stock level", 2, &[stock_level(17)]);
+    Some(())
 }
 
 const REFUSALS: [(&str, RequestKind, RequestRefusal); 5] = [
@@ -203,15 +207,12 @@ const REFUSALS: [(&str, RequestKind, RequestRefusal); 5] = [
 ];
 
 fn show_refusals(rt: &impl Print) {
-    for (name, kind, refusal) in REFUSALS {
-        show_digest(rt, name, 1, Some(refused(kind, refusal)));
+    for (name, kind, refusal) in &REFUSALS {
+        show_digest(rt, *name, 1, &[refused(*kind, *refusal)]);
     }
 }
 
-fn show_digests(rt: &impl Print) {
-    show_changes_of_rows(rt);
-    show_queries(rt);
-    show_refusals(rt);
+fn show_several(rt: &impl Print) {
     print_hash(rt, "digest of no reply", &reply_digest(1, &[]));
     let several = [
         stock_level(17),
@@ -250,17 +251,19 @@ fn file_each(rt: &impl Print, book: &mut ReplyBook, numbers: &[(u64, u32)]) -> O
     Some(())
 }
 
+fn show_counts(rt: &impl Print, replies: &[Reply]) {
+    let _ = print!(rt; "replies:");
+    for reply in replies {
+        if let Reply::StockLevel(reply) = reply {
+            let _ = print!(rt; " {}", reply.low_stock);
+        }
+    }
+    let _ = println!(rt; "");
+}
+
 fn show_in_order(rt: &impl Print, book: ReplyBook) {
     match book.in_order() {
-        Ok(replies) => {
-            let _ = print!(rt; "replies:");
-            for reply in &replies {
-                if let Reply::StockLevel(reply) = reply {
-                    let _ = print!(rt; " {}", reply.low_stock);
-                }
-            }
-            let _ = println!(rt; "");
-        }
+        Ok(replies) => show_counts(rt, &replies),
         Err(error) => {
             let _ = println!(rt; "{error}");
         }
@@ -299,8 +302,8 @@ const BOOKS: [(u64, usize, &[(u64, u32)]); 5] = [
 ];
 
 fn show_books(rt: &impl Print, alloc: Global) -> Option<()> {
-    for (first, count, numbers) in BOOKS {
-        show_book(rt, alloc, first, count, numbers)?;
+    for (first, count, numbers) in &BOOKS {
+        show_book(rt, alloc, *first, *count, *numbers)?;
     }
     Some(())
 }
@@ -357,14 +360,17 @@ fn show_merged(rt: &impl Print, merged: &Delta) {
 }
 
 fn show_changes(rt: &impl Print, alloc: Global) -> Option<()> {
-    for lists in CHANGES {
-        show_merged(rt, &merged(alloc, lists)?);
+    for lists in &CHANGES {
+        show_merged(rt, &merged(alloc, *lists)?);
     }
     Some(())
 }
 
 pub fn show(rt: &impl Print, alloc: Global) -> Option<()> {
-    show_digests(rt);
+    show_changes_of_rows(rt)?;
+    show_queries(rt)?;
+    show_refusals(rt);
+    show_several(rt);
     show_token(rt)?;
     show_books(rt, alloc)?;
     show_changes(rt, alloc)

@@ -6,8 +6,9 @@ use std::alloc::Global;
 use tpcc_rows::codes::leaf;
 use tpcc_rows::encoding::encode_row;
 use tpcc_rows::id::{CustomerId, DistrictId, WarehouseId};
+use tpcc_rows::key::RowKey;
 use tpcc_rows::plain::RowStore;
-use tpcc_rows::row::fits;
+use tpcc_rows::row::{Row, fits};
 use tpcc_rows::row_buf::RowBuf;
 
 const GREATEST_DATA: &[u8] = &[b'x'; 500];
@@ -84,17 +85,17 @@ const ROWS: [(&str, Columns); 12] = [
 ];
 
 /// The row's leaf, and its bytes.
-fn show_row(rt: &impl Print, name: &str, pair: &Pair) {
-    let (key, row) = pair;
+fn show_row(rt: &impl Print, name: &str, key: &RowKey, row: &Row) {
     let mut bytes = RowBuf::new();
     encode_row(key, row, &mut bytes);
     let _ = println!(rt; "leaf of {name}: {}", leaf(key));
     print_bytes(rt, name, bytes.as_slice());
 }
 
-fn show_rows(rt: &impl Print, alloc: Global, rows: &[(&str, Columns)]) -> Option<()> {
-    for (name, columns) in rows {
-        show_row(rt, *name, &columns.row(alloc)?);
+fn show_rows(rt: &impl Print, alloc: Global) -> Option<()> {
+    for (name, columns) in &ROWS {
+        let (key, row) = columns.row(alloc)?;
+        show_row(rt, *name, &key, &row);
     }
     Some(())
 }
@@ -162,7 +163,7 @@ fn show_books(rt: &impl Print, alloc: Global, store: &mut RowStore) -> Option<()
 }
 
 pub fn show(rt: &impl Print, alloc: Global) -> Option<()> {
-    show_rows(rt, alloc, &ROWS)?;
+    show_rows(rt, alloc)?;
     show_changes(
         rt,
         alloc,

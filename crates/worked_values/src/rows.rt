@@ -77,16 +77,6 @@ fn district(place: Place, ytd: i64, next: u32) -> Option<Pair> {
     ))
 }
 
-fn customer_row(money: (i64, i64), counts: (u32, u32), data: &[u8]) -> Option<CustomerRow> {
-    Some(CustomerRow {
-        balance: Cents::new(money.0)?,
-        ytd_payment: Cents::new(money.1)?,
-        payment_count: Count::new(counts.0)?,
-        delivery_count: Count::new(counts.1)?,
-        data: Text::parse(data)?,
-    })
-}
-
 fn customer_key(place: Place, number: u16) -> Option<RowKey> {
     let (warehouse, district) = district_of(place)?;
     let customer = CustomerId::new(number)?;
@@ -97,59 +87,73 @@ fn customer_key(place: Place, number: u16) -> Option<RowKey> {
     })
 }
 
-fn customer(alloc: Global, key: Option<RowKey>, row: Option<CustomerRow>) -> Option<Pair> {
-    Some((key?, Row::of_customer(alloc, row?).ok()?))
+fn customer_row(money: (i64, i64), counts: (u32, u32), data: &[u8]) -> Option<CustomerRow> {
+    Some(CustomerRow {
+        balance: Cents::new(money.0)?,
+        ytd_payment: Cents::new(money.1)?,
+        payment_count: Count::new(counts.0)?,
+        delivery_count: Count::new(counts.1)?,
+        data: Text::parse(data)?,
+    })
 }
 
-fn stock_row(quantity: i16, counts: (u32, u32, u32)) -> Option<Row> {
-    Some(Row::Stock(StockRow {
+fn customer(
+    alloc: Global,
+    key: RowKey,
+    money: (i64, i64),
+    counts: (u32, u32),
+    data: &[u8],
+) -> Option<Pair> {
+    let row = customer_row(money, counts, data)?;
+    Some((key, Row::of_customer(alloc, row).ok()?))
+}
+
+fn stock(warehouse: u8, item: u32, quantity: i16, counts: (u32, u32, u32)) -> Option<Pair> {
+    let warehouse = WarehouseId::new(warehouse)?;
+    let item = ItemId::new(item)?;
+    let row = StockRow {
         quantity: StockQuantity::new(quantity)?,
         ytd: Count::new(counts.0)?,
         order_count: Count::new(counts.1)?,
         remote_count: Count::new(counts.2)?,
-    }))
+    };
+    Some((RowKey::Stock { warehouse, item }, Row::Stock(row)))
 }
 
-fn stock(warehouse: u8, item: u32, row: Option<Row>) -> Option<Pair> {
-    let warehouse = WarehouseId::new(warehouse)?;
-    let item = ItemId::new(item)?;
-    Some((RowKey::Stock { warehouse, item }, row?))
-}
-
-fn order_row(customer: u16, entry: u64, carrier: u8, lines: u8) -> Option<Row> {
-    Some(Row::Order(OrderRow {
+fn order(
+    place: Place,
+    number: u32,
+    customer: u16,
+    entry: u64,
+    carrier: u8,
+    lines: u8,
+) -> Option<Pair> {
+    let (warehouse, district) = district_of(place)?;
+    let order = OrderId::new(number)?;
+    let row = OrderRow {
         customer: CustomerId::new(customer)?,
         entry: Moment::new(entry)?,
         carrier: Carrier::new(carrier),
         line_count: LineNumber::new(lines)?,
         all_local: lines > 10,
-    }))
-}
-
-fn order(place: Place, number: u32, row: Option<Row>) -> Option<Pair> {
-    let (warehouse, district) = district_of(place)?;
-    let order = OrderId::new(number)?;
-    Some((
-        RowKey::Order {
-            warehouse,
-            district,
-            order,
-        },
-        row?,
-    ))
+    };
+    let key = RowKey::Order {
+        warehouse,
+        district,
+        order,
+    };
+    Some((key, Row::Order(row)))
 }
 
 fn new_order(place: Place, number: u32) -> Option<Pair> {
     let (warehouse, district) = district_of(place)?;
     let order = OrderId::new(number)?;
-    Some((
-        RowKey::NewOrder {
-            warehouse,
-            district,
-            order,
-        },
-        Row::NewOrder,
-    ))
+    let key = RowKey::NewOrder {
+        warehouse,
+        district,
+        order,
+    };
+    Some((key, Row::NewOrder))
 }
 
 fn line_row(sold: Sold) -> Option<Row> {
@@ -163,19 +167,17 @@ fn line_row(sold: Sold) -> Option<Row> {
     }))
 }
 
-fn order_line(place: Place, order: u32, number: u8, row: Option<Row>) -> Option<Pair> {
+fn order_line(place: Place, order: u32, number: u8, sold: Sold) -> Option<Pair> {
     let (warehouse, district) = district_of(place)?;
     let order = OrderId::new(order)?;
     let number = LineNumber::new(number)?;
-    Some((
-        RowKey::OrderLine {
-            warehouse,
-            district,
-            order,
-            number,
-        },
-        row?,
-    ))
+    let key = RowKey::OrderLine {
+        warehouse,
+        district,
+        order,
+        number,
+    };
+    Some((key, line_row(sold)?))
 }
 
 fn history_row(
@@ -198,34 +200,27 @@ fn history_row(
     }))
 }
 
-fn history(number: u64, row: Option<Row>) -> Option<Pair> {
-    let number = RequestNumber::new(number)?;
-    Some((RowKey::History { number }, row?))
-}
-
 impl Columns {
     /// The row and its key. None where a value is outside its limits.
     pub fn row(self, alloc: Global) -> Option<Pair> {
         match self {
             Columns::Warehouse(number, ytd) => warehouse(number, ytd),
             Columns::District(place, ytd, next) => district(place, ytd, next),
-            Columns::Customer(place, number, money, counts, data) => customer(
-                alloc,
-                customer_key(place, number),
-                customer_row(money, counts, data),
-            ),
+            Columns::Customer(place, number, money, counts, data) => {
+                customer(alloc, customer_key(place, number)?, money, counts, data)
+            }
             Columns::Stock(warehouse, item, quantity, counts) => {
-                stock(warehouse, item, stock_row(quantity, counts))
+                stock(warehouse, item, quantity, counts)
             }
             Columns::Order(place, number, customer, entry, carrier, lines) => {
-                order(place, number, order_row(customer, entry, carrier, lines))
+                order(place, number, customer, entry, carrier, lines)
             }
             Columns::NewOrder(place, number) => new_order(place, number),
-            Columns::Line(place, order, number, sold) => {
-                order_line(place, order, number, line_row(sold))
-            }
+            Columns::Line(place, order, number, sold) => order_line(place, order, number, sold),
             Columns::History(number, customer, places, payment, data) => {
-                history(number, history_row(customer, places, payment, data))
+                let number = RequestNumber::new(number)?;
+                let row = history_row(customer, places, payment, data)?;
+                Some((RowKey::History { number }, row))
             }
         }
     }

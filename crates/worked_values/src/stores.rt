@@ -3,7 +3,8 @@ use crate::row_bytes::put_plain;
 use crate::rows::{Columns, Pair, Sold, next_of, number_of, ytd_of};
 use pages::RowStore;
 use std::alloc::Global;
-use tpcc_rows::id::{CustomerId, DistrictId, WarehouseId};
+use std::collections::BTreeSet;
+use tpcc_rows::id::{CustomerId, DistrictId, OrderId, WarehouseId};
 use tpcc_rows::plain;
 use tpcc_rows::row::fits;
 
@@ -71,9 +72,9 @@ fn show_moved(rt: &impl Print, alloc: Global, plain: plain::RowStore) -> Option<
     Some(())
 }
 
-/// Whether a page's rows have the keys of these rows, in their order.
-fn is_in_order(alloc: Global, page: &plain::RowStore, rows: &[Columns]) -> Option<bool> {
-    let mut rest = rows.iter();
+/// Whether a page's rows have the keys of the first rows, in their order.
+fn is_in_order(alloc: Global, page: &plain::RowStore) -> Option<bool> {
+    let mut rest = ROWS.iter();
     for (key, _) in page.iter() {
         if rest.next()?.key(alloc)? != *key {
             return Some(false);
@@ -82,13 +83,8 @@ fn is_in_order(alloc: Global, page: &plain::RowStore, rows: &[Columns]) -> Optio
     Some(true)
 }
 
-fn show_page(
-    rt: &impl Print,
-    alloc: Global,
-    page: &plain::RowStore,
-    rows: &[Columns],
-) -> Option<()> {
-    let is_in_order = is_in_order(alloc, page, rows)?;
+fn show_page(rt: &impl Print, alloc: Global, page: &plain::RowStore) -> Option<()> {
+    let is_in_order = is_in_order(alloc, page)?;
     let _ = println!(rt;
         "rows of a leaf: {}, in key order: {is_in_order}",
         page.len()
@@ -135,27 +131,54 @@ const ANOTHER_CUSTOMER: [Columns; 2] = [
     Columns::Order((1, 1), 5, 2, 7, 0, 5),
 ];
 
-fn show_another_customer(rt: &impl Print, alloc: Global, store: &mut RowStore) -> Option<()> {
-    put_all(alloc, store, &ANOTHER_CUSTOMER)?;
+/// More orders of both customers, of which the first one gets its order back, and new orders.
+const MORE_ORDERS: [Columns; 5] = [
+    Columns::Order((1, 1), 3, 1, 7, 0, 5),
+    Columns::Order((1, 1), 4, 2, 7, 0, 5),
+    Columns::Order((1, 1), 5, 1, 7, 0, 5),
+    Columns::NewOrder((1, 1), 7),
+    Columns::NewOrder((1, 1), 3),
+];
+
+fn print_numbers(rt: &impl Print, what: &str, numbers: Option<&BTreeSet<OrderId>>) {
+    let _ = print!(rt; "{what}:");
+    if let Some(numbers) = numbers {
+        for number in numbers.iter() {
+            let _ = print!(rt; " {}", number.number());
+        }
+    }
+    let _ = println!(rt; "");
+}
+
+/// The last orders of two customers, all their orders, and the new orders.
+fn show_orders(rt: &impl Print, what: &str, store: &RowStore) -> Option<()> {
     let (warehouse, district) = (WarehouseId::new(1)?, DistrictId::new(1)?);
     let (one, two) = (CustomerId::new(1)?, CustomerId::new(2)?);
-    let one = number_of(store.last_order(warehouse, district, one));
-    let two = number_of(store.last_order(warehouse, district, two));
-    let _ = println!(rt; "last orders after an order's customer changed: {one:?} {two:?}");
+    let last_of_one = number_of(store.last_order(warehouse, district, one));
+    let last_of_two = number_of(store.last_order(warehouse, district, two));
+    let _ = println!(rt; "last orders {what}: {last_of_one:?} {last_of_two:?}");
+    let numbers = store.order_numbers(warehouse, district, one);
+    print_numbers(rt, "orders of the first customer", numbers);
+    let numbers = store.order_numbers(warehouse, district, two);
+    print_numbers(rt, "orders of the second customer", numbers);
+    print_numbers(rt, "new orders", store.open_numbers(warehouse, district));
     Some(())
 }
 
-fn show_plain(rt: &impl Print, alloc: Global, rows: &[Columns]) -> Option<()> {
-    let mut plain = plain::RowStore::new(alloc);
-    put_plain(alloc, &mut plain, rows)?;
-    show_moved(rt, alloc, plain)
+fn show_indexes(rt: &impl Print, alloc: Global, store: &mut RowStore) -> Option<()> {
+    put_all(alloc, store, &ANOTHER_CUSTOMER)?;
+    show_orders(rt, "after an order's customer changed", store)?;
+    put_all(alloc, store, &MORE_ORDERS)?;
+    show_orders(rt, "after more orders", store)?;
+    let _ = store.remove(&MORE_ORDERS[0].key(alloc)?);
+    let _ = store.remove(&MORE_ORDERS[4].key(alloc)?);
+    show_orders(rt, "after an order and a new order were removed", store)
 }
 
-fn show_rows(rt: &impl Print, alloc: Global, store: &mut RowStore, rows: &[Columns]) -> Option<()> {
-    put_all(alloc, store, rows)?;
-    let _ = println!(rt; "rows of pages: {}", store.len());
-    show_page(rt, alloc, store.page(LEAF), rows)?;
-    show_kinds(rt, store)
+fn show_plain(rt: &impl Print, alloc: Global) -> Option<()> {
+    let mut plain = plain::RowStore::new(alloc);
+    put_plain(alloc, &mut plain, &ROWS)?;
+    show_moved(rt, alloc, plain)
 }
 
 fn show_removal(rt: &impl Print, alloc: Global, store: &mut RowStore) -> Option<()> {
@@ -166,12 +189,15 @@ fn show_removal(rt: &impl Print, alloc: Global, store: &mut RowStore) -> Option<
 }
 
 fn show_store(rt: &impl Print, alloc: Global, store: &mut RowStore) -> Option<()> {
-    show_rows(rt, alloc, store, &ROWS)?;
+    put_all(alloc, store, &ROWS)?;
+    let _ = println!(rt; "rows of pages: {}", store.len());
+    show_page(rt, alloc, store.page(LEAF))?;
+    show_kinds(rt, store)?;
     show_removal(rt, alloc, store)
 }
 
 pub fn show(rt: &impl Print, alloc: Global) -> Option<()> {
-    show_plain(rt, alloc, &ROWS)?;
+    show_plain(rt, alloc)?;
     show_store(rt, alloc, &mut RowStore::new(alloc).ok()?)?;
-    show_another_customer(rt, alloc, &mut RowStore::new(alloc).ok()?)
+    show_indexes(rt, alloc, &mut RowStore::new(alloc).ok()?)
 }

@@ -25,15 +25,11 @@ const READ: [Columns; 4] = [
     Columns::History(9, 1, ((1, 1), (1, 1)), (0, 0), b""),
 ];
 
-/// Whether there is a row of the key.
-fn has_row<V: RowView>(alloc: Global, view: &V, columns: Columns) -> Option<Result<bool, Strayed>> {
-    let key = columns.key(alloc)?;
-    Some(view.read(&key).map(|row| row.is_some()))
-}
-
+/// Whether there is a row of each key.
 fn show_rows<V: RowView>(rt: &impl Print, alloc: Global, what: &str, view: &V) -> Option<()> {
     for columns in &READ {
-        let found = has_row(alloc, view, *columns)?;
+        let key = columns.key(alloc)?;
+        let found = view.read(&key).map(|row| row.is_some());
         let _ = println!(rt; "{what} reads: {found:?}");
     }
     Some(())
@@ -52,15 +48,11 @@ fn show_orders<V: RowView>(rt: &impl Print, what: &str, view: &V, number: u8) ->
     Some(())
 }
 
-fn show_no_order<V: RowView>(rt: &impl Print, what: &str, view: &V) -> Option<()> {
-    let (warehouse, district) = (WarehouseId::new(1)?, DistrictId::new(1)?);
-    let last = view.last_order(warehouse, district, CustomerId::new(3)?);
+fn show_rest<V: RowView>(rt: &impl Print, what: &str, view: &V) -> Option<()> {
+    let (warehouse, number) = (WarehouseId::new(1)?, DistrictId::new(1)?);
+    let last = view.last_order(warehouse, number, CustomerId::new(3)?);
     let no_order = last.map(|order| order.is_none());
     let _ = println!(rt; "{what}, a customer without orders: {no_order:?}");
-    Some(())
-}
-
-fn show_writes<V: RowView>(rt: &impl Print, what: &str, view: &V) -> Option<()> {
     let (own, book) = (view.may_write(&district(1)?), view.may_write(&book(1)?));
     let _ = println!(rt; "{what}: the district may be written: {own}, the book: {book}");
     Some(())
@@ -70,8 +62,7 @@ fn show_view<V: RowView>(rt: &impl Print, alloc: Global, what: &str, view: &V) -
     show_rows(rt, alloc, what, view)?;
     show_orders(rt, what, view, 1)?;
     show_orders(rt, what, view, 2)?;
-    show_no_order(rt, what, view)?;
-    show_writes(rt, what, view)
+    show_rest(rt, what, view)
 }
 
 fn show_loan(
@@ -84,33 +75,27 @@ fn show_loan(
     show_view(rt, alloc, what, &Loan { store, footprint })
 }
 
-fn show_district(
-    rt: &impl Print,
-    alloc: Global,
-    store: &PointedStore,
-    footprint: &mut Footprint,
-) -> Option<()> {
-    footprint.read(district(1)?).ok()?;
-    show_loan(rt, alloc, "a district that is lent", store, footprint)
-}
-
-fn show_book(
-    rt: &impl Print,
-    alloc: Global,
-    store: &PointedStore,
-    footprint: &mut Footprint,
-) -> Option<()> {
-    footprint.write(book(1)?).ok()?;
-    show_loan(rt, alloc, "a book that is lent", store, footprint)
-}
-
 /// All rows; those where the district is only read; and those where its book is written.
-fn show_views(rt: &impl Print, alloc: Global, store: &PointedStore) -> Option<()> {
+fn show_views(
+    rt: &impl Print,
+    alloc: Global,
+    store: &PointedStore,
+    one: &mut Footprint,
+    other: &mut Footprint,
+) -> Option<()> {
     show_view(rt, alloc, "all rows", &Whole { store })?;
-    show_district(rt, alloc, store, &mut Footprint::new(alloc))?;
-    show_book(rt, alloc, store, &mut Footprint::new(alloc))
+    one.read(district(1)?).ok()?;
+    show_loan(rt, alloc, "a district that is lent", store, one)?;
+    other.write(book(1)?).ok()?;
+    show_loan(rt, alloc, "a book that is lent", store, other)
 }
 
 pub fn show(rt: &impl Print, alloc: Global) -> Option<()> {
-    show_views(rt, alloc, &store_of(alloc, &ROWS)?)
+    show_views(
+        rt,
+        alloc,
+        &store_of(alloc, &ROWS)?,
+        &mut Footprint::new(alloc),
+        &mut Footprint::new(alloc),
+    )
 }

@@ -119,14 +119,9 @@ fn show_many(rt: &impl Print, world: &mut World) -> Option<()> {
     Some(())
 }
 
-fn show_worlds(rt: &impl Print, alloc: Global, worlds: &[(usize, usize, &[Turn])]) -> Option<()> {
-    for (places, workers, turns) in worlds {
+pub fn show(rt: &impl Print, alloc: Global) -> Option<()> {
+    for (places, workers, turns) in &WORLDS {
         show_turns(rt, alloc, *places, *workers, *turns)?;
     }
-    Some(())
-}
-
-pub fn show(rt: &impl Print, alloc: Global) -> Option<()> {
-    show_worlds(rt, alloc, &WORLDS)?;
     show_many(rt, &mut World::new(alloc, 40, 3).ok()?)
 }
