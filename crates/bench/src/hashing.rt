@@ -253,7 +253,7 @@ fn measure_tree<R: Clock + Eprint + AllocGlobal + Threads + Sync>(
 }
 
 /// The image of a warehouse of full scale whose customers' data are of the standard's length.
-fn full_scale(alloc: Global) -> Option<Vec<u8>> {
+pub fn full_scale(alloc: Global) -> Option<Vec<u8>> {
     let customers = image(alloc, 1, 3000, Population::Standard).ok()?;
     let made = made_image(alloc, 3000, 100_000)?;
     with_stocks(alloc, customers.as_bytes(), &made).ok()

@@ -1,14 +1,17 @@
 //! Measurements, as ratios within one run: in this folder, `rt run -- load` for loading images, `rt run -- store` for
 //! storing one, `rt run -- pay` for payments, `rt run -- mix` for all transactions, `rt run -- hash` for the tree of
-//! hashes. With no word on its command line it does nothing. Times go to standard error.
+//! hashes, `rt run -- lanes` for four hashes at once, `rt run -- sign` for signatures. With no word on its command line it
+//! does nothing. Times go to standard error.
 #![tactic(auto)]
 
 mod hashing;
 mod images;
+mod lanes;
 mod loading;
 mod mixing;
 mod paying;
 mod requests_text;
+mod signatures;
 mod timing;
 
 use std::env;
@@ -25,9 +28,11 @@ fn asked<R: Env + AllocGlobal>(rt: &R) -> Option<String> {
 fn measure<R: Clock + Eprint + AllocGlobal + Threads + Sync>(rt: &R, what: &str) -> Option<()> {
     match what {
         "hash" => hashing::measure(rt),
+        "lanes" => lanes::measure(rt),
         "load" => loading::measure(rt),
         "mix" => mixing::measure(rt),
         "pay" => paying::measure(rt),
+        "sign" => signatures::measure(rt),
         "store" => loading::measure_store(rt),
         _ => None,
     }

@@ -254,8 +254,8 @@ fn show_digest(rt: &impl Print, alloc: Global, name: &str, cards: &[Columns]) ->
     Some(())
 }
 
-fn show_digests(rt: &impl Print, alloc: Global) -> Option<()> {
-    for (name, cards) in &CATALOGS {
+fn show_digests(rt: &impl Print, alloc: Global, catalogs: &[(&str, &[Columns])]) -> Option<()> {
+    for (name, cards) in catalogs {
         show_digest(rt, alloc, *name, *cards)?;
     }
     Some(())
@@ -265,5 +265,5 @@ pub fn show(rt: &impl Print, alloc: Global) -> Option<()> {
     show_few(rt, &catalog_of(alloc, &CARDS[..3])?.ok()?)?;
     show_twice(rt, alloc)?;
     show_names(rt, alloc)?;
-    show_digests(rt, alloc)
+    show_digests(rt, alloc, &CATALOGS)
 }

@@ -341,9 +341,13 @@ fn show_case(rt: &impl Print, alloc: Global, steps: &[Step]) -> Option<()> {
     follow_all(rt, alloc, &mut Database::make(alloc, 2).ok()?, steps)
 }
 
-pub fn show(rt: &impl Print, alloc: Global) -> Option<()> {
-    for steps in &CASES {
+fn show_cases(rt: &impl Print, alloc: Global, cases: &[&[Step]]) -> Option<()> {
+    for steps in cases {
         show_case(rt, alloc, *steps)?;
     }
     Some(())
+}
+
+pub fn show(rt: &impl Print, alloc: Global) -> Option<()> {
+    show_cases(rt, alloc, &CASES)
 }

@@ -92,8 +92,8 @@ fn show_row(rt: &impl Print, name: &str, key: &RowKey, row: &Row) {
     print_bytes(rt, name, bytes.as_slice());
 }
 
-fn show_rows(rt: &impl Print, alloc: Global) -> Option<()> {
-    for (name, columns) in &ROWS {
+fn show_rows(rt: &impl Print, alloc: Global, rows: &[(&str, Columns)]) -> Option<()> {
+    for (name, columns) in rows {
         let (key, row) = columns.row(alloc)?;
         show_row(rt, *name, &key, &row);
     }
@@ -163,7 +163,7 @@ fn show_books(rt: &impl Print, alloc: Global, store: &mut RowStore) -> Option<()
 }
 
 pub fn show(rt: &impl Print, alloc: Global) -> Option<()> {
-    show_rows(rt, alloc)?;
+    show_rows(rt, alloc, &ROWS)?;
     show_changes(
         rt,
         alloc,

@@ -72,9 +72,9 @@ fn show_moved(rt: &impl Print, alloc: Global, plain: plain::RowStore) -> Option<
     Some(())
 }
 
-/// Whether a page's rows have the keys of the first rows, in their order.
-fn is_in_order(alloc: Global, page: &plain::RowStore) -> Option<bool> {
-    let mut rest = ROWS.iter();
+/// Whether a page's rows have the keys of the first of these rows, in their order.
+fn is_in_order(alloc: Global, page: &plain::RowStore, rows: &[Columns]) -> Option<bool> {
+    let mut rest = rows.iter();
     for (key, _) in page.iter() {
         if rest.next()?.key(alloc)? != *key {
             return Some(false);
@@ -84,7 +84,7 @@ fn is_in_order(alloc: Global, page: &plain::RowStore) -> Option<bool> {
 }
 
 fn show_page(rt: &impl Print, alloc: Global, page: &plain::RowStore) -> Option<()> {
-    let is_in_order = is_in_order(alloc, page)?;
+    let is_in_order = is_in_order(alloc, page, &ROWS)?;
     let _ = println!(rt;
         "rows of a leaf: {}, in key order: {is_in_order}",
         page.len()

@@ -1,0 +1,150 @@
+//! Four hashes at once against one hash after the other: the tree of a warehouse of full scale, and inner nodes alone.
+use crate::hashing::full_scale;
+use crate::timing::{print_ratio, since, start};
+use loader::load;
+use merkle::Tree;
+use merkle::hashing::{hash_leaf, join};
+use requests::BytesSource;
+use rollback::{Dirty, PointedStore};
+use sha2_lanes::digests_of_four;
+use std::rt::Clock;
+use std::thread::Threads;
+use std::time::Duration;
+use tpcc_rows::codes::LEAVES;
+use tpcc_rows::key::RowKey;
+use tpcc_rows::plain;
+use tpcc_rows::row::{Row, fits};
+
+/// How often each time is taken; the least counts.
+const ROUNDS: u32 = 20;
+
+/// The bytes that a node is hashed of.
+const NODE_BYTES: usize = 65;
+
+/// A copy of the first row of a page.
+fn first_row(page: &plain::RowStore) -> Option<(RowKey, Row)> {
+    let (key, row) = page.iter().next()?;
+    Some((*key, row.copied().ok()?))
+}
+
+/// All leaves, each of which has a row put again.
+fn all_leaves(store: &mut PointedStore) -> Option<Dirty> {
+    for leaf in 0..LEAVES {
+        let (key, row) = first_row(store.page(leaf))?;
+        if fits(&key, &row) {
+            store.put(key, row).ok()?;
+        }
+    }
+    Some(store.take_dirty())
+}
+
+/// Hashes all leaves, and as many nodes as stand above them, one after the other.
+fn hash_alone(store: &PointedStore) -> u64 {
+    let mut last = [0u8; 32];
+    let mut mixed = 0u64;
+    for leaf in 0..LEAVES {
+        let hash = hash_leaf(store.page(leaf));
+        last = join(&last, &hash);
+        mixed = mixed.wrapping_add(u64::from(last[0]));
+    }
+    mixed
+}
+
+/// Hashes as many messages of a node's length as a tree has nodes, one after the other.
+fn join_alone() -> u64 {
+    let mut last = [0u8; 32];
+    for turn in 0..LEAVES {
+        last = join(&last, &[(turn % 251) as u8; 32]);
+    }
+    u64::from(last[0])
+}
+
+/// As many, four at once.
+fn join_in_lanes() -> u64 {
+    let mut mixed = 0u64;
+    for turn in 0..LEAVES / 4 {
+        let first = [(turn % 251) as u8; NODE_BYTES];
+        let second = [(turn % 241) as u8; NODE_BYTES];
+        let [one, two, three, four] = digests_of_four(&first, &second, &second, &first);
+        let sum = u64::from(one[0]) + u64::from(two[0]) + u64::from(three[0]) + u64::from(four[0]);
+        mixed = mixed.wrapping_add(sum);
+    }
+    mixed
+}
+
+/// What each way took at the least.
+#[derive(Clone, Copy)]
+struct Times {
+    tree_alone: Duration,
+    tree: Duration,
+    nodes_alone: Duration,
+    nodes: Duration,
+}
+
+impl Times {
+    const LONGEST: Times = Times {
+        tree_alone: Duration::MAX,
+        tree: Duration::MAX,
+        nodes_alone: Duration::MAX,
+        nodes: Duration::MAX,
+    };
+
+    fn take_tree<R: Clock + Threads + Sync>(
+        &mut self,
+        rt: &R,
+        tree: &mut Tree,
+        store: &PointedStore,
+        dirty: &Dirty,
+    ) -> u64 {
+        let begin = start(rt);
+        let mixed = hash_alone(store);
+        self.tree_alone = self.tree_alone.min(since(rt, begin));
+        let begin = start(rt);
+        tree.refresh(rt, store, dirty, 1);
+        self.tree = self.tree.min(since(rt, begin));
+        mixed.wrapping_add(u64::from(tree.root()[0]))
+    }
+
+    fn take_nodes(&mut self, rt: &impl Clock) -> u64 {
+        let begin = start(rt);
+        let mixed = join_alone();
+        self.nodes_alone = self.nodes_alone.min(since(rt, begin));
+        let begin = start(rt);
+        let other = join_in_lanes();
+        self.nodes = self.nodes.min(since(rt, begin));
+        mixed.wrapping_add(other)
+    }
+
+    fn print(&self, rt: &impl Eprint) {
+        print_ratio(
+            rt,
+            "4,096 leaves and the nodes above them, one hash after the other",
+            self.tree_alone,
+            "four at once",
+            self.tree,
+        );
+        print_ratio(
+            rt,
+            "4,096 nodes, one hash after the other",
+            self.nodes_alone,
+            "four at once",
+            self.nodes,
+        );
+    }
+}
+
+/// On one thread, each the best of twenty.
+pub fn measure<R: Clock + Eprint + AllocGlobal + Threads + Sync>(rt: &R) -> Option<()> {
+    let text = full_scale(rt.alloc())?;
+    let (_, mut store) = load(rt.alloc(), &mut BytesSource::new(&text, 65_536)).ok()?;
+    let mut tree = Tree::build(rt, rt.alloc(), &store).ok()?;
+    let dirty = all_leaves(&mut store)?;
+    let mut times = Times::LONGEST;
+    let mut mixed = 0u64;
+    for _ in 0..ROUNDS {
+        mixed = mixed.wrapping_add(times.take_tree(rt, &mut tree, &store, &dirty));
+        mixed = mixed.wrapping_add(times.take_nodes(rt));
+    }
+    times.print(rt);
+    (0 < mixed).then_some(())
+}
