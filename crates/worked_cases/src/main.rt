@@ -22,6 +22,7 @@
 //! | `record N RECORD` | shows the fault with this record as the Nth |
 //! | `also V\|V..` | gives values that each of the following lines tries too |
 //! | `field N K V\|V..` | shows the faults with these values in the Kth field of the Nth record |
+//! | `spoil N K BYTES` | shows what comes of the text with these bytes in the place of K from the Nth on |
 //! | `cuts` | shows the faults of each beginning of the text |
 //! | `step N` | has ends give and take at most so many bytes a call |
 //! | `failing` | runs the batches with each call of each end failing in turn |

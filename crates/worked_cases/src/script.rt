@@ -7,7 +7,7 @@ use crate::files::read;
 use crate::inputs::show_ends;
 use crate::runs::{checked, made, printed, show_changes, stored};
 use crate::tables::{show_cuts, show_field, show_record};
-use crate::text::{Text, bytes_of, is_line_end};
+use crate::text::{Text, bytes_of, is_line_end, with_bytes};
 use std::alloc::Global;
 use std::rt::Files;
 use std::thread::Threads;
@@ -337,6 +337,30 @@ impl Script {
         fail_checked_sink(rt, out, image, line.as_slice(), step)
     }
 
+    /// Shows what comes of the text in which other bytes stand in the place of some.
+    fn show_spoilt<R: Threads + Sync + AllocGlobal>(
+        &mut self,
+        rt: &R,
+        words: &str,
+    ) -> Result<(), Memory> {
+        let (at, rest) = first_word(words);
+        let (count, piece) = first_word(rest);
+        let alloc = self.alloc;
+        let piece = bytes_of(alloc, piece)?;
+        let whole = self.edited_text()?;
+        let (at, count) = (number_of(at), number_of(count));
+        let spoilt = with_bytes(alloc, whole.as_slice(), at, count, piece.as_slice())?;
+        let head = format!(in alloc; "{words}: ")?;
+        self.out.extend_from_slice(head.as_bytes())?;
+        self.edited().bytes = spoilt;
+        let shown = match self.side {
+            Side::Image => self.show_check(rt),
+            Side::Batches => self.try_text(),
+        };
+        self.edited().bytes = whole;
+        shown
+    }
+
     /// Whether a line is one that shows what comes of a run, and then follows it.
     fn show_run<R: Threads + Sync + AllocGlobal>(
         &mut self,
@@ -354,6 +378,7 @@ impl Script {
                 self.batches.bytes.as_slice(),
             )?,
             "check" => self.show_check(rt)?,
+            "spoil" => self.show_spoilt(rt, rest)?,
             "failing" => {
                 self.show_failing_runs(rt)?;
                 self.show_failing_checks(rt)?;

@@ -149,6 +149,22 @@ pub fn with_field(
     Ok(bytes)
 }
 
+/// The text with these bytes in the place of so many from there on.
+pub fn with_bytes(
+    alloc: Global,
+    text: &[u8],
+    at: usize,
+    count: usize,
+    bytes: &[u8],
+) -> Result<Vec<u8>, Memory> {
+    let at = at.min(text.len());
+    let end = at.saturating_add(count).min(text.len());
+    let mut spoilt = text[..at].to_vec(alloc)?;
+    spoilt.extend_from_slice(bytes)?;
+    spoilt.extend_from_slice(&text[end..])?;
+    Ok(spoilt)
+}
+
 fn push_escaped(bytes: &mut Vec<u8>, piece: &str) -> Result<(), Memory> {
     let Some((digits, rest)) = piece.split_at_checked(2) else {
         return Ok(());
