@@ -14,7 +14,7 @@ use Rattle.clap.specs.declared.builder.command.Command.TheViews.{out-Command}
 use Rattle.clap.specs.declared.builder.value_parser.ValueParser.TheVariants.{Signed}
 use Rattle.clap.specs.declared.error.Error.{Error}
 use Rattle.clap.specs.declared.error.kind.ErrorKind.{ErrorKind}
-use Rattle.clap.specs.declared.error.kind.ErrorKind.TheVariants.{DisplayHelp, OutOfMemory}
+use Rattle.clap.specs.declared.error.kind.ErrorKind.TheVariants.{DisplayHelp, DisplayVersion, OutOfMemory}
 use Rattle.clap.specs.declared.parser.matches.ArgMatches.{ArgMatches}
 use Rattle.command_line.specs.declared.line.Line.{Line}
 use Rattle.command_line.specs.declared.line.Line.TheVariants.{Check, Make, Run}
@@ -72,9 +72,9 @@ abbrev pub make_app : App
 make_app = with_rule (with_rule (with_rule (new_app (codes "make")) warehouses_rule) customers_rule)
     items_rule
 
--- the program without its subcommands, one of which has to be given
+-- the program without its subcommands, one of which has to be given; it has a version
 abbrev pub bare_app : App
-bare_app = on_top (λ shape. record shape { subcommand_required = true }) (new_app (codes "eve-tpcc"))
+bare_app = on_top (λ shape. record shape { subcommand_required = true; has_version = true }) (new_app (codes "eve-tpcc"))
 
 -- the program
 abbrev pub program_app : App
@@ -142,9 +142,10 @@ IsFaultOf kinds Unread = Unit {0}
 
 abbrev pub status_of_kind : ErrorKind → ℕ
 status_of_kind DisplayHelp = 0
+status_of_kind DisplayVersion = 0
 status_of_kind _ = 2
 
--- 0 where the words ask for help, else 2
+-- 0 where the words ask for help or the version, else 2
 abbrev pub status_of : LineFault → ℕ
 status_of (Refused error) = status_of_kind (kind_of error)
 status_of Unread = 2

@@ -1,5 +1,6 @@
 //! The command that `clap` reads the words by: a function for each argument and each subcommand.
 ghost use Rattle.std.specs.Prelude.{◌≡◌, ◌≤◌, IfOk, pos};
+ghost use Rattle.clap.specs.Words.{new_app};
 ghost use Rattle.clap.specs.declared.builder.value_parser.ValueParser.TheVariants.{Signed};
 ghost use Rattle.command_line.specs.CommandLine.{IsArgument, IsCommand, bare_app, check_app, make_app};
 ghost use Rattle.command_line.specs.CommandLine.{number_rule, program_app, ranged_rule, required_rule, run_app};
@@ -9,8 +10,14 @@ use clap::builder::ValueParser;
 use clap::{Arg, Command, value_parser};
 use std::alloc::{AllocError, Global};
 
+/// The version of the program.
+const VERSION: &str = "1.0.0";
+
 /// What help says of an image.
 const IMAGE: &str = "The file of the database's image";
+
+/// What each help says of the files.
+const FILES: &str = "Images, batches and replies are CSV text, described in docs/FORMATS.md";
 
 /// What takes the numbers from 1 to this one.
 fn up_to<'a>(most: u32) -> ValueParser<'a>
@@ -52,29 +59,36 @@ fn workers<'a>(alloc: Global) -> Arg<'a>
         .default_value("1")
 }
 
+// A command of this name, whose help says what it does and what the files are.
+fn described<'a>(alloc: Global, name: &'a str, about: &'a str) -> Command<'a>
+    ensures { IsCommand (new_app name.entry.now) result }
+{
+    Command::new(alloc, name).about(about).after_help(FILES)
+}
+
 fn run<'a>(alloc: Global) -> Result<Command<'a>, AllocError>
     ensures { IfOk result (IsCommand run_app) }
 {
-    Command::new(alloc, "run")
-        .about("Executes the batches of a file on the database of an image")
-        .arg(required(alloc, "IMAGE", IMAGE))?
-        .arg(required(alloc, "BATCHES", "The file of the batches"))?
-        .arg(workers(alloc))
+    described(
+        alloc,
+        "run",
+        "Executes the batches of a file on the database of an image",
+    )
+    .arg(required(alloc, "IMAGE", IMAGE))?
+    .arg(required(alloc, "BATCHES", "The file of the batches"))?
+    .arg(workers(alloc))
 }
 
 fn check<'a>(alloc: Global) -> Result<Command<'a>, AllocError>
     ensures { IfOk result (IsCommand check_app) }
 {
-    Command::new(alloc, "check")
-        .about("Checks the image of a database")
-        .arg(required(alloc, "IMAGE", IMAGE))
+    described(alloc, "check", "Checks the image of a database").arg(required(alloc, "IMAGE", IMAGE))
 }
 
 fn make<'a>(alloc: Global) -> Result<Command<'a>, AllocError>
     ensures { IfOk result (IsCommand make_app) }
 {
-    Command::new(alloc, "make")
-        .about("Writes the image of a new database")
+    described(alloc, "make", "Writes the image of a new database")
         .arg(number(alloc, "W", 100, "The number of warehouses, 1 to 100"))?
         .arg(number(
             alloc,
@@ -90,9 +104,9 @@ fn make<'a>(alloc: Global) -> Result<Command<'a>, AllocError>
 fn bare<'a>(alloc: Global) -> Result<Command<'a>, AllocError>
     ensures { IfOk result (IsCommand bare_app) }
 {
-    let command = Command::new(alloc, "eve-tpcc")
+    let command = described(alloc, "eve-tpcc", "Executes batches of TPC-C requests")
         .bin_name("eve-tpcc")?
-        .about("Executes batches of TPC-C requests")
+        .version(VERSION)
         .subcommand_required(true);
     Ok(command)
 }

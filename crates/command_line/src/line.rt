@@ -42,7 +42,7 @@ pub enum Line {
 /// Why the words are no line.
 #[derive(Debug, Drop)]
 pub enum LineFault {
-    /// The words are refused, or ask for help. The error prints its own text.
+    /// The words are refused, or ask for help or the version. The error prints its own text.
     Refused(Error),
     /// No line was read: memory ran out, or `clap` took the words and had no value for one of their arguments, which no
     /// words are known to bring about.
@@ -82,13 +82,13 @@ pub fn line_of(alloc: Global, words: Vec<String>) -> Result<Line, LineFault>
     line_in(alloc, &matches).ok_or(LineFault::Unread)
 }
 
-/// The status that the program ends with: 0 for a request for help, else 2.
+/// The status that the program ends with: 0 for a request for help or the version, else 2.
 pub fn line_status(fault: &LineFault) -> u8
     ensures { result ≡ status_of fault.now }
 {
     match fault {
         LineFault::Refused(error) => match error.kind() {
-            ErrorKind::DisplayHelp => 0,
+            ErrorKind::DisplayHelp | ErrorKind::DisplayVersion => 0,
             _ => 2,
         },
         LineFault::Unread => 2,

@@ -1,17 +1,19 @@
 -- What an executor is left as by the execution of a batch.
 use Rattle.std.proofs.Common.{◌≡◌, ◌∙◌, ◌+◌, ◌++◌, ℕ, List, [], ◌∷◌, ap, length, refl, subst, sym}
+use Rattle.std.proofs.lemmas.List.Elements.{All-append}
+use Rattle.std.specs.List.{All}
 use Rattle.catalog.specs.CardMap.{Cards}
 use Rattle.requests.specs.declared.request.Batch.{Batch}
 use Rattle.tpcc_model.specs.Serial.{after_batch, batch_rows}
 use Rattle.executor.specs.Executions.{IsRecordOf}
 use Rattle.executor.specs.Laws.{BatchesKeep}
-use Rattle.executor.specs.Lines.{Line, extended, state_of, states_of}
+use Rattle.executor.specs.Lines.{IsKeptState, Line, extended, state_of, states_of}
 use Rattle.executor.specs.States.{AreWithinLimits, IsSoundState}
 use Rattle.executor.specs.declared.engine.Engine.{Engine}
 use Rattle.executor.specs.declared.path.Path.{Path}
 use Rattle.executor.specs.declared.record.Record.{Record}
 use Rattle.executor.specs.declared.stamp.Stamp.{Stamp}
-use Rattle.executor.proofs.LineFacts.{states_of-append}
+use Rattle.executor.proofs.LineFacts.{all-one, states_of-append}
 
 abbrev pub line_of : Engine → List Stamp → Stamp → Line
 line_of engine stamps stamp = record { cards = engine.catalog; earlier = states_of engine.store.points stamps; present = state_of engine.store.rows stamp }
@@ -44,6 +46,15 @@ module _ (old new : Engine) (stamp now : Stamp) (batch : Batch) (how : Path) (r 
       let earlier : states_of new.store.points more ≡ states_of old.store.points stamps ++ state_of old.store.rows stamp ∷ [] =
       (λ i. states_of (left.points i) (kept i)) ∙ states_of-append old.store.points stamps old.store.rows stamp same in
       (λ i. record { cards = left.cards i; earlier = earlier i; present = present_after i })
+
+  -- each of its points has a state within limits, as the present one was
+  pub within_after : (stamps more : List Stamp) → length stamps ≡ length old.store.points → more ≡ stamps ++ stamp ∷ [] → All (IsKeptState old.catalog) (states_of old.store.points stamps) → IsKeptState old.catalog (state_of old.store.rows stamp)
+      → All (IsKeptState new.catalog) (states_of new.store.points more)
+  within_after stamps more same kept each present =
+      let earlier : states_of new.store.points more ≡ states_of old.store.points stamps ++ state_of old.store.rows stamp ∷ [] =
+      (λ i. states_of (left.points i) (kept i)) ∙ states_of-append old.store.points stamps old.store.rows stamp same in
+      subst (λ (cards : Cards). All (IsKeptState cards) (states_of new.store.points more)) (sym left.cards)
+      (subst (All (IsKeptState old.catalog)) (sym earlier) (All-append (IsKeptState old.catalog) (states_of old.store.points stamps) (state_of old.store.rows stamp ∷ []) each (all-one (IsKeptState old.catalog) (state_of old.store.rows stamp) present)))
 
   pub sound_after : BatchesKeep → IsSoundState old.catalog (state_of old.store.rows stamp) → AreWithinLimits batch.moment stamp.next batch.requests → IsSoundState new.catalog (state_of new.store.rows now)
   sound_after keep sound limits =

@@ -5,6 +5,7 @@ use Rattle.std.proofs.lemmas.List.{length-map}
 use Rattle.serializability.specs.Folds.{after, fold_rows}
 use Rattle.serializability.specs.Framed.{AllFit}
 use Rattle.serializability.proofs.Batches.{serial}
+use Rattle.serializability.proofs.InTurn.{same_strays}
 use Rattle.serializability.proofs.LevelNumbers.{levels_rise}
 use Rattle.serializability.proofs.Signatures.{apart_by_bits}
 use Rattle.serializability.proofs.Swaps.{swapped}
@@ -17,6 +18,7 @@ use Rattle.tpcc_model.specs.Machine.{tpcc}
 use Rattle.tpcc_model.specs.Soundness.{IsSound}
 use Rattle.tpcc_model.specs.Touches.{touch}
 use Rattle.transactions.specs.Laws.{Fits, IsFramedMachine}
+use Rattle.executor.specs.InOrder.{StraysAreInTurn}
 use Rattle.executor.specs.LevelRuns.{declared_footprints, meets}
 use Rattle.executor.specs.Laws.{DeclaredLevelsAreSerial, LevelsAreSerial, MeetOnlyAbove, RequestsSwap}
 use Rattle.executor.proofs.Fitting.{all_fit}
@@ -45,6 +47,11 @@ declared_levels_are_serial levels cards state batch sound limits stays =
     let run = levels (record { cards = cards; rows = state.rows }) batch.moment state.next batch.requests (declared_footprints cards state batch) sound limits
     (length-map batch.requests (touch (record { cards = cards; rows = state.rows }))) stays in
     record { replies = run.serial.replies; rows = run.serial.rows_after }
+
+pub strays_are_in_turn : IsFramedMachine → StraysAreInTurn
+strays_are_in_turn framed cards state batch sound limits =
+    same_strays (framed cards batch.moment limits.moment_within) meets (apart_by_bits bit) state.rows state.next batch.requests (declared_footprints cards state batch) sound
+    (all_fit batch.moment state.next batch.requests limits) (length-map batch.requests (touch (record { cards = cards; rows = state.rows })))
 
 pub meet_only_above : MeetOnlyAbove
 meet_only_above fs i j e f k l before at_i at_j is_i is_j low =

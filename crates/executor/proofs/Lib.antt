@@ -15,3 +15,5 @@ pub mod Admissions
 pub mod Running
 pub mod Headlines
 pub mod CleanLeaves
+pub mod SerialLines
+pub mod Returns

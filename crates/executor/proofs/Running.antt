@@ -9,7 +9,7 @@ use Rattle.executor.specs.Paths.{path_of}
 use Rattle.executor.specs.Runs.{AreRecordsOf, alone, line_after}
 use Rattle.executor.specs.declared.record.Record.{Record}
 
-serial-more : (cards : Cards) (state : State) (done : List Batch) (batch : Batch) → serial cards state (done ++ batch ∷ []) ≡ after_batch cards (serial cards state done) batch
+pub serial-more : (cards : Cards) (state : State) (done : List Batch) (batch : Batch) → serial cards state (done ++ batch ∷ []) ≡ after_batch cards (serial cards state done) batch
 serial-more cards state [] batch = refl
 serial-more cards state (first ∷ done) batch = serial-more cards (after_batch cards state first) done batch
 

@@ -1,6 +1,7 @@
 -- Laws of requests that are executed out of their order.
-use Rattle.std.specs.Prelude.{◌≡◌, ◌≢◌, ◌≤◌, ◌<◌, ◌+◌, ℕ, false, List, [], ◌∷◌, length, map, Some, slice_get}
+use Rattle.std.specs.Prelude.{◌≡◌, ◌≢◌, ◌≤◌, ◌<◌, ◌+◌, ℕ, false, List, [], ◌∷◌, length, map, take, Some, slice_get}
 use Rattle.std.specs.FinMap.{find}
+use Rattle.std.specs.List.{All}
 use Rattle.std.specs.Ordering.{nat_cmp}
 use Rattle.serializability.specs.Folds.{after}
 use Rattle.serializability.specs.Footprints.{Footprint, IsApart, IsWithin}
@@ -18,10 +19,11 @@ use Rattle.tpcc_model.specs.Soundness.{IsSound}
 use Rattle.tpcc_model.specs.Steps.{steps_at}
 use Rattle.tpcc_model.specs.Touches.{touch}
 use Rattle.transactions.specs.Laws.{Fits}
+use Rattle.executor.specs.Calls.{Call, LeadOn, kept_after}
 use Rattle.executor.specs.Executions.{IsRecordOf}
 use Rattle.executor.specs.Headline.{Headline, all_serially, completed}
 use Rattle.executor.specs.LevelRuns.{IsCutOf, cut_by, levels_by, meets, replies_in_levels, rows_in_levels, strays}
-use Rattle.executor.specs.Lines.{Line, extended, opening_line}
+use Rattle.executor.specs.Lines.{Line, extended, opening_line, states}
 use Rattle.executor.specs.Paths.{path_of}
 use Rattle.executor.specs.Runs.{IsRunOf}
 use Rattle.executor.specs.States.{AreAllWithin, AreWithinLimits, IsSoundState}
@@ -99,3 +101,14 @@ RunsHaveHeadline = (db : Database) (most : ℕ) (new : Line) (batches : List Bat
     → IsSound db → AreAllWithin db.cards (opening db.cards db.rows) batches
     → IsRunOf most (opening_line db.cards db.rows) new batches end
     → Headline db.cards (opening db.cards db.rows) batches (map completed end.records.items) new.present
+
+-- ---- the line of an executor
+-- each state is the one that one thread leaves after as many of the batches as its number says, the present one after all
+pub record IsSerialLine (db : Database) (batches : List Batch) (line : Line) : Type 0 where
+  pub cards : line.cards ≡ db.cards
+  pub each : All (λ state. state ≡ serial db.cards (opening db.cards db.rows) (take state.sequence batches)) (states line)
+  pub present : line.present ≡ serial db.cards (opening db.cards db.rows) batches
+
+-- whatever calls led to it from the opening line, of the batches that these keep
+abbrev pub LinesAreSerial : Type 0
+LinesAreSerial = (db : Database) (calls : List Call) (line : Line) → LeadOn calls (opening_line db.cards db.rows) line → IsSerialLine db (kept_after calls []) line

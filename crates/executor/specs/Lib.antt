@@ -4,8 +4,10 @@ pub mod States
 pub mod Laws
 pub mod Refusals
 pub mod Lines
+pub mod Calls
 pub mod Filing
 pub mod PlannedLevels
+pub mod InOrder
 pub mod Executions
 pub mod Engines
 pub mod Runs

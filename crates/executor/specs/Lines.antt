@@ -1,6 +1,6 @@
 -- What an executor stands for: the states that it can go back to, and the present one.
-use Rattle.std.specs.Prelude.{◌≡◌, ℕ, ◌≤◌, List, [], ◌∷◌, ◌++◌, drop, length, map, refl}
-use Rattle.std.specs.List.{zip}
+use Rattle.std.specs.Prelude.{◌≡◌, ◌≢◌, ℕ, ◌≤◌, List, [], ◌∷◌, ◌++◌, drop, length, map, refl}
+use Rattle.std.specs.List.{All, zip}
 use Rattle.std.specs.Coded.{Coded, code_by, coded×, coded_list, coded_ℕ}
 use Rattle.catalog.specs.CardMap.{Cards, cards_code}
 use Rattle.requests.specs.declared.request.Batch.{Batch}
@@ -53,10 +53,25 @@ committed line = record { cards = line.cards; earlier = drop 1 line.earlier; pre
 abbrev pub states : Line → List State
 states line = line.earlier ++ line.present ∷ []
 
--- ---- what an executor keeps of itself: each point has its stamp, the present state is sound, and its numbers are within their
--- limits
+-- back at the state of this number: it is the present one, and those after it are gone
+pub record IsReturned (sequence : ℕ) (old new : Line) : Type 0 where
+  pub cards : new.cards ≡ old.cards
+  pub present : new.present.sequence ≡ sequence
+  pub gone : (later : List State) × (states old ≡ states new ++ later)
+
+-- no state has this number
+abbrev pub HasNone : ℕ → Line → Type 0
+HasNone sequence line = All (λ state. state.sequence ≢ sequence) (states line)
+
+-- ---- what an executor keeps of itself
+-- of each state: it is sound, and its numbers are within their limits
+pub record IsKeptState (cards : Cards) (state : State) : Type 0 where
+  pub sound : IsSoundState cards state
+  pub next_within : IsBetween 1 END_OF_NUMBERS state.next
+  pub sequence_within : state.sequence ≤ LAST_NUMBER
+
+-- and each point has its stamp
 pub record IsExecutor (engine : Engine) (stamps : List Stamp) (stamp : Stamp) : Type 0 where
   pub stamped : length stamps ≡ length engine.store.points
-  pub sound : IsSoundState engine.catalog (state_of engine.store.rows stamp)
-  pub next_within : IsBetween 1 END_OF_NUMBERS stamp.next
-  pub sequence_within : stamp.sequence ≤ LAST_NUMBER
+  pub earlier : All (IsKeptState engine.catalog) (states_of engine.store.points stamps)
+  pub present : IsKeptState engine.catalog (state_of engine.store.rows stamp)

@@ -2,13 +2,16 @@
 ghost use Rattle.std.specs.Prelude.{◌≡◌, ◌+◌, ◌<◌, ◌≤◌, ◌++◌, ◌∷◌, [], IfOk, OnErr, OnOk, Some, length, slice_get};
 ghost use Rattle.catalog.specs.CardBytes.{catalog_digest};
 ghost use Rattle.executor.specs.Engines.{IsRecordBy, met_by, path_by_workers, replies_by, rows_by};
+ghost use Rattle.executor.specs.Paths.{path_by};
 ghost use Rattle.executor.specs.States.{IsSoundState};
+ghost use Rattle.requests.specs.declared.request.Verdict.TheVariants as verdict;
 ghost use Rattle.rollback.specs.Pointed.{KeepsCleanLeaves};
 ghost use Rattle.tpcc_model.specs.Roots.{root};
 ghost use Rattle.tpcc_model.specs.Tokens.{replies_digest, token_of};
 
 use crate::crew::Crew;
 use crate::engine::Engine;
+use crate::in_order::Pass;
 use crate::next_batch::{LAST_NUMBER, NextBatch};
 use crate::parallel::execute_parallel;
 use crate::path::Path;
@@ -53,9 +56,16 @@ fn threads_of(workers: &Option<Workers>) -> usize {
     }
 }
 
+/// How a batch was executed whose verdict asks for no rerun.
+fn path_of(strayed: bool) -> Path
+    ensures { result ≡ path_by verdict.Commit strayed }
+{
+    if strayed { Path::Reran } else { Path::Parallel }
+}
+
 impl Engine {
-    /// The replies to a batch on the rows of the newest point, and how it was executed: level by level on N workers, where
-    /// there are any, unless a request strays or the verdict asks for a rerun; else one request after the other.
+    /// The replies to a batch on the rows of the newest point, and how it was executed: by N workers, where there are any,
+    /// unless a request strays or the verdict asks for a rerun; else one request after the other.
     fn replies_of<R: Threads + Sync, G: Gate>(
         &mut self,
         rt: &R,
@@ -80,8 +90,8 @@ impl Engine {
         };
         let crew = Crew { rt, workers, gate };
         let path = match execute_parallel(alloc, &crew, &self.catalog, &mut self.store, next) {
-            Ok(replies) => match next.batch.verdict {
-                Verdict::Commit => return Ok((replies, Path::Parallel)),
+            Ok(Pass { replies, strayed }) => match next.batch.verdict {
+                Verdict::Commit => return Ok((replies, path_of(strayed))),
                 Verdict::Rerun => Path::Verdict,
             },
             Err(ExecError::Strayed) => match next.batch.verdict {

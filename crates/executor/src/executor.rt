@@ -1,8 +1,9 @@
 //! The execution of batches on one database.
-ghost use Rattle.std.specs.Prelude.{◌≡◌, ◌↔◌, ◌≢◌, [], ◌∷◌, Err, IfErr, IfOk, IsErr, OnErr, OnOk, None, Some, map, slice_get};
+ghost use Rattle.std.specs.Prelude.{◌≡◌, ◌↔◌, ◌<◌, ◌==◌, [], ◌∷◌, IfErr, IfOk, IsErr, OnErr, OnOk, None, Some, length, map, slice_get, take};
+ghost use Rattle.std.specs.List.{position};
 ghost use Rattle.executor.specs.Executions.{IsRecordOf, IsRefusedFor, path_in, refusal_for};
 ghost use Rattle.executor.specs.Headline.{Headline, completed};
-ghost use Rattle.executor.specs.Lines.{committed, extended, opening_line, states};
+ghost use Rattle.executor.specs.Lines.{HasNone, IsReturned, committed, extended, opening_line, states};
 ghost use Rattle.executor.specs.Paths.{path_of};
 ghost use Rattle.executor.specs.States.{IsSoundState};
 ghost use Rattle.executor.specs.declared.path.Path.TheVariants as path;
@@ -52,6 +53,13 @@ impl Model for Executor {
     } };
 
     ghost invariant = { λ e. IsExecutor e.engine e.earlier.items e.present };
+}
+
+/// The first of the stamps that has this number.
+fn point_among(stamps: &[Stamp], sequence: u64) -> Option<usize>
+    ensures { result ≡ position (λ stamp. stamp.sequence == sequence) stamps.now }
+{
+    stamps.iter().position(|stamp| stamp.sequence == sequence)
 }
 
 impl Executor {
@@ -245,5 +253,44 @@ impl Executor {
         self.engine.store.drop_oldest().unwrap();
         self.earlier.remove(0);
         Ok(committed)
+    }
+
+    /// The point at which the state of this number is kept.
+    fn point_of(&self, sequence: u64) -> Option<usize>
+        ensures { result ≡ position (λ state. state.sequence == sequence) self.now.earlier }
+    {
+        point_among(self.earlier.as_slice(), sequence)
+    }
+
+    /// The state at the point is the present one from now on. It and the later ones are points no more.
+    fn go_back(&mut self, point: usize)
+        requires { point < length self.old.earlier }
+        ensures cards { self.new.cards ≡ self.old.cards }
+        ensures earlier { self.new.earlier ≡ take point self.old.earlier }
+        ensures present { slice_get self.old.earlier point ≡ Some self.new.present }
+    {
+        self.engine.store.back_to(point).unwrap();
+        self.present = self.earlier[point];
+        self.earlier.truncate(point);
+    }
+
+    /// Goes back to the state after the batch of this number: the last committed one, or one that is uncommitted. The later
+    /// batches are forgotten. It takes no memory.
+    pub fn rollback_to(&mut self, sequence: u64) -> Result<(), Refusal>
+        ensures line { OnOk result (IsReturned sequence self.old self.new) }
+        ensures none { IsErr result ↔ HasNone sequence self.old }
+        ensures refused { IfErr result (λ e. e ≡ refusal.NoSuchPoint) }
+        ensures sound { IsSoundState self.new.cards self.new.present }
+        ensures err { OnErr result (self.new ≡ self.old) }
+    {
+        if sequence == self.present.sequence {
+            return Ok(());
+        }
+        let Some(point) = self.point_of(sequence) else {
+            return Err(Refusal::NoSuchPoint);
+        };
+        self.go_back(point);
+        self.keep_sound();
+        Ok(())
     }
 }

@@ -1,5 +1,6 @@
 //! Laws of requests that are executed out of their order, as contracts of functions that do nothing but call other laws.
-ghost use Rattle.executor.specs.Laws.{BatchesKeep, CutsAreWhole, DeclaredLevelsAreSerial, ExecutionsHaveHeadline, LevelsAreSerial, MeetOnlyAbove, OpeningIsSound, RequestsSwap, RunsHaveHeadline, SerialBatchesHaveHeadline};
+ghost use Rattle.executor.specs.Laws.{BatchesKeep, CutsAreWhole, DeclaredLevelsAreSerial, ExecutionsHaveHeadline, LevelsAreSerial, LinesAreSerial, MeetOnlyAbove, OpeningIsSound, RequestsSwap, RunsHaveHeadline, SerialBatchesHaveHeadline};
+ghost use Rattle.executor.specs.InOrder.{StraysAreInTurn};
 
 use transactions::laws::{framed_machine, keeps};
 
@@ -24,6 +25,14 @@ pub fn declared_levels()
     ensures { DeclaredLevelsAreSerial }
 {
     levels();
+}
+
+/// Some request of a batch touches more than it declared, on the rows as its level begins, exactly where some request does on the
+/// rows that those before it in the batch leave.
+pub fn strays_in_turn()
+    ensures { StraysAreInTurn }
+{
+    framed_machine();
 }
 
 /// Of two requests of a batch that meet, the later one has the greater level.
@@ -55,3 +64,9 @@ pub fn headline()
 {
     sound_states();
 }
+
+/// Whatever batches were executed, committed and gone back from: each state of an executor's line is the one that one thread
+/// leaves after the batches that were kept up to it.
+pub fn line()
+    ensures { LinesAreSerial }
+{}

@@ -7,6 +7,7 @@ mod batch;
 mod crew;
 mod engine;
 mod executor;
+mod in_order;
 pub mod laws;
 mod level;
 mod limits;

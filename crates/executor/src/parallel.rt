@@ -1,10 +1,10 @@
 //! The requests of a batch, executed level by level.
-ghost use Rattle.std.specs.Prelude.{◌≡◌, ◌+◌, ◌<◌, ◌≤◌, All, IfErr, IfOk, OnOk, false, length, map, ℕ};
+ghost use Rattle.std.specs.Prelude.{◌≡◌, ◌+◌, ◌<◌, ◌≤◌, All, IfErr, IfOk, IfSome, OnOk, false, length, map, ℕ};
 ghost use Rattle.std.specs.FinMap.{find};
 ghost use Rattle.std.specs.List.{AllPairs};
 ghost use Rattle.std.specs.Ordering.{nat_cmp};
 ghost use Rattle.executor.specs.Filing.{Awaits, FilesEach, reply_at};
-ghost use Rattle.executor.specs.LevelRuns.{declared_footprints, strays};
+ghost use Rattle.executor.specs.LevelRuns.{cut_by, declared_footprints, strays};
 ghost use Rattle.executor.specs.Lines.{state_of};
 ghost use Rattle.executor.specs.PlannedLevels.{AwaitsOthers, level_replies, level_rows, level_strays, plan_replies, plan_rows, plan_strays};
 ghost use Rattle.executor.specs.States.{IsSoundState};
@@ -13,12 +13,13 @@ ghost use Rattle.tpcc_model.specs.Serial.{batch_replies, batch_rows};
 ghost use Rattle.workers.specs.LevelEnds.{StraysWhere};
 
 use crate::crew::Crew;
-use crate::laws::{cuts, declared_levels};
+use crate::in_order::{Pass, execute_in_order};
+use crate::laws::{cuts, declared_levels, strays_in_turn};
 use crate::level::{Level, Plan};
 use crate::next_batch::NextBatch;
 use catalog::Catalog;
 use gather::{ReplyBook, merge};
-use mixer::mix;
+use mixer::{Cut, mix};
 use profiles::declare;
 use requests::reply::Reply;
 use rollback::PointedStore;
@@ -114,6 +115,33 @@ fn settle_level<R: Threads + Sync, G: Gate>(
     }
 }
 
+/// Threads pay where the levels of a batch have so many requests on average: to start one takes as long as to execute a few.
+const REQUESTS_A_LEVEL: usize = 8;
+
+/// Whether so many requests are cut into levels that are too thin for threads.
+fn is_thin(cut: &Cut, requests: usize) -> bool {
+    cut.depth() > requests / REQUESTS_A_LEVEL
+}
+
+/// The cut of a batch that runs in levels; None where it is executed in its order, since no thread pays and nobody is told.
+fn cut_of<R, G: Gate>(
+    alloc: Global,
+    crew: &Crew<'_, R, G>,
+    plan: &Plan<'_>,
+) -> Result<Option<Cut>, Memory>
+    ensures { IfOk result (λ cut. IfSome cut (λ cut. cut ≡ cut_by plan.now.footprints.now)) }
+{
+    let is_told = crew.gate.is_told();
+    if !is_told && crew.workers.count() == 1 {
+        return Ok(None);
+    }
+    let cut = mix(alloc, plan.footprints)?;
+    if !is_told && is_thin(&cut, plan.footprints.len()) {
+        return Ok(None);
+    }
+    Ok(Some(cut))
+}
+
 /// Runs the levels of a batch, one after the other, until one strays.
 fn run_levels<R: Threads + Sync, G: Gate>(
     alloc: Global,
@@ -121,7 +149,9 @@ fn run_levels<R: Threads + Sync, G: Gate>(
     catalog: &Catalog,
     store: &mut PointedStore,
     plan: &Plan<'_>,
+    cut: &Cut,
 ) -> Result<ReplyBook, ExecError>
+    requires { cut.now ≡ cut_by plan.now.footprints.now }
     ensures within { OnOk result (plan_strays catalog.now store.old.rows plan.now ≡ false) }
     ensures rows { OnOk result (store.new.rows ≡ plan_rows catalog.now store.old.rows plan.now) }
     ensures size { IfOk result (λ book. length book.replies ≡ length plan.now.batch.now.requests) }
@@ -132,7 +162,6 @@ fn run_levels<R: Threads + Sync, G: Gate>(
     ensures clean { KeepsCleanLeaves store.old store.new }
 {
     cuts();
-    let cut = mix(alloc, plan.footprints)?;
     let number = RequestNumber::new(plan.first).unwrap();
     let mut book = ReplyBook::new(alloc, number, plan.batch.requests.len())?;
     for index in 0..cut.depth() {
@@ -147,26 +176,31 @@ fn run_levels<R: Threads + Sync, G: Gate>(
 }
 
 /// Executes the requests of a batch level by level, as they declare on the rows that the batch meets. It ends where one
-/// strays; then, and where memory was refused, the rows are those of no one state.
+/// strays; then, and where memory was refused, the rows are those of no one state. Where no thread pays and nobody is told,
+/// the batch is executed in its order, to its end.
 pub(crate) fn execute_parallel<R: Threads + Sync, G: Gate>(
     alloc: Global,
     crew: &Crew<'_, R, G>,
     catalog: &Catalog,
     store: &mut PointedStore,
     next: &NextBatch<'_>,
-) -> Result<Vec<Reply>, ExecError>
+) -> Result<Pass, ExecError>
     requires sound { IsSoundState catalog.now (state_of store.old.rows next.now.stamp) }
-    ensures within { OnOk result (strays catalog.now (state_of store.old.rows next.now.stamp) next.now.batch.now ≡ false) }
-    ensures replies { IfOk result (λ replies. replies.items ≡ batch_replies catalog.now (state_of store.old.rows next.now.stamp) next.now.batch.now) }
+    ensures strayed { IfOk result (λ pass. pass.strayed ≡ strays catalog.now (state_of store.old.rows next.now.stamp) next.now.batch.now) }
+    ensures replies { IfOk result (λ pass. pass.replies.items ≡ batch_replies catalog.now (state_of store.old.rows next.now.stamp) next.now.batch.now) }
     ensures rows { OnOk result (store.new.rows ≡ batch_rows catalog.now (state_of store.old.rows next.now.stamp) next.now.batch.now) }
     ensures err { IfErr result (StraysWhere (strays catalog.now (state_of store.old.rows next.now.stamp) next.now.batch.now)) }
     ensures points { store.new.points ≡ store.old.points }
     ensures clean { KeepsCleanLeaves store.old store.new }
 {
     if next.batch.requests.is_empty() {
-        return Ok(Vec::new(alloc));
+        return Ok(Pass {
+            replies: Vec::new(alloc),
+            strayed: false,
+        });
     }
     declared_levels();
+    strays_in_turn();
     next.keep_within();
     let footprints = declare_all(alloc, catalog, store, next)?;
     let plan = Plan {
@@ -174,6 +208,12 @@ pub(crate) fn execute_parallel<R: Threads + Sync, G: Gate>(
         first: next.stamp.next,
         footprints: footprints.as_slice(),
     };
-    let book = run_levels(alloc, crew, catalog, store, &plan)?;
-    Ok(book.in_order().unwrap())
+    let Some(cut) = cut_of(alloc, crew, &plan)? else {
+        return Ok(execute_in_order(alloc, catalog, store, &plan)?);
+    };
+    let book = run_levels(alloc, crew, catalog, store, &plan, &cut)?;
+    Ok(Pass {
+        replies: book.in_order().unwrap(),
+        strayed: false,
+    })
 }

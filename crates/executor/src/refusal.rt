@@ -18,8 +18,8 @@ pub enum Refusal {
     /// As many batches are uncommitted as may be.
     #[error("as many batches are uncommitted as may be")]
     PointsFull,
-    /// No batch is uncommitted.
-    #[error("no batch is uncommitted")]
+    /// No batch is uncommitted, or no state has the number that is asked for.
+    #[error("there is no such batch to commit, or no such state to go back to")]
     NoSuchPoint,
     /// The number of the batch or of one of its requests would pass the limit.
     #[error("the numbers of requests or of batches are used up")]

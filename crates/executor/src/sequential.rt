@@ -21,7 +21,7 @@ use worker_rows::Whole;
 use workers::Gate;
 
 /// The outcome of a request on all rows, where nothing strays.
-fn executed(
+pub(crate) fn executed(
     alloc: Global,
     catalog: &Catalog,
     request: &Request,

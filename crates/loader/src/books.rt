@@ -1,12 +1,15 @@
 //! A book for each district, which its rows are entered into one after the other.
-ghost use Rattle.std.specs.Prelude.{◌≡◌, ◌<◌, ◌+◌, ◌*◌, ◌^◌, ◌+ℤ◌, max, min, pos, ℕ, IfNone, IfSome, Some};
+ghost use Rattle.std.specs.Prelude.{◌≡◌, ◌<◌, ◌+◌, ◌*◌, ◌^◌, ◌+ℤ◌, max, min, pos, ℕ, length, IfNone, IfOk, IfSome, Some};
 ghost use Rattle.std.specs.Ordering.{int_eq};
 ghost use Rattle.records.specs.Fields.{IsWithin};
 ghost use Rattle.loader.specs.Books.{AreBooks, AreOfRows, IsEntered, IsEntry, IsOfRows, book_of, book_of_row, both, empty_book, one_of};
 ghost use Rattle.loader.specs.Districts.{are_without_gap, follows_on};
+ghost use Rattle.loader.specs.declared.books.TheConstants.{PLACES};
 
+use std::alloc::Global;
 use tpcc_rows::id::{DistrictId, LineNumber, OrderId, WarehouseId};
 use tpcc_rows::key::RowKey;
+use tpcc_rows::memory::Memory;
 use tpcc_rows::plain::RowStore;
 use tpcc_rows::row::Row;
 
@@ -25,13 +28,20 @@ pub(crate) struct Book {
     lines: i128,
 }
 
+/// The places of the districts of all warehouses.
+pub const PLACES: usize = 1_011;
+
 /// A book for each district, at its place.
-pub(crate) type Books = [Book; 1011];
+#[derive(Drop)]
+pub(crate) struct Books {
+    places: Vec<Book>,
+    ghost whole: { length places.items ≡ PLACES },
+}
 
 /// The place of a district among those of all warehouses.
 fn place(warehouse: WarehouseId, district: DistrictId) -> usize
     ensures value { result ≡ warehouse * 10 + district }
-    ensures range { result < 1011 }
+    ensures range { result < PLACES }
 {
     usize::from(warehouse.number()) * 10 + usize::from(district.number())
 }
@@ -199,26 +209,27 @@ fn entry(key: &RowKey, row: &Row) -> Option<(WarehouseId, DistrictId, Book)>
 
 /// Enters a row into the book of its district.
 fn enter(books: &mut Books, key: &RowKey, row: &Row)
-    requires { AreOfRows (2 ^ 63) books.old }
-    ensures books { IsEntered books.old (key.now, row.now) books.new }
+    requires { AreOfRows (2 ^ 63) books.old.places.items }
+    ensures books { IsEntered books.old.places.items (key.now, row.now) books.new.places.items }
     ensures small { (w d : ℕ) → IsOfRows 1 (book_of_row w d (key.now, row.now)) }
 {
     if let Some((warehouse, district, book)) = entry(key, row) {
         let i = place(warehouse, district);
-        books[i] = books[i].and(book);
+        books.places[i] = books.places[i].and(book);
     }
 }
 
 /// The books of all districts.
-pub(crate) fn books_of(rows: &RowStore) -> Books
-    ensures { AreBooks result rows.now }
+pub(crate) fn books_of(alloc: Global, rows: &RowStore) -> Result<Books, Memory>
+    ensures { IfOk result (λ books. AreBooks books.places.items rows.now) }
 {
-    let mut books = [Book::EMPTY; 1011];
+    let places = vec![in alloc; Book::EMPTY; PLACES]?;
+    let mut books = Books { places };
     let _count = rows.len();
     for (key, row) in rows.iter() {
         enter(&mut books, key, row);
     }
-    books
+    Ok(books)
 }
 
 /// The book of a district.
@@ -228,8 +239,8 @@ pub(crate) fn book_of(
     warehouse: WarehouseId,
     district: DistrictId,
 ) -> Book
-    requires { AreBooks books.now rows.now }
+    requires { AreBooks books.now.places.items rows.now }
     ensures { result ≡ book_of warehouse district rows.now }
 {
-    books[place(warehouse, district)]
+    books.places[place(warehouse, district)]
 }

@@ -8,6 +8,7 @@ ghost use Rattle.tpcc_rows.specs.Rows.{order_row};
 ghost use Rattle.tpcc_rows.specs.declared.key.RowKey.TheVariants as row_key;
 ghost use Rattle.records.specs.Fields.{IsWithin};
 ghost use Rattle.loader.specs.Checks.{AreSums, AreWithin, IsShare, card_has_parents, checked, has_line, parents_there, row_has_parents, sum_at, ytd_agrees, ytds_agree};
+ghost use Rattle.loader.specs.Faults.{IsOfText, StopsBy};
 ghost use Rattle.loader.specs.Tables.{database, has_card, has_row};
 
 use crate::books::books_of;
@@ -15,6 +16,7 @@ use crate::districts::{line_counts_agree, next_orders_agree, spans_agree};
 use crate::fault::LoadError;
 use catalog::Catalog;
 use catalog::card::{Card, CardKey};
+use std::alloc::Global;
 use tpcc_rows::id::{CustomerId, DistrictId, ItemId, LineNumber, OrderId, WarehouseId};
 use tpcc_rows::key::RowKey;
 use tpcc_rows::number::Cents;
@@ -263,9 +265,10 @@ fn ytds_agree(rows: &RowStore) -> bool
 }
 
 /// Whether the tables are sound, whose values are within their limits.
-pub(crate) fn check(catalog: &Catalog, rows: &RowStore) -> Result<(), LoadError>
+pub(crate) fn check(alloc: Global, catalog: &Catalog, rows: &RowStore) -> Result<(), LoadError>
     ensures ok { OnOk result (checked (database catalog.now rows.now) ≡ Ok (database catalog.now rows.now)) }
-    ensures err { IfErr result (λ e. checked (database catalog.now rows.now) ≡ Err e) }
+    ensures err { IfErr result (λ e. StopsBy e (checked (database catalog.now rows.now))) }
+    ensures kinds { IfErr result IsOfText }
 {
     if !parents_there(catalog, rows) {
         return Err(LoadError::MissingParent);
@@ -273,7 +276,7 @@ pub(crate) fn check(catalog: &Catalog, rows: &RowStore) -> Result<(), LoadError>
     if !ytds_agree(rows) {
         return Err(LoadError::Inconsistent(1));
     }
-    let books = books_of(rows);
+    let books = books_of(alloc, rows)?;
     if !next_orders_agree(&books, rows) {
         return Err(LoadError::Inconsistent(2));
     }

@@ -9,7 +9,7 @@ use tpcc_rows::plain::RowStore;
 use tpcc_rows::row::Row;
 
 fn next_order_agrees(books: &Books, rows: &RowStore, key: &RowKey, row: &Row) -> bool
-    requires { AreBooks books.now rows.now }
+    requires { AreBooks books.now.places.items rows.now }
     ensures { result ≡ next_order_agrees rows.now (key.now, row.now) }
 {
     match (key, row) {
@@ -27,7 +27,7 @@ fn next_order_agrees(books: &Books, rows: &RowStore, key: &RowKey, row: &Row) ->
 /// Whether D_NEXT_O_ID - 1 of each district is its greatest O_ID, and its greatest NO_O_ID where it has one.
 #[tactic(auto, unfolding(crate::specs::Districts::next_orders_agree))]
 pub(crate) fn next_orders_agree(books: &Books, rows: &RowStore) -> bool
-    requires { AreBooks books.now rows.now }
+    requires { AreBooks books.now.places.items rows.now }
     ensures { result ≡ next_orders_agree rows.now }
 {
     rows.iter()
@@ -35,7 +35,7 @@ pub(crate) fn next_orders_agree(books: &Books, rows: &RowStore) -> bool
 }
 
 fn span_agrees(books: &Books, rows: &RowStore, key: &RowKey, row: &Row) -> bool
-    requires { AreBooks books.now rows.now }
+    requires { AreBooks books.now.places.items rows.now }
     ensures { result ≡ span_agrees rows.now (key.now, row.now) }
 {
     match (key, row) {
@@ -53,7 +53,7 @@ fn span_agrees(books: &Books, rows: &RowStore, key: &RowKey, row: &Row) -> bool
 /// Whether the numbers of each district's new orders are without a gap.
 #[tactic(auto, unfolding(crate::specs::Districts::spans_agree))]
 pub(crate) fn spans_agree(books: &Books, rows: &RowStore) -> bool
-    requires { AreBooks books.now rows.now }
+    requires { AreBooks books.now.places.items rows.now }
     ensures { result ≡ spans_agree rows.now }
 {
     rows.iter()
@@ -61,7 +61,7 @@ pub(crate) fn spans_agree(books: &Books, rows: &RowStore) -> bool
 }
 
 fn line_count_agrees(books: &Books, rows: &RowStore, key: &RowKey, row: &Row) -> bool
-    requires { AreBooks books.now rows.now }
+    requires { AreBooks books.now.places.items rows.now }
     ensures { result ≡ line_count_agrees rows.now (key.now, row.now) }
 {
     match (key, row) {
@@ -79,7 +79,7 @@ fn line_count_agrees(books: &Books, rows: &RowStore, key: &RowKey, row: &Row) ->
 /// Whether the sum of O_OL_CNT of each district is the number of its order lines.
 #[tactic(auto, unfolding(crate::specs::Districts::line_counts_agree))]
 pub(crate) fn line_counts_agree(books: &Books, rows: &RowStore) -> bool
-    requires { AreBooks books.now rows.now }
+    requires { AreBooks books.now.places.items rows.now }
     ensures { result ≡ line_counts_agree rows.now }
 {
     rows.iter()

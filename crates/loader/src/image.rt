@@ -32,7 +32,7 @@ fn load_text(alloc: Global, text: &[u8]) -> Result<(Catalog, PointedStore), Load
 {
     let tables = read_tables(alloc, text)?;
     let catalog = tables.cards.finish(alloc)?;
-    check(&catalog, &tables.rows)?;
+    check(alloc, &catalog, &tables.rows)?;
     let rows = on_pages(alloc, tables.rows)?;
     Ok((catalog, rows))
 }

@@ -28,7 +28,7 @@ const ROW_BYTES: usize = 536;
 const WAITING_BYTES: usize = 4096;
 
 /// How many bytes there is room for where a leaf is hashed beside three others.
-const LEAF_BYTES: usize = 8192;
+const LEAF_BYTES: usize = 15_000;
 
 /// How many bytes the hash of a node is of.
 pub(crate) const NODE_BYTES: usize = 65;

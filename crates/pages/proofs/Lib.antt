@@ -1,3 +1,4 @@
+pub mod BitSets
 pub mod Indexing
 pub mod Listing
 pub mod Moving

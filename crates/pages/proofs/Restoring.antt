@@ -1,7 +1,7 @@
 -- Saved pages moved back, and rows that change while these are saved.
-use Rattle.std.proofs.Common.{◌≡◌, ◌<◌, ◌≤◌, ℕ, eqb, Bool, true, false, cond, not, ◌||◌, ◌⊎◌, inl, inr, List, [], ◌∷◌, ◌++◌, length, set, get_or, replicate, Option, Some, None, IfSome, IfNone, refl, sym, ap, ◌∙◌, arith}
+use Rattle.std.proofs.Common.{◌≡◌, ◌<◌, ℕ, eqb, Bool, true, false, cond, not, ◌||◌, inl, inr, List, [], ◌∷◌, ◌++◌, length, set, Option, Some, None, IfSome, IfNone, refl, sym, ap, ◌∙◌, arith}
 use Rattle.std.proofs.lemmas.Bool.{cases_Bool, eqb-true, eq-eqb}
-use Rattle.std.proofs.lemmas.List.{get_or-replicate, get_or_past, length-replicate, length-set}
+use Rattle.std.proofs.lemmas.List.{length-set}
 use Rattle.std.specs.FinMap as map
 use Rattle.std.specs.FinMap.{get, entries, find, same_map, get-entries, get-from_entries, get-retain_keys}
 use Rattle.std.specs.List.{list_any}
@@ -22,6 +22,7 @@ use Rattle.pages.specs.declared.kept.Kept.{Kept}
 use Rattle.pages.specs.declared.kept.LeafPage.{LeafPage}
 use Rattle.pages.specs.declared.kept.IndexPage.{IndexPage}
 use Rattle.pages.specs.Paged.{AreOfLeaf, IsByLeaf, IsPaged, page_at, union}
+use Rattle.pages.specs.BitSets.{has_bit}
 use Rattle.pages.specs.Saving.{AreMarks, HasNumbers, HasPages, has_leaf, has_place, is_leaf, is_place, IsLacking, IsLackingAt, IsLackingIndex, IsSavedOf, Numbers, numbers_of, restored, restored_numbers, with_index, with_leaf, with_page}
 use Rattle.pages.proofs.Paging.{or_else, or_none, find-two, get-page_rows, get-union, page-set, other_leaf}
 
@@ -270,15 +271,7 @@ restored-page saved rows n none = same_map row_key_cmp_total exact_keys _ _ (λ 
     ] refl ∙ sym (get-page_rows rows n q))
 
 -- ---- for answers
-pub no-marks : (m n : ℕ) → get_or (replicate m false) n false ≡ false
-no-marks m n =
-    let cases : (n < m) ⊎ (m ≤ n) = grind arith in
-    elim cases [
-      | inl small ↦ get_or-replicate m n false false small
-      | inr large ↦ get_or_past (replicate m false) n false (rw (length-replicate m false) large)
-    ]
-
-pub no-pages : (saved : List Kept) (leaves places : List Bool) → saved ≡ [] → ((n : ℕ) → get_or leaves n false ≡ false) → ((n : ℕ) → get_or places n false ≡ false) → AreMarks saved leaves places
+pub no-pages : (saved : List Kept) (leaves places : List ℕ) → saved ≡ [] → ((n : ℕ) → has_bit leaves n ≡ false) → ((n : ℕ) → has_bit places n ≡ false) → AreMarks saved leaves places
 no-pages saved leaves places none no_leaf no_place = record { leaf_marks = λ n. no_leaf n ∙ sym (ap (λ ks. has_leaf ks n) none); place_marks = λ n. no_place n ∙ sym (ap (λ ks. has_place ks n) none) }
 
 pub no-items : (saved : List Kept) → length saved ≡ 0 → saved ≡ []

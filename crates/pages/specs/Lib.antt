@@ -1,2 +1,3 @@
+pub mod BitSets
 pub mod Paged
 pub mod Saving

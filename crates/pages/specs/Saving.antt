@@ -1,5 +1,5 @@
 -- Saved pages, and the rows and numbers as they are once these are moved back.
-use Rattle.std.specs.Prelude.{◌≡◌, ℕ, Bool, true, false, not, cond, eqb, ◌⊎◌, List, [], ◌∷◌, ◌++◌, get_or, Option, Some, None}
+use Rattle.std.specs.Prelude.{◌≡◌, ℕ, Bool, true, false, not, cond, eqb, ◌⊎◌, List, [], ◌∷◌, ◌++◌, Option, Some, None}
 use Rattle.std.specs.FinMap as map
 use Rattle.std.specs.List.{list_any}
 use Rattle.tpcc_rows.specs.declared.key.RowKey.{RowKey}
@@ -9,6 +9,7 @@ use Rattle.indexes.specs.declared.owner.Owner.{Owner}
 use Rattle.indexes.specs.Indexed.{has_in}
 use Rattle.indexes.specs.Owners.{owner_at, owns}
 use Rattle.indexes.specs.Places.{is_of}
+use Rattle.pages.specs.BitSets.{has_bit}
 use Rattle.pages.specs.declared.kept.LeafPage.{LeafPage}
 use Rattle.pages.specs.declared.kept.IndexPage.{IndexPage}
 use Rattle.pages.specs.declared.kept.Kept.{Kept}
@@ -61,10 +62,10 @@ has_leaf saved n = list_any (λ kept. is_leaf n kept.page) saved
 abbrev pub has_place : List Kept → ℕ → Bool
 has_place saved n = list_any (λ kept. is_place n kept.index) saved
 
--- a mark for each leaf, and for each place of an index page
-pub record AreMarks (saved : List Kept) (leaves places : List Bool) : Type 0 where
-  pub leaf_marks : (n : ℕ) → get_or leaves n false ≡ has_leaf saved n
-  pub place_marks : (n : ℕ) → get_or places n false ≡ has_place saved n
+-- the leaves, and the places of index pages, whose pages are saved: a bit each
+pub record AreMarks (saved : List Kept) (leaves places : List ℕ) : Type 0 where
+  pub leaf_marks : (n : ℕ) → has_bit leaves n ≡ has_leaf saved n
+  pub place_marks : (n : ℕ) → has_bit places n ≡ has_place saved n
 
 -- the index page that has the key's number is saved, where there is one
 abbrev pub HasNumbers : List Kept → RowKey → Type 0

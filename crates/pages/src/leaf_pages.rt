@@ -65,7 +65,7 @@ impl Pages {
     {
         let mut pages = Vec::with_capacity(alloc, LEAVES)?;
         for page in &self.pages {
-            pages.push(page.copied(alloc)?)?;
+            pages.push(page.copied()?)?;
         }
         Ok(Pages { pages })
     }

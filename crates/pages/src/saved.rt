@@ -1,9 +1,12 @@
 //! Pages as they were, to which rows can go back.
-ghost use Rattle.std.specs.Prelude.{◌≡◌, ◌<◌, ◌++◌, ◌∷◌, [], ◌||◌, ℕ, IfSome, OnOk, OnErr, false, get_or, length};
+ghost use Rattle.std.specs.Prelude.{◌≡◌, ◌<◌, ◌*◌, ◌++◌, ◌∷◌, [], ◌||◌, ℕ, IfSome, OnOk, OnErr};
 ghost use Rattle.indexes.specs.declared.place.TheConstants.{PLACES};
 ghost use Rattle.tpcc_rows.specs.declared.codes.TheConstants.{LEAVES};
+ghost use Rattle.pages.specs.BitSets.{has_bit};
 ghost use Rattle.pages.specs.Saving.{AreMarks, has_leaf, has_place, is_leaf, is_place, is_that};
+ghost use Rattle.pages.specs.declared.bits.TheConstants.{WORD_BITS};
 
+use crate::bits::{Bits, WORD_BITS};
 use crate::kept::Kept;
 use indexes::place::PLACES;
 use std::alloc::Global;
@@ -11,14 +14,19 @@ use std::default::MadeWith;
 use tpcc_rows::codes::LEAVES;
 use tpcc_rows::memory::Memory;
 
-/// Copies of pages, each from before its first change.
+/// A bit for each leaf.
+const LEAF_WORDS: usize = LEAVES / WORD_BITS;
+
+/// A bit for each place.
+const PLACE_WORDS: usize = PLACES / WORD_BITS + 1;
+
+/// Copies of pages, each from before its first change, and which pages they are of.
 #[derive(Drop)]
 pub struct Saved {
-    alloc: Global,
     kept: Vec<Kept>,
-    leaves: [bool; LEAVES],
-    places: [bool; PLACES],
-    ghost marked: { AreMarks kept.items leaves places },
+    leaves: Bits<LEAF_WORDS>,
+    places: Bits<PLACE_WORDS>,
+    ghost marked: { AreMarks kept.items leaves.words places.words },
 }
 
 impl Kept {
@@ -40,12 +48,12 @@ impl Kept {
 }
 
 /// The number, where there is one, is marked from now on.
-fn mark(marks: &mut [bool], number: Option<usize>)
-    requires { IfSome number (λ n. n < length marks.old) }
-    ensures { (n : ℕ) → get_or marks.new n false ≡ (is_that n number || get_or marks.old n false) }
+fn mark<const WORDS: usize>(marks: &mut Bits<WORDS>, number: Option<usize>)
+    requires { IfSome number (λ n. n < WORD_BITS * WORDS) }
+    ensures { (n : ℕ) → has_bit marks.new.words n ≡ (is_that n number || has_bit marks.old.words n) }
 {
     if let Some(n) = number {
-        marks[n] = true;
+        marks.add(n);
     }
 }
 
@@ -55,15 +63,10 @@ impl Saved {
         ensures { result.kept.items ≡ [] }
     {
         Saved {
-            alloc,
             kept: Vec::new(alloc),
-            leaves: [false; LEAVES],
-            places: [false; PLACES],
+            leaves: Bits::new(),
+            places: Bits::new(),
         }
-    }
-
-    pub(crate) fn alloc(&self) -> Global {
-        self.alloc
     }
 
     /// Whether the page of the leaf is here.
@@ -71,7 +74,7 @@ impl Saved {
         requires { leaf < LEAVES }
         ensures { result ≡ has_leaf self.now.kept.items leaf }
     {
-        self.leaves[leaf]
+        self.leaves.has(leaf)
     }
 
     /// Whether the index page at the place is here.
@@ -79,7 +82,7 @@ impl Saved {
         requires { place < PLACES }
         ensures { result ≡ has_place self.now.kept.items place }
     {
-        self.places[place]
+        self.places.has(place)
     }
 
     /// These copies too are here from now on.

@@ -81,7 +81,7 @@ fn lacking_page(pages: &Pages, leaf: usize, saved: &Saved) -> Result<Option<Leaf
     if saved.has_leaf(leaf) {
         return Ok(None);
     }
-    let rows = pages.page(leaf).copied(saved.alloc())?;
+    let rows = pages.page(leaf).copied()?;
     Ok(Some(LeafPage { leaf, rows }))
 }
 

@@ -25,7 +25,7 @@ use tpcc_rows::plain;
 use tpcc_rows::row::{CustomerRow, DistrictRow, Row, WarehouseRow};
 
 /// At most so many points are kept.
-pub const POINTS: usize = 1;
+pub const POINTS: usize = 8;
 
 /// Rows, points to which they can go back, and the set of the leaves on which they have changed since it was last taken.
 /// A point is the pages that have changed since it was made and before the next one was, as they were.

@@ -13,6 +13,7 @@ use Rattle.executor.specs.declared.path.Path.{Path}
 use Rattle.executor.specs.declared.record.Record.{Record}
 use Rattle.executor.specs.declared.refusal.Refusal.TheVariants as refusal
 use Rattle.requests.specs.declared.request.Batch.{Batch}
+use Rattle.rollback.specs.declared.pointed.TheConstants.{POINTS}
 use Rattle.runner.specs.Runs.{Completes, NumbersFit}
 use Rattle.runner.specs.Text.{batch_record_text, batch_text, completed_text, replies_text}
 use Rattle.tpcc_model.specs.Serial.{State}
@@ -38,8 +39,8 @@ fit_by state batch e = elim (cases_Bool (nat_lt LAST_NUMBER (state.sequence + 1)
 pub admitted_fits : (most : ℕ) (line : Line) (batch : Batch) → refusal_for most line batch ≡ None → NumbersFit line.present batch
 admitted_fits most line batch e = fit_by line.present batch (second_of (nat_lt MOST_REQUESTS (length batch.requests)) (exhausts line.present batch) (nat_lt (length line.earlier) most) e)
 
-pub completes : (old new : Line) (batch : Batch) → refusal_for 1 old batch ≡ None → new ≡ extended old batch → IsSoundState new.cards new.present → Completes old.cards old.present batch
-completes old new batch admitted line sound = (admitted_fits 1 old batch admitted, subst (λ (l : Line). IsSoundState l.cards l.present) line sound)
+pub completes : (old new : Line) (batch : Batch) → refusal_for POINTS old batch ≡ None → new ≡ extended old batch → IsSoundState new.cards new.present → Completes old.cards old.present batch
+completes old new batch admitted line sound = (admitted_fits POINTS old batch admitted, subst (λ (l : Line). IsSoundState l.cards l.present) line sound)
 
 -- ---- recorded
 pub count_of_replies : (how : Path) (cards : Cards) (state : State) (batch : Batch) (r : Record) → IsRecordOf cards state batch how r → length r.replies.items ≡ length batch.requests

@@ -5,8 +5,8 @@
 use command_line::{Line, LineFault, line_of, line_status};
 use std::alloc::{AllocError, Global};
 
-/// Lines that are taken, that are refused, and that ask for help.
-const LINES: [&str; 57] = [
+/// Lines that are taken, that are refused, and that ask for help or the version.
+const LINES: [&str; 60] = [
     "eve-tpcc run image.csv batches.csv",
     "eve-tpcc run image.csv batches.csv --workers 2",
     "eve-tpcc run image.csv batches.csv --workers=64",
@@ -21,6 +21,9 @@ const LINES: [&str; 57] = [
     "eve-tpcc",
     "eve-tpcc walk",
     "eve-tpcc --version",
+    "eve-tpcc -V",
+    "eve-tpcc --version run a",
+    "eve-tpcc run --version",
     "eve-tpcc run",
     "eve-tpcc run a",
     "eve-tpcc run a b c",
@@ -67,8 +70,9 @@ const LINES: [&str; 57] = [
 ];
 
 /// Lines whose whole text is printed, of a program that was started by another name.
-const TEXTS: [&str; 11] = [
+const TEXTS: [&str; 12] = [
     "out/eve_tpcc --help",
+    "out/eve_tpcc --version",
     "out/eve_tpcc run --help",
     "out/eve_tpcc check --help",
     "out/eve_tpcc make --help",

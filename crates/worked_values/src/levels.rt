@@ -1,7 +1,9 @@
 //! Levels of few requests that workers execute on a made database of two warehouses, the first request with number 7: each
 //! customer has a balance of -1,000 cents, and no district an order.
-ghost use Rattle.std.specs.Prelude.{◌≡◌, All, length};
+ghost use Rattle.std.specs.Prelude.{◌≡◌, ◌<◌, ◌≤◌, All, length};
+ghost use Rattle.std.specs.List.Sorted.{IsStrictlyIncreasing};
 ghost use Rattle.tickets.specs.Seats.{IsNewSeatOf, places_of};
+ghost use Rattle.tickets.specs.declared.size.TheConstants.{MOST_PLACES};
 
 use crate::batches::ORDER_AND_DELIVERY;
 use crate::database::{Database, batch_of};
@@ -25,6 +27,34 @@ const OTHER_PAYMENTS: &str = "P,1,1,1,1,I,1,1000\nP,2,3,2,3,I,1,1000";
 
 const THREE_PAYMENTS: &str = "P,1,1,1,1,I,1,1000\nP,2,3,2,3,I,2,1000\nP,1,2,1,2,I,1,1000";
 
+/// So many that two workers share them.
+const NINE_PAYMENTS: &str = "\
+P,1,1,1,1,I,1,1000
+P,1,2,1,2,I,1,1000
+P,1,3,1,3,I,1,1000
+P,1,4,1,4,I,1,1000
+P,1,5,1,5,I,1,1000
+P,1,6,1,6,I,1,1000
+P,1,7,1,7,I,1,1000
+P,1,8,1,8,I,1,1000
+P,1,9,1,9,I,1,1000
+";
+
+/// The same, but each customer is another one.
+const NINE_OTHERS: &str = "\
+P,1,1,1,1,I,2,1000
+P,1,2,1,2,I,2,1000
+P,1,3,1,3,I,2,1000
+P,1,4,1,4,I,2,1000
+P,1,5,1,5,I,2,1000
+P,1,6,1,6,I,2,1000
+P,1,7,1,7,I,2,1000
+P,1,8,1,8,I,2,1000
+P,1,9,1,9,I,2,1000
+";
+
+const NINE: [usize; 9] = [0, 1, 2, 3, 4, 5, 6, 7, 8];
+
 /// The numbers of workers that levels are run on.
 const WORKERS: [usize; 4] = [1, 2, 8, 64];
 
@@ -46,7 +76,32 @@ fn declared_itself(alloc: Global, database: &Database, text: &str) -> Option<Dec
     declared_as(alloc, database, text, text)
 }
 
-/// All requests of a batch of two or three, in one level.
+/// The requests at some places of a batch.
+fn run_at<R: Threads + Sync, G: Gate>(
+    rt: &R,
+    alloc: Global,
+    database: &Database,
+    declared: &Declared,
+    places: &[usize],
+    workers: Workers,
+    gate: &G,
+) -> Option<LevelEnd>
+    requires some { 1 ≤ length places.now }
+    requires few { length places.now ≤ MOST_PLACES }
+    requires rising { IsStrictlyIncreasing places.now }
+    requires there { All (λ place. place < length declared.now.batch.requests) places.now }
+    requires each { length declared.now.footprints.items ≡ length declared.now.batch.requests }
+    requires short { length declared.now.batch.requests ≤ MOST_PLACES }
+{
+    let Declared { batch, footprints } = declared;
+    let (catalog, store) = (&database.catalog, &database.store);
+    run_level(
+        rt, alloc, catalog, store, batch, 7, places, footprints, workers, gate,
+    )
+    .ok()
+}
+
+/// All requests of a batch of two, three or nine, in one level.
 fn run_all<R: Threads + Sync, G: Gate>(
     rt: &R,
     alloc: Global,
@@ -55,42 +110,19 @@ fn run_all<R: Threads + Sync, G: Gate>(
     workers: Workers,
     gate: &G,
 ) -> Option<LevelEnd> {
-    let Declared { batch, footprints } = declared;
-    let (catalog, store) = (&database.catalog, &database.store);
-    let count = batch.requests.len();
-    if footprints.len() != count {
+    let count = declared.batch.requests.len();
+    if declared.footprints.len() != count {
         return None;
     }
-    let ended = if count == 2 {
-        run_level(
-            rt,
-            alloc,
-            catalog,
-            store,
-            batch,
-            7,
-            &[0, 1],
-            footprints,
-            workers,
-            gate,
-        )
+    if count == 2 {
+        run_at(rt, alloc, database, declared, &[0, 1], workers, gate)
     } else if count == 3 {
-        run_level(
-            rt,
-            alloc,
-            catalog,
-            store,
-            batch,
-            7,
-            &[0, 1, 2],
-            footprints,
-            workers,
-            gate,
-        )
+        run_at(rt, alloc, database, declared, &[0, 1, 2], workers, gate)
+    } else if count == 9 {
+        run_at(rt, alloc, database, declared, &NINE, workers, gate)
     } else {
-        return None;
-    };
-    ended.ok()
+        None
+    }
 }
 
 /// One request of a batch of two.
@@ -102,17 +134,11 @@ fn run_one<R: Threads + Sync, G: Gate>(
     place: usize,
     gate: &G,
 ) -> Option<LevelEnd> {
-    let Declared { batch, footprints } = declared;
-    if batch.requests.len() != 2 || footprints.len() != 2 || 1 < place {
+    if declared.batch.requests.len() != 2 || declared.footprints.len() != 2 || 1 < place {
         return None;
     }
     let workers = Workers::new(64)?;
-    let (catalog, store) = (&database.catalog, &database.store);
-    let places = [place];
-    run_level(
-        rt, alloc, catalog, store, batch, 7, &places, footprints, workers, gate,
-    )
-    .ok()
+    run_at(rt, alloc, database, declared, &[place], workers, gate)
 }
 
 // ---- what is shown
@@ -276,10 +302,11 @@ fn show_any_stray<R: Threads + Sync + Print>(
     rt: &R,
     alloc: Global,
     database: &Database,
-    three: &Declared,
+    declared: &Declared,
 ) -> Option<()> {
     for count in &WORKERS {
-        let end = run_all(rt, alloc, database, three, Workers::new(*count)?, &NoGate)?;
+        let workers = Workers::new(*count)?;
+        let end = run_all(rt, alloc, database, declared, workers, &NoGate)?;
         let strays = matches!(end, LevelEnd::Strayed(0) | LevelEnd::Strayed(1));
         let _ = println!(rt; "one of the first two strays by {count} workers: {strays}");
     }
@@ -346,16 +373,26 @@ fn drawn_by_seats<R: Threads + Sync, G: Gate>(
     sum(&drawn)
 }
 
-/// Two workers, and two seats, are inside two places at once.
-fn show_two_at_once<R: Threads + Sync + Print>(
+/// Two workers are inside two places of nine at once.
+fn show_two_workers<R: Threads + Sync + Print>(
+    rt: &R,
+    alloc: Global,
+    database: &Database,
+) -> Option<()> {
+    let nine = declared_itself(alloc, database, NINE_PAYMENTS)?;
+    let gate = MeetingGate::new();
+    show_all(rt, alloc, database, &nine, 2, &gate)?;
+    let _ = println!(rt; "two workers at once: {}", gate.has_met());
+    Some(())
+}
+
+/// Two seats are inside two places at once.
+fn show_two_seats<R: Threads + Sync + Print>(
     rt: &R,
     alloc: Global,
     database: &Database,
     both: &Declared,
 ) -> Option<()> {
-    let gate = MeetingGate::new();
-    show_all(rt, alloc, database, both, 2, &gate)?;
-    let _ = println!(rt; "two workers at once: {}", gate.has_met());
     let gate = MeetingGate::new();
     let drawn = drawn_by_seats(rt, alloc, database, both, &gate)?;
     let _ = println!(rt;
@@ -390,7 +427,9 @@ fn show_two_strays<R: Threads + Sync + Print>(
     database: &Database,
 ) -> Option<()> {
     let three = declared_as(alloc, database, THREE_PAYMENTS, TWO_STRAY)?;
-    show_any_stray(rt, alloc, database, &three)
+    show_any_stray(rt, alloc, database, &three)?;
+    let nine = declared_as(alloc, database, NINE_PAYMENTS, NINE_OTHERS)?;
+    show_any_stray(rt, alloc, database, &nine)
 }
 
 fn show_both_at_once<R: Threads + Sync + Print>(
@@ -398,8 +437,9 @@ fn show_both_at_once<R: Threads + Sync + Print>(
     alloc: Global,
     database: &Database,
 ) -> Option<()> {
+    show_two_workers(rt, alloc, database)?;
     let both = declared_itself(alloc, database, TWO_PAYMENTS)?;
-    show_two_at_once(rt, alloc, database, &both)
+    show_two_seats(rt, alloc, database, &both)
 }
 
 fn show_levels<R: Threads + Sync + Print>(

@@ -17,7 +17,8 @@ use Rattle.tickets.specs.Entries.{has_stopped}
 use Rattle.tickets.specs.Once.{times}
 use Rattle.tickets.specs.Seats.{HasStoppedQuietly, IsSeatOf, entry_of}
 use Rattle.workers.specs.declared.batch_level.Level.{Level}
-use Rattle.workers.specs.LevelEnds.{IsPlaceDone}
+use Rattle.workers.specs.declared.level.LevelEnd.{LevelEnd}
+use Rattle.workers.specs.LevelEnds.{IsEndOf, IsPlaceDone}
 use Rattle.workers.specs.declared.placed_request.PlaceOutcome.{PlaceOutcome}
 use Rattle.workers.specs.declared.part.Outcome.{Outcome}
 use Rattle.workers.specs.declared.part.Outcome.TheVariants as outcome
@@ -54,6 +55,10 @@ IsOutcomeOf cards rows batch first footprints places drawn = CameOfTicket cards 
 -- and so of a level of a batch
 abbrev pub IsOutcomeIn : Level → Drawn → Type 0
 IsOutcomeIn level = IsOutcomeOf level.catalog.now level.store.now.rows level.batch.now level.first level.footprints.now level.places.now
+
+-- and so that level ends
+abbrev pub IsEndIn : Level → LevelEnd → Type 0
+IsEndIn level = IsEndOf level.catalog.now level.store.now.rows level.batch.now level.first level.footprints.now level.places.now
 
 -- ---- one worker
 -- which ticket it raises: that of a place that strays, which is its last, or none where none strays

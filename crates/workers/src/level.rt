@@ -2,11 +2,12 @@
 ghost use Rattle.std.specs.Prelude.{◌≡◌, ◌+◌, ◌<◌, ◌≤◌, All, IfOk, length, vec_len};
 ghost use Rattle.std.specs.List.Sorted.{IsStrictlyIncreasing};
 ghost use Rattle.tickets.specs.Seats.{IsNewSeatOf, places_of};
-ghost use Rattle.tickets.specs.declared.size.TheConstants.{MOST_PLACES};
+ghost use Rattle.tickets.specs.declared.size.TheConstants.{MOST_PLACES, MOST_WORKERS};
 ghost use Rattle.workers.specs.LevelEnds.{IsEndOf};
-ghost use Rattle.workers.specs.Parts.{AreWorked, IsPartOf};
+ghost use Rattle.workers.specs.Parts.{AreWorked, IsEndIn, IsPartOf};
 ghost use Rattle.workers.specs.declared.batch_level.TheConstants.{END_OF_NUMBERS};
 
+use crate::alone::run_alone;
 use crate::batch_level::Level;
 use crate::filing::{gathered, in_order, stray_among};
 use crate::gate::Gate;
@@ -21,6 +22,9 @@ use std::thread::Threads;
 use tickets::{Desk, Seat, Workers};
 use tpcc_rows::footprint::Footprint;
 use tpcc_rows::memory::Memory;
+
+/// A level has a worker for each so many places, and one for the rest: starting a thread takes as long as a few requests.
+const PLACES_A_WORKER: usize = 8;
 
 /// How the run of a level ended.
 #[derive(Drop)]
@@ -55,11 +59,33 @@ fn run_workers<R: Threads + Sync, G: Gate>(
     gathered(alloc, parts)
 }
 
+/// Runs so many workers, each on a thread of its own, or on the calling thread where no further one can be started. Each draws
+/// one place after the other; once a request strays none draws a further place.
+fn run_together<R: Threads + Sync, G: Gate>(
+    rt: &R,
+    alloc: Global,
+    level: &Level<'_>,
+    count: usize,
+    gate: &G,
+) -> Result<LevelEnd, Memory>
+    requires workers { (0 < count) × (count ≤ MOST_WORKERS) }
+    requires few { length level.now.places.now ≤ MOST_PLACES }
+    ensures { IfOk result (IsEndIn level.now) }
+{
+    let places = level.places;
+    let (desk, seats) = Desk::new(alloc, places.len(), count)?;
+    let (seats, drawn) = run_workers(rt, alloc, level, &desk, seats, gate)?;
+    if let Some(place) = stray_among(places, &drawn) {
+        return Ok(LevelEnd::Strayed(place));
+    }
+    desk.close(seats);
+    Ok(LevelEnd::Done(in_order(alloc, places.len(), drawn)?))
+}
+
 /// Executes the requests at some places of a batch, whose first request has this number, each on the rows of the store
-/// as far as its footprint lends them. The store stays as it is. There are as many workers as places, or fewer where fewer
-/// are allowed; each draws one place after the other, on a thread of its own, or on the calling thread where it is the only
-/// one or no thread can be started. Once a request strays no worker draws a further place. The gate is told of each
-/// execution.
+/// as far as its footprint lends them. The store stays as it is. There is a worker for each eight places, the last one for the
+/// rest, or fewer where fewer are allowed; one alone is the calling thread. Once a request strays no worker draws a further
+/// place. The gate is told of each execution.
 pub fn run_level<R: Threads + Sync, G: Gate>(
     rt: &R,
     alloc: Global,
@@ -81,8 +107,6 @@ pub fn run_level<R: Threads + Sync, G: Gate>(
     requires high { first + length batch.now.requests ≤ END_OF_NUMBERS }
     ensures { IfOk result (IsEndOf catalog.now store.now.rows batch.now first footprints.now places.now) }
 {
-    let count = workers.count().min(places.len());
-    let (desk, seats) = Desk::new(alloc, places.len(), count)?;
     let level = Level {
         catalog,
         store,
@@ -91,10 +115,10 @@ pub fn run_level<R: Threads + Sync, G: Gate>(
         places,
         footprints,
     };
-    let (seats, drawn) = run_workers(rt, alloc, &level, &desk, seats, gate)?;
-    if let Some(place) = stray_among(places, &drawn) {
-        return Ok(LevelEnd::Strayed(place));
+    let count = workers.count().min(places.len().div_ceil(PLACES_A_WORKER));
+    if count <= 1 {
+        run_alone(alloc, &level, gate)
+    } else {
+        run_together(rt, alloc, &level, count, gate)
     }
-    desk.close(seats);
-    Ok(LevelEnd::Done(in_order(alloc, places.len(), drawn)?))
 }

@@ -2,6 +2,7 @@
 //! on several threads.
 #![tactic(auto)]
 
+mod alone;
 mod batch_level;
 mod filing;
 mod gate;

@@ -35,7 +35,7 @@ impl Outcome {
 }
 
 /// Executes the request at a ticket's place.
-fn execute_ticket<G: Gate>(
+pub(crate) fn execute_ticket<G: Gate>(
     alloc: Global,
     level: &Level<'_>,
     ticket: usize,

@@ -17,13 +17,13 @@ pub unwrap-places-requires : goal.unwrap-places-requires
 unwrap-places-requires g c =
     let depth = c.depth-index-end.ensures in
     let before = c.loop-index-test.true in
-    let below : c.loop-index.index < length c.in_ok-cut.cut = omega (arith, depth, before) in
-    lent_at c.level.result (get_or c.in_ok-cut.cut c.loop-index.index (let none : List ℕ = [] in none)) (c.level.ensures ∙ slice_get-get_or c.in_ok-cut.cut c.loop-index.index (let none : List ℕ = [] in none) below)
+    let below : c.loop-index.index < length c.args.cut.now = omega (arith, depth, before) in
+    lent_at c.level.result (get_or c.args.cut.now c.loop-index.index (let none : List ℕ = [] in none)) (c.level.ensures ∙ slice_get-get_or c.args.cut.now c.loop-index.index (let none : List ℕ = [] in none) below)
 
 pub invariant_of-level-clause-short : goal.invariant_of-level-clause-short
 invariant_of-level-clause-short g c =
     let at : slice_get (cut_by c.args.plan.now.footprints.now) c.loop-index.index ≡ Some c.unwrap-places.result.now =
-    ap (λ (cut : List (List ℕ)). slice_get cut c.loop-index.index) (sym c.in_ok-cut.ensures) ∙ sym c.level.ensures ∙ ap option_copied c.unwrap-places.ensures in
+    ap (λ (cut : List (List ℕ)). slice_get cut c.loop-index.index) (sym c.requires) ∙ sym c.level.ensures ∙ ap option_copied c.unwrap-places.ensures in
     let short = (c.cuts.ensures c.args.plan.now.footprints.now).short c.loop-index.index c.unwrap-places.result.now at in
     let few = c.args.plan.now.few in
     let each = c.args.plan.now.each in
@@ -32,20 +32,20 @@ invariant_of-level-clause-short g c =
 pub invariant_of-level-clause-rising : goal.invariant_of-level-clause-rising
 invariant_of-level-clause-rising g c =
     let at : slice_get (cut_by c.args.plan.now.footprints.now) c.loop-index.index ≡ Some c.unwrap-places.result.now =
-    ap (λ (cut : List (List ℕ)). slice_get cut c.loop-index.index) (sym c.in_ok-cut.ensures) ∙ sym c.level.ensures ∙ ap option_copied c.unwrap-places.ensures in
+    ap (λ (cut : List (List ℕ)). slice_get cut c.loop-index.index) (sym c.requires) ∙ sym c.level.ensures ∙ ap option_copied c.unwrap-places.ensures in
     (c.cuts.ensures c.args.plan.now.footprints.now).rising c.loop-index.index c.unwrap-places.result.now at
 
 pub invariant_of-level-clause-there : goal.invariant_of-level-clause-there
 invariant_of-level-clause-there g c =
     let at : slice_get (cut_by c.args.plan.now.footprints.now) c.loop-index.index ≡ Some c.unwrap-places.result.now =
-    ap (λ (cut : List (List ℕ)). slice_get cut c.loop-index.index) (sym c.in_ok-cut.ensures) ∙ sym c.level.ensures ∙ ap option_copied c.unwrap-places.ensures in
+    ap (λ (cut : List (List ℕ)). slice_get cut c.loop-index.index) (sym c.requires) ∙ sym c.level.ensures ∙ ap option_copied c.unwrap-places.ensures in
     each_place (λ place. place < length c.args.plan.now.batch.now.requests) c.unwrap-places.result.now
     (λ place has. subst (λ (n : ℕ). place < n) c.args.plan.now.each ((c.cuts.ensures c.args.plan.now.footprints.now).below c.loop-index.index place c.unwrap-places.result.now at has))
 
 pub settle_level-requires-clause-awaited : goal.settle_level-requires-clause-awaited
 settle_level-requires-clause-awaited g c κs lives =
     let at : slice_get (cut_by c.args.plan.now.footprints.now) c.loop-index.index ≡ Some c.unwrap-places.result.now =
-    ap (λ (cut : List (List ℕ)). slice_get cut c.loop-index.index) (sym c.in_ok-cut.ensures) ∙ sym c.level.ensures ∙ ap option_copied c.unwrap-places.ensures in
+    ap (λ (cut : List (List ℕ)). slice_get cut c.loop-index.index) (sym c.requires) ∙ sym c.level.ensures ∙ ap option_copied c.unwrap-places.ensures in
     each_place (Awaits c.loop-index.book) c.unwrap-places.result.now
     (λ place has. c.loop-index.invariant.awaited c.loop-index.index place c.unwrap-places.result.now (omega arith) at has)
 
@@ -57,7 +57,7 @@ returns-in_err-settle_level-clause-err g c =
     let all = jobs c.args.plan.now.first c.args.plan.now.batch.now.requests c.args.plan.now.footprints.now in
     let rows = c.loop-index.store.rows in
     let at : slice_get cut c.loop-index.index ≡ Some places =
-    ap (λ (levels : List (List ℕ)). slice_get levels c.loop-index.index) (sym c.in_ok-cut.ensures) ∙ sym c.level.ensures ∙ ap option_copied c.unwrap-places.ensures in
+    ap (λ (levels : List (List ℕ)). slice_get levels c.loop-index.index) (sym c.requires) ∙ sym c.level.ensures ∙ ap option_copied c.unwrap-places.ensures in
     stray_up (list_any (job_strays machine rows) (jobs_at all places)) _ c.in_err-settle_level.field-0.0 c.from_residual-in_err-settle_level.result
     (λ strayed. sym c.loop-index.invariant.within ∙ strays_here machine rows all cut c.loop-index.index places at strayed)
     c.in_err-settle_level.ensures.err c.from_residual-in_err-settle_level.ensures.1
@@ -73,7 +73,7 @@ loop-index-preserved g c =
     let rows = c.loop-index.store.rows in
     let left = c.settle_level.new.store.rows in
     let at : slice_get cut i ≡ Some places =
-    ap (λ (levels : List (List ℕ)). slice_get levels i) (sym c.in_ok-cut.ensures) ∙ sym c.level.ensures ∙ ap option_copied c.unwrap-places.ensures in
+    ap (λ (levels : List (List ℕ)). slice_get levels i) (sym c.requires) ∙ sym c.level.ensures ∙ ap option_copied c.unwrap-places.ensures in
     let after = c.in_ok-settle_level.ensures.rows in
     record {
       within = strays_on machine rows all cut i places at left after c.in_ok-settle_level.ensures.within ∙ c.loop-index.invariant.within;

@@ -1,4 +1,5 @@
-use Rattle.std.proofs.Common.{◌∙◌, refl, ap, arith, length}
+use Rattle.std.proofs.Common.{◌≡◌, ◌∙◌, ap, arith, length, replicate, rules}
+use Rattle.loader.specs.Books.{empty_book}
 use Rattle.tpcc_rows.specs.declared.key.RowKey.{RowKey}
 use Rattle.tpcc_rows.specs.declared.row.Row.{Row}
 use Rattle.loader.proofs.BookLemmas.{all_entered, empty_small, none_entered, one_entered, small_enough, still_small}
@@ -7,7 +8,8 @@ use Rattle.loader.proofs.books.books_of.Goals as goal
 pub loop-key-init : goal.loop-key-init
 loop-key-init c =
     let all = c.into_iter-key-iterator.ensures.into_iter_gives ∙ c.iter-key-items.ensures in
-    (rw all (rw c.len-count.ensures.value at c.len-count.ensures.small), empty_small _ _ refl, none_entered _ _ _ refl all)
+    let empty : c.in_ok-places.places.items ≡ replicate 1011 empty_book = search rules in
+    (rw all (rw c.len-count.ensures.value at c.len-count.ensures.small), empty_small _ _ empty, none_entered _ _ _ empty all)
 
 pub enter-requires : goal.enter-requires
 enter-requires c = let (few, small, so_far) = c.loop-key.invariant in small_enough _ _ _ (omega arith) small

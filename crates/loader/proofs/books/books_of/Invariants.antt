@@ -6,5 +6,5 @@ use Rattle.loader.proofs.books.books_of.Given as goal
 -- the room of a sum is for the rows that are left
 abbrev pub invariant-loop-key : goal.invariant-loop-key
 invariant-loop-key l = (length l.key-iterator < 2 ^ 63)
-    × AreOfRows (2 ^ 63 - length l.key-iterator) l.books
-    × AreBooksBefore l.key-iterator l.books l.rows
+    × AreOfRows (2 ^ 63 - length l.key-iterator) l.books.places.items
+    × AreBooksBefore l.key-iterator l.books.places.items l.rows

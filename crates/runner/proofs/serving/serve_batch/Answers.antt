@@ -3,6 +3,7 @@ use Rattle.std.specs.Io.KnownBytes.{Appends}
 use Rattle.records.specs.Io.{AppendsFront}
 use Rattle.runner.specs.Runs.{NumbersFit}
 use Rattle.runner.specs.Text.{batch_text}
+use Rattle.rollback.specs.declared.pointed.TheConstants.{POINTS}
 use Rattle.runner.proofs.ExecutedBatches.{admitted_fits, completes, count_of_replies, recorded_text}
 use Rattle.runner.proofs.serving.serve_batch.Goals as goal
 
@@ -11,7 +12,7 @@ batch_text-requires-clause-high g c =
     let line = c.args.executor.now in
     let batch = c.args.batch.now in
     let count = count_of_replies _ line.cards line.present batch c.in-Ok.record c.in-Ok.ensures.record in
-    let fits : NumbersFit line.present batch = admitted_fits 1 line batch c.in-Ok.ensures.admitted in
+    let fits : NumbersFit line.present batch = admitted_fits POINTS line batch c.in-Ok.ensures.admitted in
     let first = c.in-Ok.ensures.record.first in
     omega (arith, count, fits.1, first)
 

@@ -4,7 +4,7 @@ use Rattle.executor.specs.Executions.{refusal_for}
 use Rattle.executor.specs.Lines.{Line, extended}
 use Rattle.executor.specs.declared.stamp.Stamp.{Stamp}
 use Rattle.executor.proofs.Admissions.{numbers_for, place_for}
-use Rattle.executor.proofs.Executing.{left_by, line_after, sound_after}
+use Rattle.executor.proofs.Executing.{left_by, line_after, sound_after, within_after}
 use Rattle.executor.proofs.LineFacts.{length-states_of, stamped_more}
 use Rattle.executor.proofs.executor.Executor.execute_by.Goals as goal
 
@@ -34,14 +34,17 @@ invariant_of-self-2 g c =
     let (last, end) = numbers_for POINTS c.args.self.now batch none in
     let next_there = ap (λ (l : Line). l.present.next) c.self.view_is in
     let sequence_there = ap (λ (l : Line). l.present.sequence) c.self.view_is in
-    let low = c.self.invariant.next_within.0 in
+    let low = c.self.invariant.present.next_within.0 in
     let sequence = left.told.sequence in
     let count = c.len.ensures in
     record {
       stamped = stamped_more old.store.points c.execute.new.self.store.points c.self.inside.earlier.items c.push.new.self.items old.store.rows stamp left.points c.push.ensures.items c.self.invariant.stamped;
-      sound = sound_after old c.execute.new.self stamp now batch _ c.in_ok-record.record left c.sound_states.ensures.after c.self.invariant.sound c.keep_within.ensures;
-      next_within = (omega (arith, low, count), omega (arith, end, next_there, count));
-      sequence_within = omega (arith, sequence, last, sequence_there);
+      earlier = within_after old c.execute.new.self stamp now batch _ c.in_ok-record.record left c.self.inside.earlier.items c.push.new.self.items c.self.invariant.stamped c.push.ensures.items c.self.invariant.earlier c.self.invariant.present;
+      present = record {
+        sound = sound_after old c.execute.new.self stamp now batch _ c.in_ok-record.record left c.sound_states.ensures.after c.self.invariant.present.sound c.keep_within.ensures;
+        next_within = (omega (arith, low, count), omega (arith, end, next_there, count));
+        sequence_within = omega (arith, sequence, last, sequence_there);
+      };
     }
 
 pub returns-clause-line : goal.returns-clause-line
@@ -61,4 +64,4 @@ returns-clause-sound g c =
     let batch = c.args.batch.now in
     let now : Stamp = record { next = stamp.next + c.len.result; sequence = c.in_ok-record.record.sequence; token = c.in_ok-record.record.token } in
     let left = left_by old c.execute.new.self stamp batch _ c.in_ok-record.record c.len.result c.in_ok-record.ensures.record c.in_ok-record.ensures.rows c.in_ok-record.ensures.points c.execute.ensures.cards c.len.ensures in
-    sound_after old c.execute.new.self stamp now batch _ c.in_ok-record.record left c.sound_states.ensures.after c.self.invariant.sound c.keep_within.ensures
+    sound_after old c.execute.new.self stamp now batch _ c.in_ok-record.record left c.sound_states.ensures.after c.self.invariant.present.sound c.keep_within.ensures

@@ -1,8 +1,9 @@
 use Rattle.std.proofs.Common.{◌≡◌, ◌∙◌, List, ap, ap₂, length, subst, sym, arith}
 use Rattle.tpcc_model.specs.Serial.{State, opening}
-use Rattle.executor.specs.Lines.{Line, state_of, states_of}
+use Rattle.executor.specs.Lines.{IsKeptState, Line, state_of, states_of}
 use Rattle.executor.specs.States.{IsSoundState}
 use Rattle.executor.specs.declared.stamp.Stamp.{Stamp}
+use Rattle.executor.proofs.LineFacts.{all-none}
 use Rattle.executor.proofs.Openings.{opening_stamp}
 use Rattle.executor.proofs.executor.Executor.new.Goals as goal
 
@@ -14,9 +15,12 @@ invariant_of-result-2 g c =
     opening_stamp c.args.catalog rows stamp c.digest-digest.result c.root.result c.reply_digest.result c.next_number-next.ensures.value c.digest-digest.ensures (c.root.ensures rows c.in_ok-tree.ensures) c.reply_digest.ensures c.token.ensures in
     record {
       stamped = ap length c.new.ensures ∙ sym (ap length c.requires.points);
-      sound = subst (IsSoundState c.args.catalog) (sym state) (c.sound_states.ensures.opening (record { cards = c.args.catalog; rows = rows }) c.requires.sound);
-      next_within = c.next_number-next.ensures.range;
-      sequence_within = omega arith;
+      earlier = all-none (IsKeptState c.args.catalog) c.args.store.points c.new.result.items c.requires.points;
+      present = record {
+        sound = subst (IsSoundState c.args.catalog) (sym state) (c.sound_states.ensures.opening (record { cards = c.args.catalog; rows = rows }) c.requires.sound);
+        next_within = c.next_number-next.ensures.range;
+        sequence_within = omega arith;
+      };
     }
 
 pub returns-clause-line : goal.returns-clause-line

@@ -8,3 +8,9 @@ returns-then-len-ge-POINTS c =
     let count : length c.args.self.now.earlier ≡ length c.self.inside.earlier.items =
     sym (ap (λ (l : Line). length l.earlier) c.self.view_is) ∙ length-states_of c.self.inside.engine.store.points c.self.inside.earlier.items c.self.invariant.stamped in
     search (rules, count)
+
+pub returns-else-len-ge-POINTS : goal.returns-else-len-ge-POINTS
+returns-else-len-ge-POINTS c =
+    let count : length c.args.self.now.earlier ≡ length c.self.inside.earlier.items =
+    sym (ap (λ (l : Line). length l.earlier) c.self.view_is) ∙ length-states_of c.self.inside.engine.store.points c.self.inside.earlier.items c.self.invariant.stamped in
+    search (rules, count)

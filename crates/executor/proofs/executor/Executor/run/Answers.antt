@@ -1,6 +1,7 @@
 use Rattle.std.proofs.Common.{rules, ◌≡◌, ◌∙◌, ◌+◌, ◌∷◌, ℕ, List, ap, drop, get_or, inr, length, subst, sym, take, arith}
 use Rattle.std.proofs.lemmas.List.{drop_more, length_push}
 use Rattle.requests.specs.declared.request.Batch.{Batch}
+use Rattle.rollback.specs.declared.pointed.TheConstants.{POINTS}
 use Rattle.executor.specs.Executions.{IsRefusedFor, refusal_for}
 use Rattle.executor.specs.Lines.{Line, extended}
 use Rattle.executor.specs.Runs.{AreRecordsOf, alone, line_after}
@@ -23,7 +24,7 @@ returns-in-Err-clause-run g c =
         batch,
         drop (i + 1) batches,
         ap (λ (n : ℕ). drop n batches) counted ∙ drop_more batches i batch c.loop-batch-test.true ∙ ap (λ (b : Batch). b ∷ drop (i + 1) batches) (sym c.batch-item.is),
-        subst (λ (l : Line). IsRefusedFor (refusal_for 1 l batch) c.in-Err.refusal) (sym c.in-Err.ensures.err) c.in-Err.ensures.refused,
+        subst (λ (l : Line). IsRefusedFor (refusal_for POINTS l batch) c.in-Err.refusal) (sym c.in-Err.ensures.err) c.in-Err.ensures.refused,
       );
     }
 

@@ -1,9 +1,16 @@
 use Rattle.std.proofs.Common.{◌≡◌, ◌<◌, ◌≤◌, ◌+◌, [], ◌∷◌, ◌++◌, length, length-append, slice_get, take, sym, ap, subst, ◌∙◌, arith}
 use Rattle.std.specs.Option.{option_to_list}
 use Rattle.tpcc_rows.specs.RowMap.{Rows}
-use Rattle.rollback.specs.Pointed.{Pointed, points_of}
-use Rattle.rollback.proofs.Pointing.{IsBack, KeepsClean, back-points, back-pop, back-rows, clean-back}
+use Rattle.rollback.specs.Pointed.{AreSaved, Pointed, points_of}
+use Rattle.rollback.proofs.Pointing.{IsBack, KeepsClean, back-points, back-pop, back-rows, clean-back, saved-last}
 use Rattle.rollback.proofs.pointed.PointedStore.go_back.Goals as goal
+
+pub restore-requires : goal.restore-requires
+restore-requires c =
+    let store = c.loop-self.self-inside.store in
+    let left = c.pop.new.self.items in
+    let popped : c.loop-self.self-inside.points.items ≡ left ++ c.in-Some.saved ∷ [] = c.pop.ensures.items ∙ ap (λ o. left ++ option_to_list o) c.in-Some.is in
+    saved-last left c.in-Some.saved store (subst (λ ss. AreSaved ss store) popped c.loop-self.invariant.back.saved)
 
 pub loop-self-preserved-in-Some : goal.loop-self-preserved-in-Some
 loop-self-preserved-in-Some c =

@@ -1,13 +1,14 @@
 use Rattle.std.proofs.Common.{◌≡◌, ◌<◌, [], ◌∷◌, ◌++◌, length, sym, ap, subst, ◌∙◌, arith}
 use Rattle.tpcc_rows.specs.RowMap.{Rows}
 use Rattle.rollback.specs.Pointed.{AreSaved, Pointed, points_of}
+use Rattle.rollback.specs.declared.pointed.TheConstants.{POINTS}
 use Rattle.rollback.proofs.Pointing.{length-points, nothing-restored, nothing-saved, points-push, saved-push}
 use Rattle.rollback.proofs.pointed.PointedStore.push_point.Goals as goal
 
 pub push-requires : goal.push-requires
 push-requires c =
     let same : length c.self.inside.points.items ≡ length c.args.self.now.points = sym (length-points c.self.inside.points.items c.self.inside.store) ∙ ap (λ (p : Pointed). length p.points) c.self.view_is in
-    let few : length c.self.inside.points.items < 1 = omega arith in
+    let few : length c.self.inside.points.items < POINTS = omega arith in
     (omega arith, few)
 
 pub invariant_of-self : goal.invariant_of-self
