@@ -7,6 +7,7 @@ mod cards;
 mod columns;
 mod database;
 mod desks;
+mod eight_points;
 mod executions;
 mod footprints;
 mod gates;
@@ -32,6 +33,7 @@ fn main(rt: HostRuntime) -> ExitCode {
         cards::show(&rt, rt.alloc()),
         stores::show(&rt, rt.alloc()),
         points::show(&rt, rt.alloc()),
+        eight_points::show(&rt, rt.alloc()),
         views::show(&rt, rt.alloc()),
         granules::show(&rt, rt.alloc()),
         replies::show(&rt, rt.alloc()),

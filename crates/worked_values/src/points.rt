@@ -18,20 +18,20 @@ const BOTH: [Change; 2] = [
 ];
 
 /// Another sum for the warehouse, and no row for the district.
-const OTHER: [Change; 2] = [
+pub const OTHER: [Change; 2] = [
     Change::Put(Columns::Warehouse(1, 700)),
     Change::Remove(Columns::District((1, 1), 0, 1)),
 ];
 
 /// A store with both rows, and no points.
-fn both_rows(alloc: Global) -> Option<PointedStore> {
+pub fn both_rows(alloc: Global) -> Option<PointedStore> {
     let mut store = store_of(alloc, &[])?;
     apply(alloc, &mut store, &BOTH)?;
     Some(store)
 }
 
 /// The points, the warehouse's sum, and whether the district has a row.
-fn show_rows(rt: &impl Print, what: &str, store: &PointedStore) -> Option<()> {
+pub fn show_rows(rt: &impl Print, what: &str, store: &PointedStore) -> Option<()> {
     let warehouse = WarehouseId::new(1)?;
     let sum = ytd_of(store.warehouse(warehouse));
     let district = store.district(warehouse, DistrictId::new(1)?).is_some();
@@ -43,7 +43,7 @@ fn show_rows(rt: &impl Print, what: &str, store: &PointedStore) -> Option<()> {
 }
 
 /// Whether the warehouse's leaf and the district's have changed.
-fn show_dirty(rt: &impl Print, what: &str, store: &mut PointedStore) {
+pub fn show_dirty(rt: &impl Print, what: &str, store: &mut PointedStore) {
     let dirty = store.take_dirty();
     let _ = println!(rt;
         "changed leaves {what}: {} {}",
@@ -116,9 +116,8 @@ enum Step {
     Dirty(&'static str),
 }
 
-/// No points; then one, rewound to and gone back to; then one where a second is refused. Where it is dropped, the changed
-/// rows are what a next point goes back to, however often they change after it.
-const STEPS: [Step; 36] = [
+/// No points, and then one, rewound to and gone back to.
+const ONE_POINT: [Step; 21] = [
     Step::Show("drop the oldest of no points", Call::DropOldest),
     Step::Show("rewind to none of no points", Call::Rewind(0)),
     Step::Rows("at first"),
@@ -140,12 +139,20 @@ const STEPS: [Step; 36] = [
     Step::Rows("back"),
     Step::Dirty("after going back"),
     Step::Show("back once more", Call::BackTo(0)),
+];
+
+/// Two points. Where the older one is dropped, the other one is gone back to; and the rows of a next point too, however often
+/// they change after it.
+const TWO_POINTS: [Step; 18] = [
     Step::Call(Call::Mark),
     Step::Change,
     Step::Show("a second mark", Call::Mark),
-    Step::Rows("marked once"),
-    Step::Show("drop the oldest point", Call::DropOldest),
+    Step::Rows("marked twice"),
+    Step::Show("drop the older point", Call::DropOldest),
     Step::Rows("dropped"),
+    Step::Undo,
+    Step::Call(Call::BackTo(0)),
+    Step::Rows("back to the later point"),
     Step::Call(Call::Mark),
     Step::Call(Call::BackTo(0)),
     Step::Rows("marked and back"),
@@ -176,7 +183,7 @@ fn show_call(rt: &impl Print, store: &mut PointedStore, what: &str, call: Call) 
 }
 
 /// Goes back to a point that isn't there, and rewinds to it.
-fn show_no_point(rt: &impl Print, store: &mut PointedStore, point: usize) {
+pub fn show_no_point(rt: &impl Print, store: &mut PointedStore, point: usize) {
     let (back, rewound) = (store.back_to(point), store.rewind(point));
     let _ = println!(rt; "to a point that isn't there: {back:?} {rewound:?}");
 }
@@ -197,8 +204,13 @@ fn follow(rt: &impl Print, alloc: Global, store: &mut PointedStore, step: Step) 
     Some(())
 }
 
-fn follow_all(rt: &impl Print, alloc: Global, store: &mut PointedStore) -> Option<()> {
-    for step in &STEPS {
+fn follow_all(
+    rt: &impl Print,
+    alloc: Global,
+    store: &mut PointedStore,
+    steps: &[Step],
+) -> Option<()> {
+    for step in steps {
         follow(rt, alloc, store, *step)?;
     }
     Some(())
@@ -240,6 +252,7 @@ fn show_indexes(rt: &impl Print, alloc: Global, store: &mut PointedStore) -> Opt
 
 pub fn show(rt: &impl Print, alloc: Global) -> Option<()> {
     show_first(rt, alloc, &mut both_rows(alloc)?)?;
-    follow_all(rt, alloc, &mut both_rows(alloc)?)?;
+    follow_all(rt, alloc, &mut both_rows(alloc)?, &ONE_POINT)?;
+    follow_all(rt, alloc, &mut both_rows(alloc)?, &TWO_POINTS)?;
     show_indexes(rt, alloc, &mut both_rows(alloc)?)
 }
