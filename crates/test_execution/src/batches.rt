@@ -1,4 +1,4 @@
-//! Batches, and the made database that they are executed on: one warehouse, two customers in each district, and 50 items.
+//! Batches, and the made databases that they are executed on: one warehouse, with few customers in each district or with many.
 use executor::Executor;
 use loader::make;
 use requests::BatchReader;
@@ -30,9 +30,15 @@ N,1,9,1,41,1,1,42,1,1,43,1,1,44,1,1,45,1,1
 N,1,10,1,46,1,1,47,1,1,48,1,1,49,1,1,50,1,1
 ";
 
-/// The made database before any batch.
+/// A made database with two customers in each district and 50 items, before any batch.
 pub fn opened<R: Threads + Sync>(rt: &R, alloc: Global) -> Option<Executor> {
     let (catalog, store) = make(alloc, 1, 2, 50).ok()?;
+    Executor::new(rt, alloc, catalog, store).ok()
+}
+
+/// A made database with 45 customers in each district and 100 items, before any batch.
+pub fn opened_full<R: Threads + Sync>(rt: &R, alloc: Global) -> Option<Executor> {
+    let (catalog, store) = make(alloc, 1, 45, 100).ok()?;
     Executor::new(rt, alloc, catalog, store).ok()
 }
 

@@ -11,7 +11,7 @@ use workers::{Gate, Workers};
 /// Counts the entries and the leaves, and the calls that are out of turn: a second entry of a place that wasn't left, and a
 /// leave of a place that wasn't entered.
 #[derive(Drop)]
-struct CountingGate {
+pub struct CountingGate {
     entries: AtomicU64,
     leaves: AtomicU64,
     out_of_turn: AtomicU64,
@@ -47,7 +47,7 @@ impl Gate for CountingGate {
 }
 
 impl CountingGate {
-    fn new() -> CountingGate {
+    pub fn new() -> CountingGate {
         CountingGate {
             entries: AtomicU64::new(0),
             leaves: AtomicU64::new(0),
@@ -57,7 +57,7 @@ impl CountingGate {
     }
 
     /// How many entries, leaves and calls out of turn there were.
-    fn counts(&self) -> (u64, u64, u64) {
+    pub fn counts(&self) -> (u64, u64, u64) {
         let value = |count: &AtomicU64| count.load(Ordering::SeqCst);
         (
             value(&self.entries),

@@ -1,40 +1,31 @@
 //! Which refusal comes first.
 use crate::batches::{NO_REQUESTS, ORDER, batch_of, deliveries, opened};
+use crate::calls::{IN_FLIGHT, are_committed, executed, is_refused};
 use executor::{Executor, Refusal};
 use loader::{load, make, store_image};
 use requests::BytesSource;
 use requests::request::Batch;
 use std::alloc::Global;
 use std::thread::Threads;
-use workers::{NoGate, Workers};
 
-/// Whether the batch is refused for this, on workers and without them.
-fn is_refused<R: Threads + Sync>(
+/// The number after the last that a request can have.
+const PAST_NUMBERS: u64 = 1_000_000_000_000_000;
+
+/// Whether as many batches as may be uncommitted are executed, each with one request and the number of it.
+fn are_executed<R: Threads + Sync>(
     rt: &R,
     alloc: Global,
     executor: &mut Executor,
     batch: &Batch,
-    refusal: Refusal,
 ) -> Option<bool> {
-    let workers = Workers::new(2)?;
-    let on_workers = executor.execute(rt, alloc, batch, workers, &NoGate).err()?;
-    let alone = executor.execute_sequential(rt, alloc, batch).err()?;
-    Some(on_workers == refusal && alone == refusal)
+    let mut all = true;
+    for number in 1..=IN_FLIGHT {
+        all = executed(rt, alloc, executor, batch)? == (number, number) && all;
+    }
+    Some(all)
 }
 
-/// The numbers of the batch and of its first request, where it is executed.
-fn executed<R: Threads + Sync>(
-    rt: &R,
-    alloc: Global,
-    executor: &mut Executor,
-    batch: &Batch,
-) -> Option<(u64, u64)> {
-    let workers = Workers::new(2)?;
-    let record = executor.execute(rt, alloc, batch, workers, &NoGate).ok()?;
-    Some((record.sequence, record.first))
-}
-
-/// One batch may be uncommitted.
+/// Where eight batches are uncommitted, there is a place for one more where one is committed.
 fn counts_points<R: Threads + Sync>(
     rt: &R,
     alloc: Global,
@@ -45,17 +36,19 @@ fn counts_points<R: Threads + Sync>(
     Some(
         executor.commit() == Err(Refusal::NoSuchPoint)
             && is_refused(rt, alloc, executor, &long, Refusal::BatchTooLong)?
-            && executed(rt, alloc, executor, &order)? == (1, 1)
+            && are_executed(rt, alloc, executor, &order)?
             && is_refused(rt, alloc, executor, &order, Refusal::PointsFull)?
             && is_refused(rt, alloc, executor, &long, Refusal::BatchTooLong)?
             && executor.commit() == Ok(1)
-            && executor.commit() == Err(Refusal::NoSuchPoint)
-            && executed(rt, alloc, executor, &order)? == (2, 2)
-            && executor.commit() == Ok(2),
+            && executed(rt, alloc, executor, &order)? == (9, 9)
+            && is_refused(rt, alloc, executor, &order, Refusal::PointsFull)?
+            && are_committed(executor, 2, 9)
+            && executed(rt, alloc, executor, &order)? == (10, 10)
+            && are_committed(executor, 10, 10),
     )
 }
 
-pub fn one_batch_is_uncommitted<R: Threads + Sync>(rt: &R, alloc: Global) -> Option<bool> {
+pub fn eight_batches_are_uncommitted<R: Threads + Sync>(rt: &R, alloc: Global) -> Option<bool> {
     let mut executor = opened(rt, alloc)?;
     counts_points(rt, alloc, &mut executor)
 }
@@ -84,6 +77,20 @@ fn opened_with_payment<R: Threads + Sync>(rt: &R, alloc: Global) -> Option<Execu
     Executor::new(rt, alloc, catalog, store).ok()
 }
 
+/// Whether batches without a request are executed until eight are uncommitted, the first of which is the second of all.
+fn fills_points<R: Threads + Sync>(
+    rt: &R,
+    alloc: Global,
+    executor: &mut Executor,
+    none: &Batch,
+) -> Option<bool> {
+    let mut all = true;
+    for sequence in 2..=IN_FLIGHT {
+        all = executed(rt, alloc, executor, none)? == (sequence, PAST_NUMBERS) && all;
+    }
+    Some(all)
+}
+
 /// One number is left, and then none.
 fn uses_numbers_up<R: Threads + Sync>(
     rt: &R,
@@ -97,12 +104,15 @@ fn uses_numbers_up<R: Threads + Sync>(
     Some(
         is_refused(rt, alloc, executor, &long, Refusal::BatchTooLong)?
             && is_refused(rt, alloc, executor, &two, Refusal::NumbersExhausted)?
-            && executed(rt, alloc, executor, &one)? == (1, 999_999_999_999_999)
+            && executed(rt, alloc, executor, &one)? == (1, PAST_NUMBERS - 1)
+            && is_refused(rt, alloc, executor, &one, Refusal::NumbersExhausted)?
+            && fills_points(rt, alloc, executor, &none)?
+            && is_refused(rt, alloc, executor, &long, Refusal::BatchTooLong)?
             && is_refused(rt, alloc, executor, &one, Refusal::NumbersExhausted)?
             && is_refused(rt, alloc, executor, &none, Refusal::PointsFull)?
             && executor.commit() == Ok(1)
             && is_refused(rt, alloc, executor, &one, Refusal::NumbersExhausted)?
-            && executed(rt, alloc, executor, &none)? == (2, 1_000_000_000_000_000),
+            && executed(rt, alloc, executor, &none)? == (9, PAST_NUMBERS),
     )
 }
 
