@@ -16,7 +16,7 @@ fn between_orders(alloc: Global, count: usize) -> Option<Vec<Batch>> {
     Some(batches)
 }
 
-/// How many batches of a run are executed on two workers, and why the next one isn't.
+/// How many batches of a run are executed on two workers, and why the next one isn't. None where memory was refused.
 fn run<R: Threads + Sync>(
     rt: &R,
     alloc: Global,
@@ -25,7 +25,10 @@ fn run<R: Threads + Sync>(
 ) -> Option<(usize, Option<Refusal>)> {
     let workers = Workers::new(2)?;
     let end = executor.run(rt, alloc, batches, workers, &NoGate);
-    Some((end.records.len(), end.stop))
+    match end.stop {
+        Some(Refusal::Memory) => None,
+        stop => Some((end.records.len(), stop)),
+    }
 }
 
 /// Executes a batch so often, one request after the other, and commits none.
