@@ -3,9 +3,10 @@
 ghost use Rattle.std.specs.Prelude.{◌≡◌, ◌<◌, ◌≤◌, ◌^◌, IfOk, IfSome, OnOk, OnErr, length, option_copied, true};
 ghost use Rattle.std.specs.FinMap as map;
 ghost use Rattle.std.specs.List.{insert, list_all, slice_set};
-ghost use Rattle.leaf_rows.specs.Places.{IsPlaceOf, are_in_order};
 ghost use Rattle.tpcc_rows.specs.Changing.{with_each};
+ghost use Rattle.tpcc_rows.specs.Places.{IsPlaceOf, are_in_order};
 ghost use Rattle.tpcc_rows.specs.RowKinds.{fits};
+ghost use Rattle.tpcc_rows.specs.RowMap.{row_key_cmp};
 
 use std::alloc::{AllocError, Global};
 use std::marker::Model;
@@ -22,9 +23,9 @@ pub struct LeafRows {
 impl Model for LeafRows {
     ghost use Rattle.std.specs.Prelude.{◌≡◌, true};
     ghost use Rattle.std.specs.FinMap as map;
-    ghost use Rattle.leaf_rows.specs.Places.{are_in_order};
     ghost use Rattle.tpcc_rows.specs.Changing.{AreRows};
-    ghost use Rattle.tpcc_rows.specs.RowMap.{Rows, rows_code};
+    ghost use Rattle.tpcc_rows.specs.Places.{are_in_order};
+    ghost use Rattle.tpcc_rows.specs.RowMap.{Rows, row_key_cmp, rows_code};
 
     ghost Value = { Rows };
 
@@ -32,13 +33,13 @@ impl Model for LeafRows {
 
     ghost view = { λ s. map.from_sorted s.rows.items };
 
-    ghost invariant = { λ s. (are_in_order s.rows.items ≡ true) × AreRows (map.from_sorted s.rows.items) };
+    ghost invariant = { λ s. (are_in_order row_key_cmp s.rows.items ≡ true) × AreRows (map.from_sorted s.rows.items) };
 }
 
 /// Where the key's row is, or where one would be put.
 fn place_of(rows: &[(RowKey, Row)], key: &RowKey) -> Result<usize, usize>
-    requires { are_in_order rows.now ≡ true }
-    ensures { IsPlaceOf key.now rows.now result }
+    requires { are_in_order row_key_cmp rows.now ≡ true }
+    ensures { IsPlaceOf row_key_cmp key.now rows.now result }
 {
     rows.binary_search_by(|entry| entry.0.cmp(key))
 }
