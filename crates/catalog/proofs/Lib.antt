@@ -5,3 +5,4 @@ pub mod Keyed
 pub mod Middles
 pub mod NameOrders
 pub mod Naming
+pub mod Tables

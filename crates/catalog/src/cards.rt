@@ -7,9 +7,9 @@ ghost use Rattle.catalog.specs.Lookups.{customer_card, district_card, item_card,
 
 use crate::card::{Card, CardKey, CustomerCard, DistrictCard, ItemCard, StockCard, WarehouseCard};
 use crate::last_names::LastNames;
+use crate::table::CardTable;
 use std::alloc::Global;
 use std::collections::BTreeMap;
-use std::collections::btree_map::Iter;
 use std::marker::Model;
 use tpcc_rows::id::{CustomerId, DistrictId, ItemId, WarehouseId};
 use tpcc_rows::memory::Memory;
@@ -18,7 +18,7 @@ use tpcc_rows::text::Text;
 /// A finite map from keys to cards, each card at its own key. It is made by a `CatalogBuilder`, and doesn't change.
 #[derive(Drop)]
 pub struct Catalog {
-    cards: BTreeMap<CardKey, Card>,
+    cards: CardTable,
     names: LastNames,
 }
 
@@ -32,9 +32,9 @@ impl Model for Catalog {
 
     ghost coded = { cards_code };
 
-    ghost view = { λ s. map.from_entries s.cards.entries };
+    ghost view = { λ s. s.cards };
 
-    ghost invariant = { λ s. AreKeyed (map.from_entries s.cards.entries) × AreInOrder (customer_cards (map.from_entries s.cards.entries)) s.names };
+    ghost invariant = { λ s. AreKeyed s.cards × AreInOrder (customer_cards s.cards) s.names };
 }
 
 impl Catalog {
@@ -45,6 +45,7 @@ impl Catalog {
         ensures keyed { IfOk result AreKeyed }
     {
         let names = LastNames::new(alloc, &cards)?;
+        let cards = CardTable::from_map(alloc, cards)?;
         Ok(Catalog { cards, names })
     }
 
@@ -118,14 +119,14 @@ impl Catalog {
         ensures value { result ≡ length (map.entries self.now) }
         ensures small { result < 2 ^ 63 }
     {
-        self.cards.len()
+        self.cards().len()
     }
 
     /// The cards with their keys, in rising code.
-    pub fn cards(&self) -> Iter<'_, CardKey, Card>
-        ensures all { result ≡ map.entries self.now }
+    pub fn cards(&self) -> &[(CardKey, Card)]
+        ensures all { result.now ≡ map.entries self.now }
         ensures keyed { AreKeyed self.now }
     {
-        self.cards.iter()
+        self.cards.as_slice()
     }
 }

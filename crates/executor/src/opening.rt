@@ -5,20 +5,20 @@ ghost use Rattle.tpcc_rows.specs.Limits.{IsBetween};
 ghost use Rattle.tpcc_rows.specs.Picks.{greatest, picked};
 
 use crate::next_batch::LAST_NUMBER;
+use leaf_rows::LeafRows;
 use rollback::PointedStore;
 use tpcc_rows::codes::LEAVES;
 use tpcc_rows::key::RowKey;
-use tpcc_rows::plain::RowStore;
 use workers::END_OF_NUMBERS;
 
 /// The greatest number of HISTORY on a page, 0 where there is none.
 #[tactic(auto, unfolding(tpcc_rows::specs::Picks::picked))]
-fn last_on_page(page: &RowStore) -> u64
+fn last_on_page(page: &LeafRows) -> u64
     ensures value { result ≡ unwrap_or (greatest (picked history_pick page.now)) 0 }
     ensures range { result ≤ LAST_NUMBER }
 {
     let mut last = 0u64;
-    for (key, _) in page.iter() {
+    for (key, _) in page.as_slice() {
         if let RowKey::History { number } = key {
             last = last.max(number.number());
         }

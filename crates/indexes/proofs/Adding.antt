@@ -1,11 +1,12 @@
 -- The entries of a page, one after the other.
-use Rattle.std.proofs.Common.{◌≡◌, ℕ, Bool, true, false, cond, T, ◌&&◌, ◌||◌, List, [], ◌∷◌, Option, Some, None, refl, sym, ap, ◌∙◌}
+use Rattle.std.proofs.Common.{◌≡◌, ◌<◌, ◌+◌, ℕ, Bool, true, false, cond, drop, get_or, length, T, ◌&&◌, ◌||◌, List, [], ◌∷◌, Option, Some, None, refl, sym, ap, ◌∙◌}
 use Rattle.std.specs.BTreeMap.{is_at}
 use Rattle.std.specs.Cmp.{eq_by_cmp_equiv}
 use Rattle.std.specs.FinMap.{get, entries, entries_sorted, get-entries, find, is_sorted}
 use Rattle.std.specs.FinMap.Entries.{below_all}
 use Rattle.std.specs.List.{list_any}
 use Rattle.std.specs.Ordering.{eq_by_cmp}
+use Rattle.std.proofs.lemmas.List.{drop_more}
 use Rattle.tpcc_rows.specs.declared.key.RowKey.{RowKey}
 use Rattle.tpcc_rows.specs.declared.key.RowKey.TheVariants as key
 use Rattle.tpcc_rows.specs.declared.row.Row.{Row}
@@ -55,3 +56,10 @@ any-found c q (e ∷ es) s =
 -- an entry of the rows is what they have at its key
 pub any-row : (c : ℕ) (q : RowKey) (rows : Rows) → list_any (is_entry c q) (entries rows) ≡ owns c q (owner_at (get rows q))
 any-row c q rows = any-found c q (entries rows) (entries_sorted rows) ∙ ap (λ o. owns c q (owner_at o)) (sym (get-entries rows q))
+
+-- the next entry of a list is no longer to come, and is there
+pub next-row : (c : ℕ) (q : RowKey) (es : List (RowKey × Row)) (i : ℕ) (e : RowKey × Row) (was : Bool) → i < length es → e ≡ get_or es i e
+    → (list_any (is_entry c q) (drop (i + 1) es) || cond (is_entry c q e) true was) ≡ (list_any (is_entry c q) (drop i es) || was)
+next-row c q es i e was h is = shift (is_entry c q e) (list_any (is_entry c q) (drop (i + 1) es)) was
+    ∙ ap (λ x. (is_entry c q x || list_any (is_entry c q) (drop (i + 1) es)) || was) is
+    ∙ ap (λ rest. list_any (is_entry c q) rest || was) (sym (drop_more es i e h))

@@ -11,6 +11,7 @@ ghost use Rattle.indexes.specs.declared.owner.Owner.TheVariants as owner;
 ghost use Rattle.indexes.specs.declared.place.TheConstants.{PLACES};
 
 use crate::district::DistrictIndex;
+use leaf_rows::LeafRows;
 use crate::owner::{Owner, owner_of};
 use crate::place::{PLACES, place};
 use std::alloc::Global;
@@ -18,7 +19,6 @@ use std::collections::BTreeSet;
 use tpcc_rows::id::{CustomerId, DistrictId, OrderId, WarehouseId};
 use tpcc_rows::key::RowKey;
 use tpcc_rows::memory::Memory;
-use tpcc_rows::plain;
 
 /// An index page for each district, at its place.
 #[derive(Drop)]
@@ -140,10 +140,10 @@ impl Indexes {
     }
 
     /// The numbers of the page's rows from now on too.
-    pub fn add_page(&mut self, page: &plain::RowStore) -> Result<(), Memory>
+    pub fn add_page(&mut self, page: &LeafRows) -> Result<(), Memory>
         ensures { OnOk result ((c : ℕ) (q : RowKey) → has self.new c q ≡ (owns c q (owner_at (map.get page.now q)) || has self.old c q)) }
     {
-        for (key, row) in page.iter() {
+        for (key, row) in page.as_slice() {
             self.add(key, &owner_of(row))?;
         }
         Ok(())

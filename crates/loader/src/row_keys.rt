@@ -4,13 +4,13 @@ ghost use Rattle.std.specs.BTreeSet.{btree_set_len};
 ghost use Rattle.std.specs.FinMap as finmap;
 ghost use Rattle.loader.specs.StoredImage.{HasAlsoAlone, row_said, said_at, stands_alone};
 
+use leaf_rows::LeafRows;
 use rollback::PointedStore;
 use std::alloc::Global;
 use std::collections::BTreeSet;
 use tpcc_rows::codes::LEAVES;
 use tpcc_rows::key::RowKey;
 use tpcc_rows::memory::Memory;
-use tpcc_rows::plain;
 
 /// Whether the row of a key goes with no card.
 fn stands_alone(key: &RowKey) -> bool
@@ -26,11 +26,11 @@ fn stands_alone(key: &RowKey) -> bool
 }
 
 /// Adds the keys of a page.
-fn add_keys(keys: &mut BTreeSet<RowKey>, page: &plain::RowStore) -> Result<(), Memory>
+fn add_keys(keys: &mut BTreeSet<RowKey>, page: &LeafRows) -> Result<(), Memory>
     ensures { OnOk result (HasAlsoAlone keys.old page.now keys.new) }
 {
     let _rows = page.len();
-    for (key, _) in page.iter() {
+    for (key, _) in page.as_slice() {
         if stands_alone(key) {
             keys.insert(*key)?;
         }

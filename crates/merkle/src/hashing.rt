@@ -7,11 +7,11 @@ ghost use Rattle.merkle.specs.Hashing.{IsFed, leaf_text};
 ghost use Rattle.tpcc_model.specs.Roots.{joined};
 ghost use Rattle.tpcc_rows.specs.Encodings.{row_bytes, rows_bytes};
 
+use leaf_rows::LeafRows;
 use sha2::{Digest, Sha256};
 use sha2_lanes::digests_of_four;
 use tpcc_rows::encoding::{append_row, enough_bytes};
 use tpcc_rows::key::RowKey;
-use tpcc_rows::plain::RowStore;
 use tpcc_rows::row::Row;
 use tpcc_rows::row_buf::ByteBuf;
 
@@ -86,29 +86,29 @@ impl Gathered {
 /// Prefetches the rows of a page; the answer is how many bytes suffice for them. A customer's row is reference-counted, and
 /// so lies apart from the page. Read one right after the other, before the first is encoded, the page's customers come from
 /// memory together, where the encoder would wait for each of them in its turn.
-pub(crate) fn prefetch_rows(page: &RowStore) -> usize {
+pub(crate) fn prefetch_rows(page: &LeafRows) -> usize {
     let mut bytes = 0usize;
-    for (_, row) in page.iter() {
+    for (_, row) in page.as_slice() {
         bytes = bytes.saturating_add(enough_bytes(row));
     }
     bytes
 }
 
 /// Prefetches the first row of a page; the answer is how many bytes suffice for it.
-pub(crate) fn prefetch_first_row(page: &RowStore) -> usize {
-    match page.iter().next() {
+pub(crate) fn prefetch_first_row(page: &LeafRows) -> usize {
+    match page.as_slice().first() {
         Some((_, row)) => enough_bytes(row),
         None => 0,
     }
 }
 
 /// The hash of a leaf, of its rows in key order.
-pub fn hash_leaf(page: &RowStore) -> [u8; 32]
+pub fn hash_leaf(page: &LeafRows) -> [u8; 32]
     ensures { result ≡ sha256 (0 ∷ rows_bytes (map.entries page.now)) }
 {
     let mut gathered = Gathered::of_leaf();
     gathered.make_room(prefetch_rows(page));
-    for (key, row) in page.iter() {
+    for (key, row) in page.as_slice() {
         gathered.push_row(key, row);
     }
     gathered.finish()
@@ -116,12 +116,12 @@ pub fn hash_leaf(page: &RowStore) -> [u8; 32]
 
 /// Fills the buffer anew with what the hash of a leaf is of. Where there is no room for all of it, the answer is false, and
 /// the buffer is empty.
-fn encode_leaf(page: &RowStore, text: &mut ByteBuf<LEAF_BYTES>) -> bool
+fn encode_leaf(page: &LeafRows, text: &mut ByteBuf<LEAF_BYTES>) -> bool
     ensures { OnTrue result (text.new ≡ leaf_text page.now) }
 {
     text.clear();
     text.push_8(LEAF);
-    for (key, row) in page.iter() {
+    for (key, row) in page.as_slice() {
         if text.room() < ROW_BYTES {
             text.clear();
             return false;
@@ -132,7 +132,7 @@ fn encode_leaf(page: &RowStore, text: &mut ByteBuf<LEAF_BYTES>) -> bool
 }
 
 /// The hash of a leaf: this one, where it is of the leaf's whole text.
-fn hash_from(page: &RowStore, is_whole: bool, hash: [u8; 32]) -> [u8; 32]
+fn hash_from(page: &LeafRows, is_whole: bool, hash: [u8; 32]) -> [u8; 32]
     requires { OnTrue is_whole (hash ≡ sha256 (leaf_text page.now)) }
     ensures { result ≡ sha256 (leaf_text page.now) }
 {
@@ -141,10 +141,10 @@ fn hash_from(page: &RowStore, is_whole: bool, hash: [u8; 32]) -> [u8; 32]
 
 /// The hashes of four leaves, at once. One for whose text there is no room is hashed alone.
 pub(crate) fn hash_four_leaves(
-    first: &RowStore,
-    second: &RowStore,
-    third: &RowStore,
-    fourth: &RowStore,
+    first: &LeafRows,
+    second: &LeafRows,
+    third: &LeafRows,
+    fourth: &LeafRows,
 ) -> [[u8; 32]; 4]
     ensures { result ≡ sha256 (leaf_text first.now) ∷ sha256 (leaf_text second.now) ∷ sha256 (leaf_text third.now) ∷ sha256 (leaf_text fourth.now) ∷ [] }
 {

@@ -5,13 +5,13 @@ ghost use Rattle.pages.specs.Paged.{AreOfLeaf};
 ghost use Rattle.tpcc_rows.specs.declared.codes.TheConstants.{LEAVES};
 
 use indexes::DistrictIndex;
-use tpcc_rows::plain;
+use leaf_rows::LeafRows;
 
 /// The page of a leaf, as it was.
 #[derive(Drop)]
 pub(crate) struct LeafPage {
     pub(crate) leaf: usize,
-    pub(crate) rows: plain::RowStore,
+    pub(crate) rows: LeafRows,
     ghost small: { leaf < LEAVES },
     ghost fits: { AreOfLeaf leaf rows },
 }

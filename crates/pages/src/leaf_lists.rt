@@ -4,12 +4,12 @@ ghost use Rattle.std.specs.FinMap as map;
 ghost use Rattle.pages.specs.Paged.{IsPaged, union};
 ghost use Rattle.tpcc_rows.specs.RowKinds.{fits};
 
+use leaf_rows::LeafRows;
 use std::alloc::Global;
 use std::marker::Model;
 use tpcc_rows::codes::{LEAVES, leaf};
 use tpcc_rows::key::RowKey;
 use tpcc_rows::memory::Memory;
-use tpcc_rows::plain;
 use tpcc_rows::row::Row;
 
 /// A list of rows for each leaf. A page made of a whole list has full nodes next to each other, where one that took the
@@ -58,13 +58,13 @@ impl LeafLists {
     }
 
     /// The pages of the lists.
-    pub(crate) fn into_pages(self, alloc: Global) -> Result<Vec<plain::RowStore>, Memory>
+    pub(crate) fn into_pages(self, alloc: Global) -> Result<Vec<LeafRows>, Memory>
         ensures by_leaf { IfOk result (λ pages. IsPaged pages.items) }
         ensures rows { IfOk result (λ pages. union pages.items ≡ self) }
     {
         let mut pages = Vec::with_capacity(alloc, LEAVES)?;
         for list in self.lists {
-            pages.push(plain::RowStore::from_rows(alloc, list)?)?;
+            pages.push(LeafRows::from_rows(alloc, list)?)?;
         }
         Ok(pages)
     }

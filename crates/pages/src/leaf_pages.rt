@@ -7,6 +7,7 @@ ghost use Rattle.tpcc_rows.specs.RowKinds.{fits};
 
 use crate::kept::LeafPage;
 use crate::leaf_lists::LeafLists;
+use leaf_rows::LeafRows;
 use std::alloc::Global;
 use std::marker::Model;
 use tpcc_rows::codes::{LEAVES, leaf};
@@ -18,7 +19,7 @@ use tpcc_rows::row::Row;
 /// Rows of their keys' kinds, each on the page of its key's leaf.
 #[derive(Drop)]
 pub(crate) struct Pages {
-    pages: Vec<plain::RowStore>,
+    pages: Vec<LeafRows>,
 }
 
 impl Model for Pages {
@@ -42,7 +43,7 @@ impl Pages {
     {
         let mut pages = Vec::with_capacity(alloc, LEAVES)?;
         for _ in 0..LEAVES {
-            pages.push(plain::RowStore::new(alloc))?;
+            pages.push(LeafRows::new(alloc))?;
         }
         Ok(Pages { pages })
     }
@@ -65,7 +66,7 @@ impl Pages {
     {
         let mut pages = Vec::with_capacity(alloc, LEAVES)?;
         for page in &self.pages {
-            pages.push(page.copied()?)?;
+            pages.push(page.clone()?)?;
         }
         Ok(Pages { pages })
     }
@@ -98,7 +99,7 @@ impl Pages {
     }
 
     /// The rows of a leaf.
-    pub(crate) fn page(&self, leaf: usize) -> &plain::RowStore
+    pub(crate) fn page(&self, leaf: usize) -> &LeafRows
         requires { leaf < LEAVES }
         ensures { result.now ≡ page_rows self.now leaf }
     {

@@ -21,6 +21,7 @@ use crate::saved::Saved;
 use indexes::Indexes;
 use indexes::owner::{Owner, is_nobody, owner_of, same_owner};
 use indexes::place::place_of;
+use leaf_rows::LeafRows;
 use std::alloc::Global;
 use std::collections::BTreeSet;
 use std::marker::Model;
@@ -81,7 +82,7 @@ fn lacking_page(pages: &Pages, leaf: usize, saved: &Saved) -> Result<Option<Leaf
     if saved.has_leaf(leaf) {
         return Ok(None);
     }
-    let rows = pages.page(leaf).copied()?;
+    let rows = pages.page(leaf).clone()?;
     Ok(Some(LeafPage { leaf, rows }))
 }
 
@@ -213,7 +214,7 @@ impl RowStore {
     }
 
     /// The rows of a leaf.
-    pub fn page(&self, leaf: usize) -> &plain::RowStore
+    pub fn page(&self, leaf: usize) -> &LeafRows
         requires { leaf < LEAVES }
         ensures { result.now ≡ page_rows self.now leaf }
     {

@@ -13,6 +13,7 @@ ghost use Rattle.rollback.specs.Pointed.{AreSaved, KeepsCleanLeaves, NewestHas, 
 use crate::dirty::Dirty;
 use crate::refusal::{NoSuchPoint, PointsFull};
 use arrayvec::ArrayVec;
+use leaf_rows::LeafRows;
 use pages::{RowStore, Saved};
 use std::alloc::Global;
 use std::marker::Model;
@@ -21,7 +22,6 @@ use tpcc_rows::delta::Delta;
 use tpcc_rows::id::{CustomerId, DistrictId, OrderId, WarehouseId};
 use tpcc_rows::key::RowKey;
 use tpcc_rows::memory::Memory;
-use tpcc_rows::plain;
 use tpcc_rows::row::{CustomerRow, DistrictRow, Row, WarehouseRow};
 
 /// At most so many points are kept.
@@ -136,7 +136,7 @@ impl PointedStore {
     }
 
     /// The rows of a leaf.
-    pub fn page(&self, leaf: usize) -> &plain::RowStore
+    pub fn page(&self, leaf: usize) -> &LeafRows
         requires { leaf < LEAVES }
         ensures { result.now ≡ page_rows self.now.rows leaf }
     {

@@ -15,3 +15,5 @@ pub mod Fields
 pub mod RowBytes
 pub mod Puts
 pub mod Footprints
+pub mod SortedEntries
+pub mod Places

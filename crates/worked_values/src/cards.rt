@@ -150,7 +150,7 @@ fn show_found(rt: &impl Print, catalog: &Catalog) -> Option<()> {
     let (one, two, seven) = (WarehouseId::new(1)?, WarehouseId::new(2)?, ItemId::new(7)?);
     let no_stock = catalog.stock(one, seven).is_none();
     let no_warehouse = catalog.warehouse(two).is_none();
-    let first = *catalog.cards().next()?.0 == CardKey::Warehouse { warehouse: one };
+    let first = catalog.cards().first()?.0 == CardKey::Warehouse { warehouse: one };
     let _ = println!(rt;
         "no stock: {no_stock}, no other warehouse: {no_warehouse}, the warehouse is first: {first}"
     );

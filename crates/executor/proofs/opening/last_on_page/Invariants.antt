@@ -1,4 +1,4 @@
-use Rattle.std.proofs.Common.{◌≡◌, ◌≤◌, max, unwrap_or}
+use Rattle.std.proofs.Common.{◌≡◌, ◌≤◌, max, unwrap_or, drop}
 use Rattle.std.specs.List.{filter_map}
 use Rattle.tpcc_rows.specs.Picks.{greatest, picked}
 use Rattle.tpcc_model.specs.Serial.{history_pick}
@@ -8,4 +8,4 @@ use Rattle.executor.proofs.opening.last_on_page.Given as goal
 abbrev pub invariant-loop-key : goal.invariant-loop-key
 invariant-loop-key l =
     (l.last ≤ 999999999999999)
-    × (max l.last (unwrap_or (greatest (filter_map (λ e. history_pick e.0 e.1) l.key-iterator)) 0) ≡ unwrap_or (greatest (picked history_pick l.page)) 0)
+    × (max l.last (unwrap_or (greatest (filter_map (λ e. history_pick e.0 e.1) (drop l.key-index l.key-items))) 0) ≡ unwrap_or (greatest (picked history_pick l.page)) 0)
