@@ -2,6 +2,7 @@
 use crate::images::{Population, image, with_stocks};
 use crate::loading::made_image;
 use crate::timing::{print_ratio, print_share, since, start};
+use leaf_rows::LeafRows;
 use loader::{load, make};
 use merkle::Tree;
 use requests::BytesSource;
@@ -22,9 +23,9 @@ use tpcc_rows::row_buf::{ByteBuf, RowBuf};
 /// How often each time is taken; the least counts.
 const ROUNDS: u32 = 20;
 
-fn push_page(page: &plain::RowStore, bytes: &mut Vec<u8>) -> Result<(), AllocError> {
+fn push_page(page: &LeafRows, bytes: &mut Vec<u8>) -> Result<(), AllocError> {
     let mut buffer = RowBuf::new();
-    for (key, row) in page.iter() {
+    for (key, row) in page.as_slice() {
         encode_row(key, row, &mut buffer);
         bytes.extend_from_slice(buffer.as_slice())?;
     }
@@ -41,22 +42,22 @@ fn encoded(alloc: Global, store: &PointedStore) -> Result<Vec<u8>, AllocError> {
 }
 
 /// How many bytes suffice for the rows of a page.
-fn prefetch_rows(page: &plain::RowStore) -> usize {
+fn prefetch_rows(page: &LeafRows) -> usize {
     let mut bytes = 0usize;
-    for (_, row) in page.iter() {
+    for (_, row) in page.as_slice() {
         bytes = bytes.saturating_add(enough_bytes(row));
     }
     bytes
 }
 
 /// Encodes the rows of a page as the tree does, and counts their bytes.
-fn encode_page(page: &plain::RowStore) -> u64 {
+fn encode_page(page: &LeafRows) -> u64 {
     let mut waiting = ByteBuf::<4096>::new();
     let mut count = 0u64;
     if waiting.room() < prefetch_rows(page) {
         waiting.push_8(0);
     }
-    for (key, row) in page.iter() {
+    for (key, row) in page.as_slice() {
         if waiting.room() < 536 {
             count = count.wrapping_add(waiting.as_slice().len() as u64);
             waiting.clear();
@@ -70,7 +71,7 @@ fn encode_page(page: &plain::RowStore) -> u64 {
 fn prefetch_first_rows(store: &PointedStore, first: usize) -> u64 {
     let mut bytes = 0u64;
     for leaf in first..first.saturating_add(8).min(LEAVES) {
-        if let Some((_, row)) = store.page(leaf).iter().next() {
+        if let Some((_, row)) = store.page(leaf).as_slice().first() {
             bytes = bytes.wrapping_add(enough_bytes(row) as u64);
         }
     }
@@ -124,8 +125,8 @@ fn look_up_in_one_map(store: &plain::RowStore) -> u64 {
     found
 }
 
-fn put_page(page: &plain::RowStore, rows: &mut plain::RowStore) -> Option<()> {
-    for (key, row) in page.iter() {
+fn put_page(page: &LeafRows, rows: &mut plain::RowStore) -> Option<()> {
+    for (key, row) in page.as_slice() {
         if fits(key, row) {
             rows.put(*key, row.copied().ok()?).ok()?;
         }

@@ -1,6 +1,7 @@
 //! Four hashes at once against one hash after the other: the tree of a warehouse of full scale, and inner nodes alone.
 use crate::hashing::full_scale;
 use crate::timing::{print_ratio, since, start};
+use leaf_rows::LeafRows;
 use loader::load;
 use merkle::Tree;
 use merkle::hashing::{hash_leaf, join};
@@ -12,7 +13,6 @@ use std::thread::Threads;
 use std::time::Duration;
 use tpcc_rows::codes::LEAVES;
 use tpcc_rows::key::RowKey;
-use tpcc_rows::plain;
 use tpcc_rows::row::{Row, fits};
 
 /// How often each time is taken; the least counts.
@@ -22,8 +22,8 @@ const ROUNDS: u32 = 20;
 const NODE_BYTES: usize = 65;
 
 /// A copy of the first row of a page.
-fn first_row(page: &plain::RowStore) -> Option<(RowKey, Row)> {
-    let (key, row) = page.iter().next()?;
+fn first_row(page: &LeafRows) -> Option<(RowKey, Row)> {
+    let (key, row) = page.as_slice().first()?;
     Some((*key, row.copied().ok()?))
 }
 

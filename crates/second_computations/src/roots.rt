@@ -3,13 +3,13 @@ use crate::chosen_rows::{push_every_kind, push_long_leaf, push_one_leaf, push_ra
 use crate::printing::{print_agreeing, print_hash};
 use crate::rows::{Pairs, district, put_all, warehouse};
 use crate::second_root::second_root;
+use leaf_rows::LeafRows;
 use merkle::Tree;
 use merkle::hashing::hash_leaf;
 use pages::RowStore;
 use rollback::PointedStore;
 use std::alloc::Global;
 use std::thread::Threads;
-use tpcc_rows::plain;
 
 /// The rows in a store.
 fn stored(alloc: Global, pairs: &Pairs) -> Option<PointedStore> {
@@ -123,7 +123,7 @@ pub fn show<R: Threads + Sync + Print>(rt: &R, alloc: Global) -> Option<()> {
     print_hash(
         rt,
         "hash of an empty leaf",
-        &hash_leaf(&plain::RowStore::new(alloc)),
+        &hash_leaf(&LeafRows::new(alloc)),
     );
     for (name, chosen) in &CHOSEN {
         show_chosen(rt, alloc, name, *chosen)?;

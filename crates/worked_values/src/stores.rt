@@ -1,6 +1,7 @@
 //! Stores of pages, with rows of each kind, seven of them on one leaf.
 use crate::row_bytes::put_plain;
 use crate::rows::{Columns, Pair, Sold, next_of, number_of, ytd_of};
+use leaf_rows::LeafRows;
 use pages::RowStore;
 use std::alloc::Global;
 use std::collections::BTreeSet;
@@ -73,9 +74,9 @@ fn show_moved(rt: &impl Print, alloc: Global, plain: plain::RowStore) -> Option<
 }
 
 /// Whether a page's rows have the keys of the first of these rows, in their order.
-fn is_in_order(alloc: Global, page: &plain::RowStore, rows: &[Columns]) -> Option<bool> {
+fn is_in_order(alloc: Global, page: &LeafRows, rows: &[Columns]) -> Option<bool> {
     let mut rest = rows.iter();
-    for (key, _) in page.iter() {
+    for (key, _) in page.as_slice() {
         if rest.next()?.key(alloc)? != *key {
             return Some(false);
         }
@@ -83,7 +84,7 @@ fn is_in_order(alloc: Global, page: &plain::RowStore, rows: &[Columns]) -> Optio
     Some(true)
 }
 
-fn show_page(rt: &impl Print, alloc: Global, page: &plain::RowStore) -> Option<()> {
+fn show_page(rt: &impl Print, alloc: Global, page: &LeafRows) -> Option<()> {
     let is_in_order = is_in_order(alloc, page, &ROWS)?;
     let _ = println!(rt;
         "rows of a leaf: {}, in key order: {is_in_order}",
