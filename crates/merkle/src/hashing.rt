@@ -94,14 +94,6 @@ pub(crate) fn prefetch_rows(page: &LeafRows) -> usize {
     bytes
 }
 
-/// Prefetches the first row of a page; the answer is how many bytes suffice for it.
-pub(crate) fn prefetch_first_row(page: &LeafRows) -> usize {
-    match page.as_slice().first() {
-        Some((_, row)) => enough_bytes(row),
-        None => 0,
-    }
-}
-
 /// The hash of a leaf, of its rows in key order.
 pub fn hash_leaf(page: &LeafRows) -> [u8; 32]
     ensures { result ≡ sha256 (0 ∷ rows_bytes (map.entries page.now)) }

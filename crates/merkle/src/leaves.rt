@@ -4,7 +4,7 @@ ghost use Rattle.merkle.specs.Jobs.{IsDone, KeepsPlaces};
 ghost use Rattle.merkle.specs.Nodes.{at, rehashed};
 ghost use Rattle.tpcc_model.specs.Roots.{leaf_hash};
 
-use crate::hashing::{hash_four_leaves, hash_leaf, prefetch_first_row, prefetch_rows};
+use crate::hashing::{hash_four_leaves, hash_leaf, prefetch_rows};
 use crate::jobs::{Job, gather_leaves, give_hashes, put_hashes};
 use rollback::PointedStore;
 use std::thread::{self, Threads};
@@ -17,26 +17,13 @@ const WINDOW: usize = 16;
 /// How many leaves one thread takes at least: so many that it is worth its start.
 const LEAVES_AT_ONCE: usize = 64;
 
-/// Prefetches the first rows of some leaves; the answer is how many bytes suffice for them. To find the rows of a leaf is to
-/// follow a few pointers one after the other; those of several leaves are followed here together.
-fn prefetch_first_rows(jobs: &[Job], store: &PointedStore) -> usize
-    requires { All (λ job. job.place < LEAVES) jobs.now }
-{
-    let mut bytes = 0usize;
-    for job in jobs {
-        bytes = bytes.saturating_add(prefetch_first_row(store.page(job.place)));
-    }
-    bytes
-}
-
-/// Prefetches the rows of some leaves, and notes how many bytes suffice for each, beside those of all first rows.
+/// Prefetches the rows of some leaves, and notes how many bytes suffice for each.
 fn measure(jobs: &mut [Job], store: &PointedStore)
     requires { All (λ job. job.place < LEAVES) jobs.old }
     ensures { KeepsPlaces jobs.old jobs.new }
 {
-    let more = prefetch_first_rows(jobs, store);
     for k in 0..jobs.len() {
-        jobs[k].bytes = prefetch_rows(store.page(jobs[k].place)).saturating_add(more);
+        jobs[k].bytes = prefetch_rows(store.page(jobs[k].place));
     }
 }
 
