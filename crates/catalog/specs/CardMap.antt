@@ -37,6 +37,10 @@ cards_of list = finmap.from_entries (map keyed list)
 abbrev pub has_key : CardKey → Card → Bool
 has_key key card = eq_by_cmp card_key_cmp key (card_key card)
 
+-- the cards of a list in the order of its keys
+abbrev pub cards_in : List (CardKey × Card) → Cards
+cards_in entries = finmap.from_sorted entries
+
 -- two of the cards have one key
 abbrev pub has_twins : List Card → Bool
 has_twins [] = false

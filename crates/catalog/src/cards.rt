@@ -7,7 +7,7 @@ ghost use Rattle.catalog.specs.Lookups.{customer_card, district_card, item_card,
 
 use crate::card::{Card, CardKey, CustomerCard, DistrictCard, ItemCard, StockCard, WarehouseCard};
 use crate::last_names::LastNames;
-use crate::table::CardTable;
+use crate::table::{Layout, found, moved};
 use std::alloc::Global;
 use std::collections::BTreeMap;
 use std::marker::Model;
@@ -18,23 +18,25 @@ use tpcc_rows::text::Text;
 /// A finite map from keys to cards, each card at its own key. It is made by a `CatalogBuilder`, and doesn't change.
 #[derive(Drop)]
 pub struct Catalog {
-    cards: CardTable,
+    cards: Vec<(CardKey, Card)>,
+    layout: Layout,
     names: LastNames,
 }
 
 impl Model for Catalog {
-    ghost use Rattle.std.specs.FinMap as map;
-    ghost use Rattle.catalog.specs.CardMap.{AreKeyed, Cards, cards_code};
+    ghost use Rattle.catalog.specs.CardMap.{AreKeyed, Cards, card_key_cmp, cards_code, cards_in};
     ghost use Rattle.catalog.specs.LastNames.{customer_cards};
     ghost use Rattle.catalog.specs.NameOrder.{AreInOrder};
+    ghost use Rattle.std.specs.Prelude.{◌≡◌, true};
+    ghost use Rattle.tpcc_rows.specs.Places.{are_in_order};
 
     ghost Value = { Cards };
 
     ghost coded = { cards_code };
 
-    ghost view = { λ s. s.cards };
+    ghost view = { λ s. cards_in s.cards.items };
 
-    ghost invariant = { λ s. AreKeyed s.cards × AreInOrder (customer_cards s.cards) s.names };
+    ghost invariant = { λ s. (are_in_order card_key_cmp s.cards.items ≡ true) × AreKeyed (cards_in s.cards.items) × AreInOrder (customer_cards (cards_in s.cards.items)) s.names };
 }
 
 impl Catalog {
@@ -45,15 +47,20 @@ impl Catalog {
         ensures keyed { IfOk result AreKeyed }
     {
         let names = LastNames::new(alloc, &cards)?;
-        let cards = CardTable::from_map(alloc, cards)?;
-        Ok(Catalog { cards, names })
+        let cards = moved(alloc, cards)?;
+        let layout = Layout::of(&cards);
+        Ok(Catalog {
+            cards,
+            layout,
+            names,
+        })
     }
 
     /// The card of a key, where there is one.
     pub fn get(&self, key: &CardKey) -> Option<&Card>
         ensures { option_copied result ≡ map.get self.now key.now }
     {
-        self.cards.get(key)
+        found(&self.cards, &self.layout, key)
     }
 
     pub fn warehouse(&self, warehouse: WarehouseId) -> Option<&WarehouseCard>

@@ -2,13 +2,12 @@
 //! scale, a card's place follows from its key, and is found at once.
 ghost use Rattle.std.specs.Prelude.{◌≡◌, IfOk, IsTrue, Ok, option_copied, true};
 ghost use Rattle.std.specs.FinMap as map;
-ghost use Rattle.catalog.specs.CardMap.{card_key_cmp};
+ghost use Rattle.catalog.specs.CardMap.{card_key_cmp, cards_in};
 ghost use Rattle.tpcc_rows.specs.Places.{IsPlaceOf, are_in_order};
 
 use crate::card::{Card, CardKey};
 use std::alloc::Global;
 use std::collections::BTreeMap;
-use std::marker::Model;
 use tpcc_rows::memory::Memory;
 
 /// Districts of a warehouse.
@@ -16,7 +15,7 @@ const DISTRICTS: usize = 10;
 
 /// Where the cards of each kind begin, which stand in this order, after those of the warehouses.
 #[derive(Clone, Copy)]
-struct Layout {
+pub(crate) struct Layout {
     districts: usize,
     customers: usize,
     stocks: usize,
@@ -39,7 +38,7 @@ fn first_of_kind(cards: &[(CardKey, Card)], wanted: usize) -> usize {
 }
 
 impl Layout {
-    fn of(cards: &[(CardKey, Card)]) -> Layout {
+    pub(crate) fn of(cards: &[(CardKey, Card)]) -> Layout {
         Layout {
             districts: first_of_kind(cards, 1),
             customers: first_of_kind(cards, 2),
@@ -101,28 +100,6 @@ fn before(number: usize) -> usize {
     number.saturating_sub(1)
 }
 
-/// A finite map from keys to cards.
-#[derive(Drop)]
-pub(crate) struct CardTable {
-    cards: Vec<(CardKey, Card)>,
-    layout: Layout,
-}
-
-impl Model for CardTable {
-    ghost use Rattle.std.specs.Prelude.{◌≡◌, true};
-    ghost use Rattle.std.specs.FinMap as map;
-    ghost use Rattle.catalog.specs.CardMap.{Cards, card_key_cmp, cards_code};
-    ghost use Rattle.tpcc_rows.specs.Places.{are_in_order};
-
-    ghost Value = { Cards };
-
-    ghost coded = { cards_code };
-
-    ghost view = { λ s. map.from_sorted s.cards.items };
-
-    ghost invariant = { λ s. are_in_order card_key_cmp s.cards.items ≡ true };
-}
-
 /// Where the key's card is, or where one would stand.
 fn place_of(cards: &[(CardKey, Card)], key: &CardKey) -> Result<usize, usize>
     requires { are_in_order card_key_cmp cards.now ≡ true }
@@ -141,43 +118,36 @@ fn guessed(cards: &[(CardKey, Card)], key: &CardKey, guess: usize) -> bool
     }
 }
 
-impl CardTable {
-    /// The cards of a tree, each moved.
-    pub(crate) fn from_map(
-        alloc: Global,
-        cards: BTreeMap<CardKey, Card>,
-    ) -> Result<CardTable, Memory>
-        ensures { IfOk result (λ table. table ≡ map.from_entries cards.entries) }
-    {
-        let mut moved = Vec::with_capacity(alloc, cards.len())?;
-        for (key, card) in cards {
-            moved.push((key, card))?;
-        }
-        let layout = Layout::of(&moved);
-        Ok(CardTable {
-            cards: moved,
-            layout,
-        })
+/// The cards of a tree in their order, each moved.
+pub(crate) fn moved(
+    alloc: Global,
+    cards: BTreeMap<CardKey, Card>,
+) -> Result<Vec<(CardKey, Card)>, Memory>
+    ensures order { IfOk result (λ moved. are_in_order card_key_cmp moved.items ≡ true) }
+    ensures all { IfOk result (λ moved. cards_in moved.items ≡ map.from_entries cards.entries) }
+{
+    let mut moved = Vec::with_capacity(alloc, cards.len())?;
+    for (key, card) in cards {
+        moved.push((key, card))?;
     }
+    Ok(moved)
+}
 
-    /// The card of a key, where there is one.
-    pub(crate) fn get(&self, key: &CardKey) -> Option<&Card>
-        ensures { option_copied result ≡ map.get self.now key.now }
-    {
-        let guess = self.layout.guess(key);
-        if guessed(&self.cards, key, guess) {
-            return Some(&self.cards[guess].1);
-        }
-        match place_of(&self.cards, key) {
-            Ok(place) => Some(&self.cards[place].1),
-            Err(_) => None,
-        }
+/// The card of a key, where there is one.
+pub(crate) fn found<'a>(
+    cards: &'a [(CardKey, Card)],
+    layout: &Layout,
+    key: &CardKey,
+) -> Option<&'a Card>
+    requires { are_in_order card_key_cmp cards.now ≡ true }
+    ensures { option_copied result ≡ map.get (cards_in cards.now) key.now }
+{
+    let guess = layout.guess(key);
+    if guessed(cards, key, guess) {
+        return Some(&cards[guess].1);
     }
-
-    /// The cards with their keys, in key order.
-    pub(crate) fn as_slice(&self) -> &[(CardKey, Card)]
-        ensures { result.now ≡ map.entries self.now }
-    {
-        self.cards.as_slice()
+    match place_of(cards, key) {
+        Ok(place) => Some(&cards[place].1),
+        Err(_) => None,
     }
 }

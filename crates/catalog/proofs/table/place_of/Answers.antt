@@ -9,4 +9,4 @@ pub returns : goal.returns
 returns c =
     let facts = c.binary_search_by.ensures in
     placed card_key_cmp_total exact_cards c.args.cards.now c.args.key.now c.binary_search_by.result c.requires facts.bound
-        (facts.position (λ e. card_key_cmp e.0 c.args.key.now) (always_returns_same _ _ _ (λ a r f k. search rules)))
+    (facts.position (λ e. card_key_cmp e.0 c.args.key.now) (always_returns_same _ _ _ (λ a r f k. search rules)))

@@ -1,5 +1,5 @@
 use Rattle.std.proofs.Common.{◌≡◌, ◌++◌}
-use Rattle.catalog.proofs.table.CardTable.from_map.Given as goal
+use Rattle.catalog.proofs.table.moved.Given as goal
 
 -- the cards that are moved, and those that are left, are all
 abbrev pub invariant-loop-key : goal.invariant-loop-key
