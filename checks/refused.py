@@ -12,6 +12,7 @@ import sys
 import tempfile
 
 LIBRARY = r"""
+#include <errno.h>
 #include <fcntl.h>
 #include <stdatomic.h>
 #include <stdlib.h>
@@ -27,7 +28,11 @@ __attribute__((constructor)) static void begin(void) {
     refused = atol(getenv("REFUSED"));
     growths = mmap(0, sizeof(long), PROT_READ | PROT_WRITE, MAP_SHARED, file, 0);
 }
-static int is_refused(void) { return growths && atomic_fetch_add(growths, 1) + 1 == refused; }
+static int is_refused(void) {
+    if (!growths || atomic_fetch_add(growths, 1) + 1 != refused) return 0;
+    errno = ENOMEM;
+    return 1;
+}
 void *malloc(size_t size) { return is_refused() ? 0 : __libc_malloc(size); }
 void *calloc(size_t count, size_t size) { return is_refused() ? 0 : __libc_calloc(count, size); }
 void *realloc(void *old, size_t size) { return is_refused() ? 0 : __libc_realloc(old, size); }

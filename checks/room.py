@@ -10,6 +10,7 @@ import sys
 import tempfile
 
 SMALL = (1, 1, 1)
+SHORT_ORDER = 'N,1,1,1' + ''.join(f',{item},1,1' for item in range(1, 6))
 NEW_ORDER = 'N,1,1,1' + ''.join(f',{item},1,1' for item in range(1, 16))
 PAYMENT = 'P,1,1,1,1,I,1,100'
 STOCK_LEVEL = 'S,1,1,10'
@@ -46,6 +47,13 @@ def batches(request, a_batch, count):
     return (f'B,0,commit,{a_batch}\n' + f'{request}\n' * a_batch) * count
 
 
+def orders_of_all(count):
+    """A batch of so many new orders of 15 items each, no item twice."""
+    items = [range(1 + 15 * place, 16 + 15 * place) for place in range(count)]
+    lines = ['N,1,1,1' + ''.join(f',{item},1,1' for item in some) for some in items]
+    return '\n'.join([f'B,0,commit,{count}', *lines, ''])
+
+
 def inputs(program):
     """What each input is, its image and its batches."""
     small, middle = made(program, SMALL), made(program, (1, 45, 100))
@@ -56,10 +64,14 @@ def inputs(program):
         yield f'{count} short customers', with_records(small, customers(count)), ''
     for count in 10000, 100000, 1000000:
         yield f'{count} short payments of the history', with_records(small, payments(count)), ''
+    yield '100 batches of 1000 new orders of 5 lines', middle, batches(SHORT_ORDER, 1000, 100)
     for count in 1, 10, 100:
         yield f'{count} batches of 1000 new orders of 15 lines', middle, batches(NEW_ORDER, 1000, count)
         yield f'{count} batches of 1000 payments', middle, batches(PAYMENT, 1000, count)
         yield f'{count} batches of 1000 stock levels', middle, batches(STOCK_LEVEL, 1000, count)
+    wide = made(program, (1, 45, 400))
+    yield 'make 1 45 400', wide, ''
+    yield '20 new orders of 300 items, and 1000 stock levels of them', wide, orders_of_all(20) + batches(STOCK_LEVEL, 1000, 1)
     yield '300000 batches of no request', small, 'B,0,commit,0\n' * 300000
     yield 'an end of 10^15 records', with_text(small, f'E,{10**15}\n'), ''
     yield 'a head of 10^15 requests', small, f'B,0,commit,{10**15}\n'
