@@ -1,0 +1,109 @@
+#!/usr/bin/env python3
+"""refused.py PROGRAM WANTED [FIRST [LAST]]: runs a built program with each of its growths refused in turn.
+
+PROGRAM is what `rt run` built, as crates/test_execution/out/test_execution, and WANTED the text that it prints with ample memory,
+as crates/test_execution/stdout. A growth is a call of malloc, calloc or realloc; FIRST and LAST are the numbers of the first and of
+the last one to be refused, without which all are. With one growth refused the program must end with status 0 and the whole text,
+where it does without the growth, or with status 1 and some lines of the text in their order; and it says nothing on standard error.
+The library that refuses is compiled by `cc` (Linux with glibc alone). Ends with status 1 where any run does anything else."""
+import os
+import subprocess
+import sys
+import tempfile
+
+LIBRARY = r"""
+#include <errno.h>
+#include <fcntl.h>
+#include <stdatomic.h>
+#include <stdlib.h>
+#include <sys/mman.h>
+#include <unistd.h>
+extern void *__libc_malloc(size_t);
+extern void *__libc_calloc(size_t, size_t);
+extern void *__libc_realloc(void *, size_t);
+static _Atomic long *growths;
+static long refused;
+__attribute__((constructor)) static void begin(void) {
+    int file = open(getenv("GROWTHS"), O_RDWR);
+    refused = atol(getenv("REFUSED"));
+    growths = mmap(0, sizeof(long), PROT_READ | PROT_WRITE, MAP_SHARED, file, 0);
+}
+static int is_refused(void) {
+    if (!growths || atomic_fetch_add(growths, 1) + 1 != refused) return 0;
+    errno = ENOMEM;
+    return 1;
+}
+void *malloc(size_t size) { return is_refused() ? 0 : __libc_malloc(size); }
+void *calloc(size_t count, size_t size) { return is_refused() ? 0 : __libc_calloc(count, size); }
+void *realloc(void *old, size_t size) { return is_refused() ? 0 : __libc_realloc(old, size); }
+"""
+
+# Every so many runs a line tells how far it is.
+RUNS_A_LINE = 1000
+
+
+class Tried:
+    """A program whose growths are counted, and refused."""
+
+    def __init__(self, program, folder):
+        self.program = os.path.abspath(program)
+        self.library = os.path.join(folder, 'refusing.so')
+        self.growths = os.path.join(folder, 'growths')
+        source = os.path.join(folder, 'refusing.c')
+        with open(source, 'w') as file:
+            file.write(LIBRARY)
+        subprocess.run(['cc', '-O2', '-shared', '-fPIC', '-o', self.library, source], check=True)
+
+    def run(self, refused):
+        """What the program prints and says, its status, and its growths, of which this one is refused; none where it is 0."""
+        with open(self.growths, 'wb') as file:
+            file.write(bytes(8))
+        names = {'LD_PRELOAD': self.library, 'GROWTHS': self.growths, 'REFUSED': str(refused)}
+        ended = subprocess.run([self.program], env={**os.environ, **names}, stdin=subprocess.DEVNULL,
+                               capture_output=True, timeout=120)
+        with open(self.growths, 'rb') as file:
+            return ended, int.from_bytes(file.read(), sys.byteorder)
+
+
+def is_part(lines, whole):
+    """Whether the lines are some of the whole ones, in their order."""
+    rest = iter(whole)
+    return all(line in rest for line in lines)
+
+
+def kind_of(ended, wanted):
+    """How a run ended: whole, refused, or wrong."""
+    if ended.stderr:
+        return 'wrong'
+    if ended.returncode == 0 and ended.stdout == wanted:
+        return 'whole'
+    if ended.returncode == 1 and is_part(ended.stdout.splitlines(True), wanted.splitlines(True)):
+        return 'refused'
+    return 'wrong'
+
+
+def main(program, wanted, first=1, last=None):
+    with open(wanted, 'rb') as file:
+        wanted = file.read()
+    counts = {'whole': 0, 'refused': 0, 'wrong': 0}
+    with tempfile.TemporaryDirectory() as folder:
+        tried = Tried(program, folder)
+        ended, growths = tried.run(0)
+        if kind_of(ended, wanted) != 'whole':
+            sys.exit('with ample memory the program prints something else')
+        last = growths if last is None else last
+        print(f'{growths} growths with ample memory; from {first} to {last} each is refused', flush=True)
+        for refused in range(first, last + 1):
+            ended, _ = tried.run(refused)
+            kind = kind_of(ended, wanted)
+            counts[kind] += 1
+            if kind == 'wrong':
+                print(f'growth {refused}: status {ended.returncode}, {ended.stdout[-200:]!r}, {ended.stderr[:200]!r}')
+            if (refused - first + 1) % RUNS_A_LINE == 0:
+                print(f'up to {refused}: {counts}', flush=True)
+    print(f'{counts["whole"]} runs were whole, {counts["refused"]} lacked what was refused, {counts["wrong"]} were wrong')
+    return counts['wrong'] == 0
+
+
+if __name__ == '__main__':
+    sys.exit(0 if main(*sys.argv[1:3], *map(int, sys.argv[3:5])) else 1)
