@@ -1,0 +1,37 @@
+-- The records that answer commands, beside those of a batch.
+use Rattle.std.specs.Prelude.{ℕ, List, [], ◌∷◌, codes, decimal}
+use Rattle.executor.specs.Refusals.{refusal_code, refusal_name}
+use Rattle.executor.specs.declared.refusal.Refusal.{Refusal}
+use Rattle.records.specs.Fields.{Fields}
+use Rattle.records.specs.Spelling.{text_of_record}
+use Rattle.runner.specs.Text.{token_digits}
+use Rattle.tpcc_model.specs.Serial.{State}
+
+-- `commit,SEQ`: the number of the batch
+abbrev pub commit_fields : ℕ → Fields
+commit_fields sequence = codes "commit" ∷ decimal sequence ∷ []
+
+abbrev pub commit_text : ℕ → List ℕ
+commit_text sequence = text_of_record (commit_fields sequence)
+
+-- a word, the number of a state, and its token
+abbrev pub told_fields : List ℕ → ℕ → List ℕ → Fields
+told_fields word sequence token = word ∷ decimal sequence ∷ token_digits token ∷ []
+
+abbrev pub told_text : List ℕ → ℕ → List ℕ → List ℕ
+told_text word sequence token = text_of_record (told_fields word sequence token)
+
+-- `rollback,SEQ,TOKEN`
+abbrev pub rollback_text : State → List ℕ
+rollback_text state = told_text (codes "rollback") state.sequence state.token
+
+-- `state,SEQ,TOKEN`
+abbrev pub state_text : State → List ℕ
+state_text state = told_text (codes "state") state.sequence state.token
+
+-- `refused,CODE,Name`
+abbrev pub refused_fields : Refusal → Fields
+refused_fields refusal = codes "refused" ∷ decimal (refusal_code refusal) ∷ refusal_name refusal ∷ []
+
+abbrev pub refused_text : Refusal → List ℕ
+refused_text refusal = text_of_record (refused_fields refusal)
