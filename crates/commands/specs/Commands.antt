@@ -25,7 +25,9 @@ with_front c hearing = (c ∷ hearing.0, hearing.1)
 
 -- a batch with as many requests as its count is whole, and what follows goes on from there
 abbrev pub settled : BatchHead → List Request → (Place → Hearing) → Hearing
-settled head requests rest = if length requests == head.count then with_front (command.Batch (batch_of head requests)) (rest between) else rest (within head requests)
+settled head requests rest =
+    if length requests == head.count then with_front (command.Batch (batch_of head requests)) (rest between)
+    else rest (within head requests)
 
 -- a record that begins a command, or is one
 abbrev pub opened : Opening → (Place → Hearing) → Hearing

@@ -10,6 +10,8 @@ pub enum Control {
     RollbackTo(u64),
     /// The present state is told.
     State,
+    /// The image of the present state is written.
+    Image,
 }
 
 /// What a session is told to do.

@@ -53,5 +53,8 @@ pub(crate) fn opening_at(fields: &ByteRecord) -> Result<Opening, Slip>
     if has_text(fields, 0, b"T") {
         return Ok(Opening::Control(alone(fields, Control::State)?));
     }
+    if has_text(fields, 0, b"I") {
+        return Ok(Opening::Control(alone(fields, Control::Image)?));
+    }
     Ok(Opening::Batch(batch_head(fields)?))
 }

@@ -1,7 +1,9 @@
 -- The records that answer commands, beside those of a batch.
-use Rattle.std.specs.Prelude.{ℕ, List, [], ◌∷◌, codes, decimal}
+use Rattle.std.specs.Prelude.{ℕ, List, [], ◌∷◌, ◌++◌, codes, decimal, length}
+use Rattle.catalog.specs.CardMap.{Cards}
 use Rattle.executor.specs.Refusals.{refusal_code, refusal_name}
 use Rattle.executor.specs.declared.refusal.Refusal.{Refusal}
+use Rattle.loader.specs.StoredImage.{image_text}
 use Rattle.records.specs.Fields.{Fields}
 use Rattle.records.specs.Spelling.{text_of_record}
 use Rattle.runner.specs.Text.{token_digits}
@@ -28,6 +30,19 @@ rollback_text state = told_text (codes "rollback") state.sequence state.token
 -- `state,SEQ,TOKEN`
 abbrev pub state_text : State → List ℕ
 state_text state = told_text (codes "state") state.sequence state.token
+
+-- `image,SEQ,LENGTH`: the number of a state, and how many bytes its image has
+abbrev pub image_fields : ℕ → ℕ → Fields
+image_fields sequence count = codes "image" ∷ decimal sequence ∷ decimal count ∷ []
+
+abbrev pub image_head : ℕ → ℕ → List ℕ
+image_head sequence count = text_of_record (image_fields sequence count)
+
+-- and behind it the image
+abbrev pub image_answer : Cards → State → List ℕ
+image_answer cards state =
+    let image = image_text (record { cards = cards; rows = state.rows }) in
+    image_head state.sequence (length image) ++ image
 
 -- `refused,CODE,Name`
 abbrev pub refused_fields : Refusal → Fields

@@ -10,7 +10,7 @@ use Rattle.executor.specs.declared.refusal.Refusal.TheVariants as refusal
 use Rattle.requests.specs.declared.request.Batch.{Batch}
 use Rattle.rollback.specs.declared.pointed.TheConstants.{POINTS}
 use Rattle.runner.specs.Text.{batch_text}
-use Rattle.session.specs.AnswerText.{commit_text, refused_text, rollback_text, state_text}
+use Rattle.session.specs.AnswerText.{commit_text, image_answer, refused_text, rollback_text, state_text}
 
 -- ---- one command
 -- it is refused, for a reason that is one here, and the line is left as it was
@@ -35,12 +35,19 @@ AnswersRollback sequence old new text =
     (IsReturned sequence old new × (text ≡ rollback_text new.present))
     ⊎ (HasNone sequence old × Refuses (λ e. e ≡ refusal.NoSuchPoint) old new text)
 
+-- the image of the present state is written, where there is memory for it
+abbrev pub AnswersImage : Line → Line → List ℕ → Type 0
+AnswersImage old new text =
+    ((new ≡ old) × (text ≡ image_answer old.cards old.present))
+    ⊎ Refuses (λ e. e ≡ refusal.Memory) old new text
+
 -- a command, the line before and after it, and its answer
 abbrev pub Answers : Command → Line → Line → List ℕ → Type 0
 Answers (command.Batch batch) old new text = AnswersBatch batch old new text
 Answers (command.Control control.Commit) old new text = AnswersCommit old new text
 Answers (command.Control (control.RollbackTo sequence)) old new text = AnswersRollback sequence old new text
 Answers (command.Control control.State) old new text = (new ≡ old) × (text ≡ state_text old.present)
+Answers (command.Control control.Image) old new text = AnswersImage old new text
 
 -- ---- commands, one after the other
 abbrev pub AnswersAll : List Command → Line → Line → List ℕ → Type 0

@@ -4,7 +4,8 @@ ghost use Rattle.csv.specs.Records.{partial_of};
 ghost use Rattle.records.specs.Spelling.{AddsFields};
 ghost use Rattle.executor.specs.Refusals.{refusal_name};
 ghost use Rattle.runner.specs.Text.{token_digits};
-ghost use Rattle.session.specs.AnswerText.{commit_fields, commit_text, refused_fields, refused_text, told_fields, told_text};
+ghost use Rattle.session.specs.AnswerText.{commit_fields, commit_text, image_fields, image_head, refused_fields};
+ghost use Rattle.session.specs.AnswerText.{refused_text, told_fields, told_text};
 
 use csv::ByteRecord;
 use executor::Refusal;
@@ -65,6 +66,25 @@ pub(crate) fn told_text(
 {
     let mut fields = ByteRecord::new(alloc);
     push_told(&mut fields, word, sequence, token)?;
+    record_text(alloc, &fields)
+}
+
+/// Adds the fields of the record that stands before an image.
+fn push_image(fields: &mut ByteRecord, sequence: u64, count: u64) -> Result<(), Memory>
+    requires { partial_of fields.old ≡ [] }
+    ensures { OnOk result (AddsFields fields.old fields.new (image_fields sequence count)) }
+{
+    push(fields, b"image")?;
+    push_number(fields, sequence)?;
+    push_number(fields, count)
+}
+
+/// The record that stands before an image of so many bytes.
+pub(crate) fn image_head(alloc: Global, sequence: u64, count: usize) -> Result<Vec<u8>, Memory>
+    ensures { IfOk result (λ text. text.items ≡ image_head sequence count) }
+{
+    let mut fields = ByteRecord::new(alloc);
+    push_image(&mut fields, sequence, count as u64)?;
     record_text(alloc, &fields)
 }
 

@@ -1,10 +1,12 @@
 //! A command, and its answer.
-ghost use Rattle.std.specs.Prelude.{◌≤◌, IfOk};
-ghost use Rattle.session.specs.Answers.{Answers, AnswersBatch, AnswersCommit, AnswersRollback};
+ghost use Rattle.std.specs.Prelude.{◌≡◌, ◌≤◌, IfOk};
+ghost use Rattle.session.specs.Answers.{Answers, AnswersBatch, AnswersCommit, AnswersImage, AnswersRollback};
+ghost use Rattle.session.specs.AnswerText.{image_answer};
 
-use crate::answer_text::{commit_text, refused_text, told_text};
+use crate::answer_text::{commit_text, image_head, refused_text, told_text};
 use commands::{Command, Control};
-use executor::Executor;
+use executor::{Executor, Refusal};
+use loader::store_image;
 use requests::request::Batch;
 use runner::text::batch_text;
 use std::alloc::Global;
@@ -47,6 +49,26 @@ fn answer_rollback(alloc: Global, executor: &mut Executor, sequence: u64) -> Res
     }
 }
 
+/// The image of the present state, behind the record of its length.
+fn image_answer(alloc: Global, executor: &Executor) -> Result<Vec<u8>, Memory>
+    ensures { IfOk result (λ text. text.items ≡ image_answer executor.now.cards executor.now.present) }
+{
+    let mut image = Vec::new(alloc);
+    store_image(alloc, executor.catalog(), executor.store(), &mut image)?;
+    let mut text = image_head(alloc, executor.sequence(), image.len())?;
+    text.extend_from_slice(image.as_slice())?;
+    Ok(text)
+}
+
+fn answer_image(alloc: Global, executor: &Executor) -> Result<Vec<u8>, Memory>
+    ensures { IfOk result (λ text. AnswersImage executor.now executor.now text.items) }
+{
+    match image_answer(alloc, executor) {
+        Ok(text) => Ok(text),
+        Err(_) => refused_text(alloc, Refusal::Memory),
+    }
+}
+
 /// Does what a command says, or refuses it, and answers it. Where memory is refused for the answer, the command may have been done.
 pub(crate) fn answer<R: Threads + Sync, G: Gate>(
     rt: &R,
@@ -68,5 +90,6 @@ pub(crate) fn answer<R: Threads + Sync, G: Gate>(
         Command::Control(Control::State) => {
             told_text(alloc, b"state", executor.sequence(), &executor.token())
         }
+        Command::Control(Control::Image) => answer_image(alloc, executor),
     }
 }
