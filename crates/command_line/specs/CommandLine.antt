@@ -17,7 +17,7 @@ use Rattle.clap.specs.declared.error.kind.ErrorKind.{ErrorKind}
 use Rattle.clap.specs.declared.error.kind.ErrorKind.TheVariants.{DisplayHelp, DisplayVersion, OutOfMemory}
 use Rattle.clap.specs.declared.parser.matches.ArgMatches.{ArgMatches}
 use Rattle.command_line.specs.declared.line.Line.{Line}
-use Rattle.command_line.specs.declared.line.Line.TheVariants.{Check, Make, Run}
+use Rattle.command_line.specs.declared.line.Line.TheVariants.{Check, Make, Run, Serve}
 use Rattle.command_line.specs.declared.line.LineFault.{LineFault}
 use Rattle.command_line.specs.declared.line.LineFault.TheVariants.{Refused, Unread}
 
@@ -72,6 +72,10 @@ abbrev pub make_app : App
 make_app = with_rule (with_rule (with_rule (new_app (codes "make")) warehouses_rule) customers_rule)
     items_rule
 
+-- serve IMAGE [--workers N]
+abbrev pub serve_app : App
+serve_app = with_rule (with_rule (new_app (codes "serve")) image_rule) workers_rule
+
 -- the program without its subcommands, one of which has to be given; it has a version
 abbrev pub bare_app : App
 bare_app = on_top (λ shape. record shape { subcommand_required = true; has_version = true }) (new_app (codes "eve-tpcc"))
@@ -79,8 +83,8 @@ bare_app = on_top (λ shape. record shape { subcommand_required = true; has_vers
 -- the program
 abbrev pub program_app : App
 program_app =
-    with_subcommand (with_subcommand (with_subcommand bare_app run_app.top) check_app.top)
-    make_app.top
+    with_subcommand (with_subcommand (with_subcommand (with_subcommand bare_app run_app.top) check_app.top)
+    make_app.top) serve_app.top
 
 -- an argument of this form, of its own command alone
 abbrev pub IsArgument : Rule → Arg → Type 0
@@ -120,6 +124,8 @@ IsLineOf (Check image) met = (met.0 ≡ codes "check") × HasText met.1 (codes "
 IsLineOf (Make warehouses customers items) met =
     (met.0 ≡ codes "make") × HasNumber met.1 (codes "W") warehouses
     × HasNumber met.1 (codes "C") customers × HasNumber met.1 (codes "I") items
+IsLineOf (Serve image workers) met =
+    (met.0 ≡ codes "serve") × HasText met.1 (codes "IMAGE") image × HasNumber met.1 (codes "workers") workers
 
 -- the numbers of the line are within their bounds
 abbrev pub IsWithinBounds : Line → Type 0
@@ -127,6 +133,7 @@ IsWithinBounds (Run image batches workers) = IsInRange 1 64 workers
 IsWithinBounds (Check image) = ⊤
 IsWithinBounds (Make warehouses customers items) =
     IsInRange 1 100 warehouses × IsInRange 1 3000 customers × IsInRange 1 100000 items
+IsWithinBounds (Serve image workers) = IsInRange 1 64 workers
 
 -- ---- why the words are no line
 

@@ -4,7 +4,7 @@ ghost use Rattle.clap.specs.Words.{new_app};
 ghost use Rattle.clap.specs.declared.builder.value_parser.ValueParser.TheVariants.{Signed};
 ghost use Rattle.command_line.specs.CommandLine.{IsArgument, IsCommand, bare_app, check_app, make_app};
 ghost use Rattle.command_line.specs.CommandLine.{number_rule, program_app, ranged_rule, required_rule, run_app};
-ghost use Rattle.command_line.specs.CommandLine.{workers_rule};
+ghost use Rattle.command_line.specs.CommandLine.{serve_app, workers_rule};
 
 use clap::builder::ValueParser;
 use clap::{Arg, Command, value_parser};
@@ -99,6 +99,18 @@ fn make<'a>(alloc: Global) -> Result<Command<'a>, AllocError>
         .arg(number(alloc, "I", 100_000, "The number of items, 1 to 100000"))
 }
 
+fn serve<'a>(alloc: Global) -> Result<Command<'a>, AllocError>
+    ensures { IfOk result (IsCommand serve_app) }
+{
+    described(
+        alloc,
+        "serve",
+        "Answers commands from standard input, one by one, on the database of an image",
+    )
+    .arg(required(alloc, "IMAGE", IMAGE))?
+    .arg(workers(alloc))
+}
+
 // The program without its subcommands. Its name stands in the usage as it is given here, whatever
 // the first word is.
 fn bare<'a>(alloc: Global) -> Result<Command<'a>, AllocError>
@@ -118,8 +130,10 @@ pub fn program<'a>(alloc: Global) -> Result<Command<'a>, AllocError>
     let run = run(alloc)?;
     let check = check(alloc)?;
     let make = make(alloc)?;
+    let serve = serve(alloc)?;
     bare(alloc)?
         .subcommand(run)?
         .subcommand(check)?
-        .subcommand(make)
+        .subcommand(make)?
+        .subcommand(serve)
 }

@@ -37,6 +37,13 @@ pub enum Line {
         /// The number of items.
         items: u32,
     },
+    /// To answer commands on the database of an image.
+    Serve {
+        /// The path of the image.
+        image: String,
+        /// The number of workers: 1 where it isn't given.
+        workers: Workers,
+    },
 }
 
 /// Why the words are no line.

@@ -81,6 +81,17 @@ fn make_in(matches: &ArgMatches) -> Option<Line>
     })
 }
 
+fn serve_in(alloc: Global, matches: &ArgMatches) -> Option<Line>
+    ensures line { IfSome result (λ line. IsLineOf line (codes "serve", rows_in matches.now)) }
+    ensures bounds { IfSome result IsWithinBounds }
+{
+    let workers = number_of(matches, "workers", 1, 64)?;
+    Some(Line::Serve {
+        image: text_of(alloc, matches, "IMAGE")?,
+        workers: Workers::new(workers as usize)?,
+    })
+}
+
 /// The line of the subcommand that was met. None where memory runs out, or where `clap` has no value for one of its
 /// arguments.
 pub fn line_in(alloc: Global, matches: &ArgMatches) -> Option<Line>
@@ -92,6 +103,7 @@ pub fn line_in(alloc: Global, matches: &ArgMatches) -> Option<Line>
         ("run", run) => run_in(alloc, run),
         ("check", check) => check_in(alloc, check),
         ("make", make) => make_in(make),
+        ("serve", serve) => serve_in(alloc, serve),
         _ => None,
     }
 }

@@ -7,6 +7,8 @@ ghost use Rattle.tpcc_rows.specs.Limits.{IsBetween};
 use command_line::{Line, LineFault, line_of, line_status};
 use records::io::Counting;
 use runner::{RunFault, check_text, fault_line, make_text, run_text};
+use session::serve;
+use std::io::Input;
 use std::process::ExitCode;
 use std::rt::{Env, Files};
 use std::thread::Threads;
@@ -93,6 +95,34 @@ fn make<R: Print + Eprint + AllocGlobal>(
     }
 }
 
+fn serve_commands<R: Files + Input + Print + Eprint + AllocGlobal + Threads + Sync>(
+    rt: &R,
+    image: &str,
+    workers: Workers,
+) -> ExitCode
+where
+    R::File: Drop,
+{
+    let Ok(image_file) = fs::open(rt, image) else {
+        return cannot_open(rt, image);
+    };
+    let mut image_source = Counting::new(image_file);
+    let mut output = Counting::new(io::writer(rt));
+    let served = serve(
+        rt,
+        rt.alloc(),
+        &mut image_source,
+        rt.reader(),
+        &mut output,
+        workers,
+        &NoGate,
+    );
+    match served {
+        Ok(()) => ExitCode::SUCCESS,
+        Err(fault) => report(rt, &fault),
+    }
+}
+
 fn words<R: Env + AllocGlobal>(rt: &R) -> io::Result<Vec<String>> {
     Ok(env::args(rt)?.collect(rt.alloc())?)
 }
@@ -117,6 +147,7 @@ fn main(rt: HostRuntime) -> ExitCode {
                 items,
             },
         ) => make(&rt, warehouses, customers, items),
+        Ok(Line::Serve { image, workers }) => serve_commands(&rt, image.as_str(), workers),
         Err(fault) => {
             let status = line_status(&fault);
             if let LineFault::Refused(error) = fault {

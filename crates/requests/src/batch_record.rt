@@ -15,11 +15,11 @@ const MOST_REQUESTS: u64 = 1_024;
 
 /// What the first record of a batch says.
 #[derive(Clone, Copy)]
-pub(crate) struct BatchHead {
-    pub(crate) moment: Moment,
-    pub(crate) verdict: Verdict,
+pub struct BatchHead {
+    pub moment: Moment,
+    pub verdict: Verdict,
     /// How many requests follow.
-    pub(crate) count: u64,
+    pub count: u64,
 }
 
 fn verdict(fields: &ByteRecord, i: usize) -> Result<Verdict, Slip>
@@ -60,7 +60,7 @@ fn head_parts(fields: &ByteRecord) -> Result<BatchHead, Slip>
 }
 
 /// What the record says that begins a batch.
-pub(crate) fn batch_head(fields: &ByteRecord) -> Result<BatchHead, Slip>
+pub fn batch_head(fields: &ByteRecord) -> Result<BatchHead, Slip>
     ensures value { result ≡ head_at (fields_of fields.now) }
     ensures range { IfOk result (λ head. head.count ≤ 1024) }
 {

@@ -2,16 +2,16 @@
 #![tactic(auto)]
 
 pub mod batch_reader;
-mod batch_record;
+pub mod batch_record;
 pub mod laws;
 pub mod number;
-mod reading;
+pub mod reading;
 pub mod reply;
 pub mod reply_text;
 pub mod request;
 pub mod request_fields;
 mod request_limits;
-mod request_record;
+pub mod request_record;
 
 pub use batch_reader::BatchReader;
 pub use number::{OrderedQuantity, PaymentAmount, Threshold};

@@ -14,7 +14,8 @@ use records::fault::{ReadError, Slip};
 use records::reading::next_record;
 use std::alloc::Global;
 
-fn fault(number: u64, slip: Slip) -> ReadError
+/// The fault of the record of this number.
+pub fn fault(number: u64, slip: Slip) -> ReadError
     ensures { result ≡ fault_of number slip }
 {
     match slip {

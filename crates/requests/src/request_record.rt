@@ -128,7 +128,7 @@ fn stock_level(fields: &ByteRecord) -> Result<StockLevel, Slip>
 }
 
 /// What a record says that is to be a request.
-pub(crate) fn request(fields: &ByteRecord) -> Result<Request, Slip>
+pub fn request(fields: &ByteRecord) -> Result<Request, Slip>
     ensures { result ≡ request_at (fields_of fields.now) }
 {
     if has_text(fields, 0, b"N") {

@@ -6,7 +6,7 @@ pub mod fault;
 mod make;
 mod run;
 mod serving;
-mod text;
+pub mod text;
 
 pub use check::check_text;
 pub use fault::{RunFault, fault_line};

@@ -37,7 +37,7 @@ fn write_replies(
 
 /// A token in hexadecimal digits.
 #[tactic(auto, unfolding(crate::specs::Text::token_digits))]
-pub(crate) fn digits_of(token: &[u8; 32]) -> [u8; 64]
+pub fn digits_of(token: &[u8; 32]) -> [u8; 64]
     ensures { result ≡ token_digits token.now }
 {
     let mut digits = [0; 64];
@@ -103,7 +103,7 @@ fn batch_record_text(
 }
 
 /// The text of a batch that did this.
-pub(crate) fn batch_text(alloc: Global, done: &Record) -> Result<Vec<u8>, Memory>
+pub fn batch_text(alloc: Global, done: &Record) -> Result<Vec<u8>, Memory>
     requires low { 1 ≤ done.now.first }
     requires high { done.now.first + length done.now.replies.items ≤ END_OF_NUMBERS }
     ensures { IfOk result (λ v. v.items ≡ replies_text done.now.first done.now.replies.items

@@ -6,7 +6,7 @@ use command_line::{Line, LineFault, line_of, line_status};
 use std::alloc::{AllocError, Global};
 
 /// Lines that are taken, that are refused, and that ask for help or the version.
-const LINES: [&str; 60] = [
+const LINES: [&str; 66] = [
     "eve-tpcc run image.csv batches.csv",
     "eve-tpcc run image.csv batches.csv --workers 2",
     "eve-tpcc run image.csv batches.csv --workers=64",
@@ -67,15 +67,22 @@ const LINES: [&str; 60] = [
     "eve-tpcc help make",
     "eve-tpcc make --help",
     "eve-tpcc make 1 -h",
+    "eve-tpcc serve image.csv",
+    "eve-tpcc serve --workers 8 image.csv",
+    "eve-tpcc serve",
+    "eve-tpcc serve a b",
+    "eve-tpcc serve a --workers 0",
+    "eve-tpcc help serve",
 ];
 
 /// Lines whose whole text is printed, of a program that was started by another name.
-const TEXTS: [&str; 12] = [
+const TEXTS: [&str; 13] = [
     "out/eve_tpcc --help",
     "out/eve_tpcc --version",
     "out/eve_tpcc run --help",
     "out/eve_tpcc check --help",
     "out/eve_tpcc make --help",
+    "out/eve_tpcc serve --help",
     "out/eve_tpcc run a",
     "out/eve_tpcc run a --workers 2",
     "out/eve_tpcc make 1 0 1",
@@ -110,6 +117,7 @@ fn print_line<R: Print>(rt: &R, line: &Line) {
             customers,
             items,
         } => println!(rt; "make {warehouses} {customers} {items}"),
+        Line::Serve { image, workers } => println!(rt; "serve {image} {}", workers.count()),
     };
 }
 

@@ -1,0 +1,3 @@
+pub mod CommandRecords
+pub mod Commands
+pub mod Reader

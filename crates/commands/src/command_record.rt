@@ -1,0 +1,60 @@
+//! The record that begins a command.
+ghost use Rattle.std.specs.Prelude.{◌≡◌, IfOk};
+ghost use Rattle.csv.specs.Records.{fields_of};
+ghost use Rattle.commands.specs.CommandRecords.{IsShortOpening, alone_at, opening_at, rollback_at};
+
+use crate::command::Control;
+use csv::ByteRecord;
+use records::fault::Slip;
+use records::fields::{has_text, number_at};
+use requests::batch_record::{BatchHead, batch_head};
+
+/// The greatest number of a state to go back to.
+const LAST_SEQUENCE: u64 = 999_999_999_999_999;
+
+/// What the first record of a command says: a batch begins, or it is the whole command.
+#[derive(Clone, Copy)]
+pub(crate) enum Opening {
+    Batch(BatchHead),
+    Control(Control),
+}
+
+/// The number of a state, in the second of two fields.
+fn rollback(fields: &ByteRecord) -> Result<Control, Slip>
+    ensures { result ≡ rollback_at (fields_of fields.now) }
+{
+    if fields.len() != 2 {
+        return Err(Slip::WrongCount);
+    }
+    Ok(Control::RollbackTo(number_at(fields, 1, 0, LAST_SEQUENCE)?))
+}
+
+/// A command that is one field.
+fn alone(fields: &ByteRecord, control: Control) -> Result<Control, Slip>
+    ensures { result ≡ alone_at (fields_of fields.now) control }
+{
+    if fields.len() != 1 {
+        return Err(Slip::WrongCount);
+    }
+    Ok(control)
+}
+
+/// What the record says that begins a command.
+pub(crate) fn opening_at(fields: &ByteRecord) -> Result<Opening, Slip>
+    ensures value { result ≡ opening_at (fields_of fields.now) }
+    ensures range { IfOk result IsShortOpening }
+{
+    if has_text(fields, 0, b"C") {
+        return Ok(Opening::Control(alone(fields, Control::Commit)?));
+    }
+    if has_text(fields, 0, b"R") {
+        return Ok(Opening::Control(rollback(fields)?));
+    }
+    if has_text(fields, 0, b"T") {
+        return Ok(Opening::Control(alone(fields, Control::State)?));
+    }
+    if has_text(fields, 0, b"I") {
+        return Ok(Opening::Control(alone(fields, Control::Image)?));
+    }
+    Ok(Opening::Batch(batch_head(fields)?))
+}

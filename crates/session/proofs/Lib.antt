@@ -1,0 +1,4 @@
+pub mod NumberLemmas
+pub mod SessionLemmas
+pub mod SerialSessions
+pub mod WholeSessions

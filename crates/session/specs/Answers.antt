@@ -1,0 +1,56 @@
+-- What commands do to an executor's line, and the text that answers them.
+use Rattle.std.specs.Prelude.{◌≡◌, ◌⊎◌, ℕ, List, [], ◌∷◌, ◌++◌, None, Some, map, slice_get}
+use Rattle.commands.specs.declared.command.Command.{Command}
+use Rattle.commands.specs.declared.command.Command.TheVariants as command
+use Rattle.commands.specs.declared.command.Control.TheVariants as control
+use Rattle.executor.specs.Executions.{IsRefusedFor, refusal_for}
+use Rattle.executor.specs.Lines.{HasNone, IsReturned, Line, committed, extended, states}
+use Rattle.executor.specs.declared.refusal.Refusal.{Refusal}
+use Rattle.executor.specs.declared.refusal.Refusal.TheVariants as refusal
+use Rattle.requests.specs.declared.request.Batch.{Batch}
+use Rattle.rollback.specs.declared.pointed.TheConstants.{POINTS}
+use Rattle.runner.specs.Text.{batch_text}
+use Rattle.session.specs.AnswerText.{commit_text, image_answer, refused_text, rollback_text, state_text}
+
+-- ---- one command
+-- it is refused, for a reason that is one here, and the line is left as it was
+abbrev pub Refuses : (Refusal → Type 0) → Line → Line → List ℕ → Type 0
+Refuses IsReason old new text = (e : Refusal) × IsReason e × (new ≡ old) × (text ≡ refused_text e)
+
+-- the batch is executed, and its text is that of one thread; or it is refused, for memory where nothing else is against it
+abbrev pub AnswersBatch : Batch → Line → Line → List ℕ → Type 0
+AnswersBatch batch old new text =
+    ((refusal_for POINTS old batch ≡ None) × (new ≡ extended old batch) × (text ≡ batch_text old.cards old.present batch))
+    ⊎ Refuses (IsRefusedFor (refusal_for POINTS old batch)) old new text
+
+-- the oldest uncommitted batch is committed; there may be none
+abbrev pub AnswersCommit : Line → Line → List ℕ → Type 0
+AnswersCommit old new text =
+    ((sequence : ℕ) × (slice_get (map (λ state. state.sequence) (states old)) 1 ≡ Some sequence) × (new ≡ committed old) × (text ≡ commit_text sequence))
+    ⊎ ((old.earlier ≡ []) × Refuses (λ e. e ≡ refusal.NoSuchPoint) old new text)
+
+-- the state of this number is the present one again; there may be none of this number
+abbrev pub AnswersRollback : ℕ → Line → Line → List ℕ → Type 0
+AnswersRollback sequence old new text =
+    (IsReturned sequence old new × (text ≡ rollback_text new.present))
+    ⊎ (HasNone sequence old × Refuses (λ e. e ≡ refusal.NoSuchPoint) old new text)
+
+-- the image of the present state is written, where there is memory for it
+abbrev pub AnswersImage : Line → Line → List ℕ → Type 0
+AnswersImage old new text =
+    ((new ≡ old) × (text ≡ image_answer old.cards old.present))
+    ⊎ Refuses (λ e. e ≡ refusal.Memory) old new text
+
+-- a command, the line before and after it, and its answer
+abbrev pub Answers : Command → Line → Line → List ℕ → Type 0
+Answers (command.Batch batch) old new text = AnswersBatch batch old new text
+Answers (command.Control control.Commit) old new text = AnswersCommit old new text
+Answers (command.Control (control.RollbackTo sequence)) old new text = AnswersRollback sequence old new text
+Answers (command.Control control.State) old new text = (new ≡ old) × (text ≡ state_text old.present)
+Answers (command.Control control.Image) old new text = AnswersImage old new text
+
+-- ---- commands, one after the other
+abbrev pub AnswersAll : List Command → Line → Line → List ℕ → Type 0
+AnswersAll [] old new text = (new ≡ old) × (text ≡ [])
+AnswersAll (c ∷ commands) old new text =
+    (between : Line) × (first rest : List ℕ) × Answers c old between first × AnswersAll commands between new rest × (text ≡ first ++ rest)

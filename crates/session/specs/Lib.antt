@@ -1,0 +1,4 @@
+pub mod AnswerText
+pub mod Answers
+pub mod Sessions
+pub mod Laws

@@ -1,0 +1,75 @@
+-- What a session leaves behind, for each of its answers.
+use Rattle.std.specs.Prelude.{◌≡◌, ◌⊎◌, ℕ, List, ◌++◌, Ok}
+use Rattle.std.specs.Io.KnownBytes.{Appends, Keeps}
+use Rattle.commands.specs.Commands.{Hearing, commands}
+use Rattle.commands.specs.declared.command.Command.{Command}
+use Rattle.executor.specs.Lines.{Line, opening_line}
+use Rattle.executor.specs.declared.refusal.Refusal.TheVariants as refusal
+use Rattle.loader.specs.Image.{image}
+use Rattle.records.specs.Io.{AppendsFront}
+use Rattle.records.specs.declared.fault.ReadError.TheVariants as read_error
+use Rattle.requests.specs.Batches.{clean, fault}
+use Rattle.runner.specs.Runs.{Taken}
+use Rattle.runner.specs.WholeRuns.{IsImageFault}
+use Rattle.runner.specs.declared.fault.RunFault.{RunFault}
+use Rattle.runner.specs.declared.fault.RunFault.TheVariants as run_fault
+use Rattle.session.specs.Answers.{Answers, AnswersAll}
+use Rattle.tpcc_model.specs.Database.{Database}
+
+-- these commands were answered, and no other byte was written
+abbrev pub Answered : List Command → Line → Taken → Taken → Type 0
+Answered commands line old new = (last : Line) × (text : List ℕ) × AnswersAll commands line last text × Appends old new text
+
+-- all commands were answered, and no fault came behind them
+abbrev pub Served : Line → Hearing → Taken → Taken → Type 0
+Served line hearing old new = (hearing.1 ≡ clean) × Answered hearing.0 line old new
+
+-- the first of the commands were answered
+abbrev pub AnsweredSome : Line → List Command → Taken → Taken → Type 0
+AnsweredSome line commands old new = (done rest : List Command) × (commands ≡ done ++ rest) × Answered done line old new
+
+-- a beginning of the answers to the first of the commands was written
+abbrev pub AnsweredFront : Line → List Command → Taken → Taken → Type 0
+AnsweredFront line commands old new =
+    (done rest : List Command) × (commands ≡ done ++ rest) × (last : Line) × (text : List ℕ) × AnswersAll done line last text × AppendsFront old new text
+
+-- what a session leaves that ended early: at a fault of the text all commands before it were answered; where the bytes couldn't be
+-- read or memory was refused, all commands so far
+abbrev pub LeavesSession : RunFault → Line → Hearing → Taken → Taken → Type 0
+LeavesSession (run_fault.Read e) line hearing old new =
+    ((hearing.1 ≡ fault e) × Answered hearing.0 line old new)
+    ⊎ (((e ≡ read_error.Memory) ⊎ (e ≡ read_error.Read)) × AnsweredSome line hearing.0 old new)
+LeavesSession run_fault.Memory line hearing old new = AnsweredSome line hearing.0 old new
+LeavesSession run_fault.Write line hearing old new = AnsweredFront line hearing.0 old new
+LeavesSession _ line hearing old new = ⊥
+
+-- ---- one command
+-- it was answered, and the answer written
+abbrev pub IsAnswered : Command → Line → Line → Taken → Taken → Type 0
+IsAnswered c line last old new = (text : List ℕ) × Answers c line last text × Appends old new text
+
+-- what is left where it wasn't: nothing was written, or a beginning of the answer
+abbrev pub LeavesAnswer : RunFault → Command → Line → Taken → Taken → Type 0
+LeavesAnswer run_fault.Memory c line old new = Keeps old new
+LeavesAnswer run_fault.Write c line old new = (last : Line) × (text : List ℕ) × Answers c line last text × AppendsFront old new text
+LeavesAnswer _ c line old new = ⊥
+
+-- ---- from the bytes of an image and of commands
+-- the image gives a database, on which all commands were answered
+abbrev pub ServedWhole : List ℕ → List ℕ → Taken → Taken → Type 0
+ServedWhole image_bytes command_bytes old new =
+    (db : Database) × (image image_bytes ≡ Ok db) × Served (opening_line db.cards db.rows) (commands command_bytes) old new
+
+-- what is left where a session on an image ended early
+abbrev pub LeavesWhole : RunFault → List ℕ → List ℕ → Taken → Taken → Type 0
+LeavesWhole (run_fault.Load e) image_bytes command_bytes old new = IsImageFault e image_bytes × Keeps old new
+LeavesWhole (run_fault.Exec refusal.Memory) image_bytes command_bytes old new = Keeps old new
+LeavesWhole reason image_bytes command_bytes old new =
+    (db : Database) × (image image_bytes ≡ Ok db) × LeavesSession reason (opening_line db.cards db.rows) (commands command_bytes) old new
+
+-- the faults of a session on a database
+abbrev pub IsOfSession : RunFault → Type 0
+IsOfSession (run_fault.Read e) = Unit {0}
+IsOfSession run_fault.Memory = Unit {0}
+IsOfSession run_fault.Write = Unit {0}
+IsOfSession _ = ⊥

@@ -1,0 +1,95 @@
+//! A command, and its answer.
+ghost use Rattle.std.specs.Prelude.{◌≡◌, ◌≤◌, IfOk};
+ghost use Rattle.session.specs.Answers.{Answers, AnswersBatch, AnswersCommit, AnswersImage, AnswersRollback};
+ghost use Rattle.session.specs.AnswerText.{image_answer};
+
+use crate::answer_text::{commit_text, image_head, refused_text, told_text};
+use commands::{Command, Control};
+use executor::{Executor, Refusal};
+use loader::store_image;
+use requests::request::Batch;
+use runner::text::batch_text;
+use std::alloc::Global;
+use std::thread::Threads;
+use tpcc_rows::memory::Memory;
+use workers::{Gate, Workers};
+
+fn answer_batch<R: Threads + Sync, G: Gate>(
+    rt: &R,
+    alloc: Global,
+    executor: &mut Executor,
+    batch: &Batch,
+    workers: Workers,
+    gate: &G,
+) -> Result<Vec<u8>, Memory>
+    requires { 1 ≤ executor.old.present.next }
+    ensures { IfOk result (λ text. AnswersBatch batch.now executor.old executor.new text.items) }
+{
+    match executor.execute(rt, alloc, batch, workers, gate) {
+        Ok(record) => batch_text(alloc, &record),
+        Err(refusal) => refused_text(alloc, refusal),
+    }
+}
+
+fn answer_commit(alloc: Global, executor: &mut Executor) -> Result<Vec<u8>, Memory>
+    ensures { IfOk result (λ text. AnswersCommit executor.old executor.new text.items) }
+{
+    match executor.commit() {
+        Ok(sequence) => commit_text(alloc, sequence),
+        Err(refusal) => refused_text(alloc, refusal),
+    }
+}
+
+fn answer_rollback(alloc: Global, executor: &mut Executor, sequence: u64) -> Result<Vec<u8>, Memory>
+    ensures { IfOk result (λ text. AnswersRollback sequence executor.old executor.new text.items) }
+{
+    match executor.rollback_to(sequence) {
+        Ok(()) => told_text(alloc, b"rollback", executor.sequence(), &executor.token()),
+        Err(refusal) => refused_text(alloc, refusal),
+    }
+}
+
+/// The image of the present state, behind the record of its length.
+fn image_answer(alloc: Global, executor: &Executor) -> Result<Vec<u8>, Memory>
+    ensures { IfOk result (λ text. text.items ≡ image_answer executor.now.cards executor.now.present) }
+{
+    let mut image = Vec::new(alloc);
+    store_image(alloc, executor.catalog(), executor.store(), &mut image)?;
+    let mut text = image_head(alloc, executor.sequence(), image.len())?;
+    text.extend_from_slice(image.as_slice())?;
+    Ok(text)
+}
+
+fn answer_image(alloc: Global, executor: &Executor) -> Result<Vec<u8>, Memory>
+    ensures { IfOk result (λ text. AnswersImage executor.now executor.now text.items) }
+{
+    match image_answer(alloc, executor) {
+        Ok(text) => Ok(text),
+        Err(_) => refused_text(alloc, Refusal::Memory),
+    }
+}
+
+/// Does what a command says, or refuses it, and answers it. Where memory is refused for the answer, the command may have been done.
+pub(crate) fn answer<R: Threads + Sync, G: Gate>(
+    rt: &R,
+    alloc: Global,
+    executor: &mut Executor,
+    command: &Command,
+    workers: Workers,
+    gate: &G,
+) -> Result<Vec<u8>, Memory>
+    requires { 1 ≤ executor.old.present.next }
+    ensures { IfOk result (λ text. Answers command.now executor.old executor.new text.items) }
+{
+    match command {
+        Command::Batch(batch) => answer_batch(rt, alloc, executor, batch, workers, gate),
+        Command::Control(Control::Commit) => answer_commit(alloc, executor),
+        Command::Control(Control::RollbackTo(sequence)) => {
+            answer_rollback(alloc, executor, *sequence)
+        }
+        Command::Control(Control::State) => {
+            told_text(alloc, b"state", executor.sequence(), &executor.token())
+        }
+        Command::Control(Control::Image) => answer_image(alloc, executor),
+    }
+}

@@ -1,0 +1,12 @@
+//! Laws of sessions, as contracts of functions that do nothing but call other laws.
+ghost use Rattle.session.specs.Laws.{SessionsAreSerial};
+
+use executor::laws::line;
+
+/// Whatever commands were answered: each state of the line is the one that one thread leaves after the batches that are kept up to
+/// it.
+pub fn serial()
+    ensures { SessionsAreSerial }
+{
+    line();
+}

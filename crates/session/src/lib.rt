@@ -1,0 +1,9 @@
+//! A session: commands come in one by one, and each is answered before the next is read.
+#![tactic(auto)]
+
+mod answer_text;
+mod answering;
+pub mod laws;
+mod serving;
+
+pub use serving::serve;
