@@ -8,7 +8,7 @@ use crate::io::{Failed, Sink, Source};
 use std::alloc::Global;
 
 /// How many bytes are pulled at once.
-const CHUNK: usize = 65_536;
+const CHUNK: usize = 32_768;
 
 /// All that a source has left, of at most `limit` bytes.
 pub fn slurp<S: Source>(alloc: Global, source: &mut S, limit: usize) -> Result<Vec<u8>, ReadError>
