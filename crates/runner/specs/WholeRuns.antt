@@ -10,12 +10,17 @@ use Rattle.records.specs.declared.fault.ReadError.TheVariants as read_error
 use Rattle.runner.specs.Runs.{Left, Ran, Taken}
 use Rattle.runner.specs.declared.fault.RunFault.{RunFault}
 use Rattle.runner.specs.declared.fault.RunFault.TheVariants as run_fault
+use Rattle.catalog.specs.CardMap.{Cards}
 use Rattle.tpcc_model.specs.Database.{Database}
-use Rattle.tpcc_model.specs.Serial.{opening}
+use Rattle.tpcc_model.specs.Serial.{State, opening}
 
--- all batches were executed on the database and written, and no fault came behind them
+-- all batches were executed from the state on and written, and no fault came behind them
+abbrev pub RanFrom : Cards → State → List ℕ → Taken → Taken → ℕ → Type 0
+RanFrom cards state batch_bytes old new count = Ran cards state (batches batch_bytes) old new count
+
+-- the same on a database
 abbrev pub RanOn : Database → List ℕ → Taken → Taken → ℕ → Type 0
-RanOn db batch_bytes old new count = Ran db.cards (opening db.cards db.rows) (batches batch_bytes) old new count
+RanOn db batch_bytes old new count = RanFrom db.cards (opening db.cards db.rows) batch_bytes old new count
 
 -- the image gives a database, on which all batches were executed
 abbrev pub RanWhole : List ℕ → List ℕ → Taken → Taken → ℕ → Type 0
@@ -30,12 +35,16 @@ IsImageFault e image_bytes =
 abbrev pub IsInputFault : ReadError → List ℕ → Type 0
 IsInputFault e batch_bytes = (e ≡ read_error.Memory) ⊎ (e ≡ read_error.Read) ⊎ ((e ≡ read_error.InputTooLong) × (1073741824 < length batch_bytes))
 
+-- what a run from a state leaves that ended early
+abbrev pub LeavesState : RunFault → Cards → State → List ℕ → Taken → Taken → Type 0
+LeavesState (run_fault.Read e) cards state batch_bytes old new =
+    (IsInputFault e batch_bytes × Keeps old new)
+    ⊎ Left (run_fault.Read e) cards state (batches batch_bytes) old new
+LeavesState fault cards state batch_bytes old new = Left fault cards state (batches batch_bytes) old new
+
 -- what a run on a database leaves that ended early
 abbrev pub LeavesDatabase : RunFault → Database → List ℕ → Taken → Taken → Type 0
-LeavesDatabase (run_fault.Read e) db batch_bytes old new =
-    (IsInputFault e batch_bytes × Keeps old new)
-    ⊎ Left (run_fault.Read e) db.cards (opening db.cards db.rows) (batches batch_bytes) old new
-LeavesDatabase fault db batch_bytes old new = Left fault db.cards (opening db.cards db.rows) (batches batch_bytes) old new
+LeavesDatabase fault db batch_bytes old new = LeavesState fault db.cards (opening db.cards db.rows) batch_bytes old new
 
 -- the faults of a run on a database
 abbrev pub IsOfDatabase : RunFault → Type 0

@@ -1,7 +1,8 @@
 //! From the bytes of an image and of batches to the bytes of the replies.
-ghost use Rattle.std.specs.Prelude.{◌≡◌, ◌+◌, ◌<◌, ◌^◌, [], IfErr, IfOk, IfSome, if◌then◌else◌};
-ghost use Rattle.runner.specs.WholeRuns.{IsOfDatabase, LeavesDatabase, LeavesRun, RanOn, RanWhole, is_batches_read, is_image_read};
+ghost use Rattle.std.specs.Prelude.{◌≡◌, ◌+◌, ◌<◌, ◌≤◌, ◌^◌, [], IfErr, IfOk, IfSome, if◌then◌else◌};
+ghost use Rattle.runner.specs.WholeRuns.{IsOfDatabase, LeavesDatabase, LeavesRun, LeavesState, RanFrom, RanOn, RanWhole, is_batches_read, is_image_read};
 ghost use Rattle.runner.specs.Runs.{is_write};
+ghost use Rattle.executor.specs.States.{IsSoundState};
 ghost use Rattle.tpcc_model.specs.Soundness.{IsSound};
 
 use crate::fault::RunFault;
@@ -19,6 +20,36 @@ use workers::{Gate, Workers};
 
 /// The most bytes of batches.
 const MOST_BATCH_BYTES: usize = 1_073_741_824;
+
+/// Reads all bytes of batches, and runs them on the state that an executor has.
+fn run_read<R: Threads + Sync, B: Source, S: Sink, G: Gate>(
+    rt: &R,
+    alloc: Global,
+    executor: &mut Executor,
+    batches: &mut B,
+    sink: &mut S,
+    workers: Workers,
+    gate: &G,
+) -> Result<u64, RunFault>
+    requires alone { executor.old.earlier ≡ [] }
+    requires sound { IsSoundState executor.old.cards executor.old.present }
+    requires low { 1 ≤ executor.old.present.next }
+    requires batches { B.failed batches.old < 2 ^ 63 }
+    requires sink { S.failed sink.old < 2 ^ 63 }
+    ensures ok { IfOk result (λ count. IfSome (B.left batches.old) (λ batch_bytes.
+        RanFrom executor.old.cards executor.old.present batch_bytes (S.taken sink.old) (S.taken sink.new) count)) }
+    ensures err { IfErr result (λ e. IfSome (B.left batches.old) (λ batch_bytes.
+        LeavesState e executor.old.cards executor.old.present batch_bytes (S.taken sink.old) (S.taken sink.new))) }
+    ensures kinds { IfErr result IsOfDatabase }
+    ensures batches_failures { B.failed batches.new ≡ B.failed batches.old + (if is_batches_read result then 1 else 0) }
+    ensures sink_failures { S.failed sink.new ≡ S.failed sink.old + (if is_write result then 1 else 0) }
+{
+    let text = match slurp(alloc, batches, MOST_BATCH_BYTES) {
+        Ok(text) => text,
+        Err(error) => return Err(RunFault::Read(error)),
+    };
+    run_batches(rt, alloc, executor, text.as_slice(), sink, workers, gate)
+}
 
 /// Reads all bytes of batches, and runs them on a database.
 fn run_database<R: Threads + Sync, B: Source, S: Sink, G: Gate>(
@@ -47,19 +78,7 @@ fn run_database<R: Threads + Sync, B: Source, S: Sink, G: Gate>(
     let Ok(mut executor) = Executor::new(rt, alloc, catalog, store) else {
         return Err(RunFault::Exec(Refusal::Memory));
     };
-    let text = match slurp(alloc, batches, MOST_BATCH_BYTES) {
-        Ok(text) => text,
-        Err(error) => return Err(RunFault::Read(error)),
-    };
-    run_batches(
-        rt,
-        alloc,
-        &mut executor,
-        text.as_slice(),
-        sink,
-        workers,
-        gate,
-    )
+    run_read(rt, alloc, &mut executor, batches, sink, workers, gate)
 }
 
 /// Loads an image, reads all bytes of batches, and then reads, executes, commits and writes batch after batch. The answer is
