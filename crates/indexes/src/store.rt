@@ -11,9 +11,9 @@ ghost use Rattle.indexes.specs.declared.owner.Owner.TheVariants as owner;
 ghost use Rattle.indexes.specs.declared.place.TheConstants.{PLACES};
 
 use crate::district::DistrictIndex;
-use leaf_rows::LeafRows;
 use crate::owner::{Owner, owner_of};
 use crate::place::{PLACES, place};
+use leaf_rows::LeafRows;
 use std::alloc::Global;
 use std::collections::BTreeSet;
 use tpcc_rows::id::{CustomerId, DistrictId, OrderId, WarehouseId};

@@ -63,8 +63,8 @@ module _ {K X : Type 0} {R : K → K → Ordering} (total : IsTotalOrder R) (exa
         | inr less ↦
             let up : R k q ≡ Less = rising total es (sorted R es h) i j d less below in
             rises (R k key) (R q key)
-                (λ b. total.trans k q key up b)
-                (λ b. ap (λ x. R k x) (sym (exact q key b)) ∙ up)
+            (λ b. total.trans k q key up b)
+            (λ b. ap (λ x. R k x) (sym (exact q key b)) ∙ up)
       ]
 
   pub placed : (es : List (K × X)) (key : K) (place : Result ℕ ℕ) → are_in_order R es ≡ true → IsSearchInRange place (length es)

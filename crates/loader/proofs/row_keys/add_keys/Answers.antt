@@ -11,8 +11,8 @@ loop-key-preserved c =
     let e = c.loop-key-item.result in
     let left = drop (c.loop-key.key-index + 1) es in
     let here : IsAdding c.args.keys.now (map.entries c.args.page.now) (e ∷ left) c.loop-key.keys =
-        subst (λ rest. IsAdding c.args.keys.now (map.entries c.args.page.now) rest c.loop-key.keys)
-            (drop_more es c.loop-key.key-index e c.loop-key-test.true ∙ ap (λ x. x ∷ left) (sym c.loop-key-item.is)) c.loop-key.invariant in
+    subst (λ rest. IsAdding c.args.keys.now (map.entries c.args.page.now) rest c.loop-key.keys)
+    (drop_more es c.loop-key.key-index e c.loop-key-test.true ∙ ap (λ x. x ∷ left) (sym c.loop-key-item.is)) c.loop-key.invariant in
     elim c.if-stands_alone.branch [
       | then-stands_alone+in_ok-insert w ↦ subst (IsAdding c.args.keys.now (map.entries c.args.page.now) left) (sym w.keys-is)
           (adding-added c.args.keys.now (map.entries c.args.page.now) e left c.loop-key.keys here w.insert.new.self (sym c.stands_alone.ensures ∙ w.if-stands_alone.true) w.in_ok-insert.ensures.updates.0)

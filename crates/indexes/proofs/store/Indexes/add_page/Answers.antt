@@ -16,7 +16,7 @@ loop-key-preserved c = λ b q.
     let es = c.as_slice-key-items.result.now in
     let e = c.loop-key-item.result in
     let added : has c.add.new.self b q ≡ cond (is_entry b q e) true (has c.loop-key.self b q) =
-        c.in_ok-add.ensures.ok b q ∙ ap (λ o. cond (owns b q o && is_at (row_key_cmp e.0) q) true (has c.loop-key.self b q)) c.owner_of.ensures in
+    c.in_ok-add.ensures.ok b q ∙ ap (λ o. cond (owns b q o && is_at (row_key_cmp e.0) q) true (has c.loop-key.self b q)) c.owner_of.ensures in
     ap (λ t. list_any (is_entry b q) (drop (c.loop-key.key-index + 1) es) || t) added
     ∙ next-row b q es c.loop-key.key-index e (has c.loop-key.self b q) c.loop-key-test.true c.loop-key-item.is
     ∙ c.loop-key.invariant b q
