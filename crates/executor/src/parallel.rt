@@ -115,8 +115,9 @@ fn settle_level<R: Threads + Sync, G: Gate>(
     }
 }
 
-/// Threads pay where the levels of a batch have so many requests on average: to start one takes as long as to execute a few.
-const REQUESTS_A_LEVEL: usize = 8;
+/// Threads pay where the levels of a batch have so many requests on average: to start one takes as long as to execute a dozen or
+/// more, and each level starts its own.
+const REQUESTS_A_LEVEL: usize = 128;
 
 /// Whether so many requests are cut into levels that are too thin for threads.
 fn is_thin(cut: &Cut, requests: usize) -> bool {

@@ -1,6 +1,6 @@
 //! Rows in one piece of memory, in the order of their keys: a page is hashed and copied whole far more often than a row of it is
 //! put or removed, and has some hundred rows.
-ghost use Rattle.std.specs.Prelude.{◌≡◌, ◌<◌, ◌≤◌, ◌^◌, IfOk, IfSome, OnOk, OnErr, length, option_copied, true};
+ghost use Rattle.std.specs.Prelude.{◌≡◌, ◌<◌, ◌≤◌, ◌^◌, IfOk, IfSome, OnOk, OnErr, is_some, length, option_copied, true};
 ghost use Rattle.std.specs.FinMap as map;
 ghost use Rattle.std.specs.List.{insert, list_all, slice_set};
 ghost use Rattle.tpcc_rows.specs.Changing.{with_each};
@@ -106,6 +106,18 @@ impl LeafRows {
                 Ok(())
             }
             Err(place) => insert(&mut self.rows, place, (key, row)),
+        }
+    }
+
+    /// The key, which has a row, has this one from now on. It takes no memory.
+    pub fn replace(&mut self, key: RowKey, row: Row)
+        requires kind { fits key row ≡ true }
+        requires there { is_some (map.get self.old key) ≡ true }
+        ensures { self.new ≡ map.insert self.old key row }
+    {
+        match place_of(&self.rows, &key) {
+            Ok(place) => replace(&mut self.rows, place, (key, row)),
+            Err(_) => unreachable!(),
         }
     }
 

@@ -14,8 +14,8 @@ use tpcc_rows::codes::LEAVES;
 /// take the time of the longest of them.
 const WINDOW: usize = 16;
 
-/// How many leaves one thread takes at least: so many that it is worth its start.
-const LEAVES_AT_ONCE: usize = 64;
+/// How many rows one thread takes at least: so many that it is worth its start, which costs a few hundred of them.
+const ROWS_AT_ONCE: usize = 4096;
 
 /// Prefetches the rows of some leaves, and notes how many bytes suffice for each.
 fn measure(jobs: &mut [Job], store: &PointedStore)
@@ -120,11 +120,22 @@ fn hash_leaves(jobs: &mut [Job], store: &PointedStore)
     }
 }
 
-/// How many leaves each thread takes, so that they are shared out evenly, in whole windows.
-fn share(leaves: usize, threads: usize) -> usize
+/// How many rows some leaves have.
+fn rows_of(jobs: &[Job], store: &PointedStore) -> usize
+    requires { All (λ job. job.place < LEAVES) jobs.now }
+{
+    let mut rows = 0usize;
+    for k in 0..jobs.len() {
+        rows = rows.saturating_add(store.page(jobs[k].place).len());
+    }
+    rows
+}
+
+/// How many leaves of so many rows each thread takes, so that they are shared out evenly, in whole windows.
+fn share(leaves: usize, rows: usize, threads: usize) -> usize
     ensures { 0 < result }
 {
-    let useful = (leaves / LEAVES_AT_ONCE).clamp(1, threads.max(1));
+    let useful = (rows / ROWS_AT_ONCE).clamp(1, threads.max(1));
     leaves.div_ceil(WINDOW).div_ceil(useful).clamp(1, LEAVES) * WINDOW
 }
 
@@ -133,10 +144,11 @@ fn hash_leaves_on<R: Threads + Sync>(rt: &R, jobs: &mut [Job], store: &PointedSt
     requires { All (λ job. job.place < LEAVES) jobs.old }
     ensures { IsDone (leaf_hash store.now.rows) jobs.old jobs.new }
 {
+    let rows = rows_of(jobs, store);
     thread::for_each_chunk_mut(
         rt,
         jobs,
-        share(jobs.len(), threads),
+        share(jobs.len(), rows, threads),
         &|_: usize, part: &mut [Job]|
             requires { All (λ job. job.place < LEAVES) part.old }
             ensures { IsDone (leaf_hash store.entry.now.rows) part.old part.new }

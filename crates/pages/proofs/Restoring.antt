@@ -1,11 +1,12 @@
--- Saved pages moved back, and rows that change while these are saved.
-use Rattle.std.proofs.Common.{◌≡◌, ◌<◌, ℕ, eqb, Bool, true, false, cond, not, ◌||◌, inl, inr, List, [], ◌∷◌, ◌++◌, length, set, Option, Some, None, IfSome, IfNone, refl, sym, ap, ◌∙◌, arith}
+-- Rows and pages moved back, and rows that change while these are saved.
+use Rattle.std.proofs.Common.{◌≡◌, ◌<◌, ℕ, eqb, Bool, true, false, cond, not, is_some, ◌||◌, inl, inr, List, [], ◌∷◌, ◌++◌, length, set, Option, Some, None, IfSome, IfNone, refl, sym, ap, ap₂, subst, ◌∙◌, arith}
 use Rattle.std.proofs.lemmas.Bool.{cases_Bool, eqb-true, eq-eqb}
+use Rattle.std.proofs.lemmas.Cmp.{tied_itself}
 use Rattle.std.proofs.lemmas.List.{length-set}
 use Rattle.std.specs.FinMap as map
 use Rattle.std.specs.FinMap.{get, entries, find, same_map, get-entries, get-from_entries, get-retain_keys}
 use Rattle.std.specs.List.{list_any}
-use Rattle.std.specs.Ordering.{eq_by_cmp}
+use Rattle.std.specs.Ordering.{eq_by_cmp, is_eq}
 use Rattle.serializability.specs.Changes.{changed}
 use Rattle.serializability.proofs.Changes.{get-changed}
 use Rattle.tpcc_rows.specs.declared.key.RowKey.{RowKey}
@@ -18,12 +19,12 @@ use Rattle.indexes.specs.declared.owner.Owner.{Owner}
 use Rattle.indexes.specs.Indexed.{has_in}
 use Rattle.indexes.specs.Owners.{owner_at, owns}
 use Rattle.indexes.specs.Places.{is_of}
-use Rattle.pages.specs.declared.kept.Kept.{Kept}
 use Rattle.pages.specs.declared.kept.LeafPage.{LeafPage}
+use Rattle.pages.specs.declared.kept.OldRow.{OldRow}
 use Rattle.pages.specs.declared.kept.IndexPage.{IndexPage}
 use Rattle.pages.specs.Paged.{AreOfLeaf, IsByLeaf, IsPaged, page_at, union}
 use Rattle.pages.specs.BitSets.{has_bit}
-use Rattle.pages.specs.Saving.{AreMarks, HasNumbers, HasPages, has_leaf, has_place, is_leaf, is_place, IsLacking, IsLackingAt, IsLackingIndex, IsSavedOf, Numbers, numbers_of, restored, restored_numbers, with_index, with_leaf, with_page}
+use Rattle.pages.specs.Saving.{AreMarks, AreThere, Before, HasBefore, HasNumbers, HasRow, has_leaf, has_of_leaf, has_old, has_place, IsLacking, IsLackingAt, IsLackingIndex, IsLackingRow, IsSavedOf, IsThere, Numbers, numbers_of, restored, restored_numbers, StandsForSame, undone, with_index, with_leaf, with_pages}
 use Rattle.pages.proofs.Paging.{or_else, or_none, find-two, get-page_rows, get-union, page-set, other_leaf}
 
 -- ---- one leaf's rows
@@ -80,170 +81,45 @@ pub of-leaf : (rows : Rows) (n : ℕ) (page : Rows) → page ≡ page_rows rows 
 of-leaf rows n page e = record { of_leaf = λ q f. ap (λ (p : Rows). get p q) e ∙ get-page_rows rows n q ∙ ap (λ b. cond b (get rows q) None) f }
 
 -- ---- one copy more, or less
-pub restored-push : (saved : List Kept) (kept : Kept) (rows : Rows) → restored (saved ++ kept ∷ []) rows ≡ restored saved (with_page kept.page rows)
-restored-push [] kept rows = refl
-restored-push (k ∷ saved) kept rows = ap (with_page k.page) (restored-push saved kept rows)
+pub pages-push : (pages : List LeafPage) (page : LeafPage) (rows : Rows) → with_pages (pages ++ page ∷ []) rows ≡ with_pages pages (with_leaf rows page.leaf page.rows)
+pages-push [] page rows = refl
+pages-push (p ∷ pages) page rows = ap (λ (r : Rows). with_leaf r p.leaf p.rows) (pages-push pages page rows)
+
+pub undone-push : (olds : List OldRow) (old : OldRow) (rows : Rows) → undone (olds ++ old ∷ []) rows ≡ undone olds (changed rows old.key old.row)
+undone-push [] old rows = refl
+undone-push (o ∷ olds) old rows = ap (λ (r : Rows). changed r o.key o.row) (undone-push olds old rows)
 
 -- numbers that agree at one key agree there after going back
-pub index-alike : (page : Option IndexPage) (a b : Numbers) (c : ℕ) (q : RowKey) → a c q ≡ b c q → with_index page a c q ≡ with_index page b c q
-index-alike None a b c q e = e
-index-alike (Some page) a b c q e = ap (cond (is_of page.place q) (has_in page.index c q)) e
+pub index-alike : (page : IndexPage) (a b : Numbers) (c : ℕ) (q : RowKey) → a c q ≡ b c q → with_index page a c q ≡ with_index page b c q
+index-alike page a b c q e = ap (cond (is_of page.place q) (has_in page.index c q)) e
 
-pub numbers-alike : (saved : List Kept) (a b : Numbers) (c : ℕ) (q : RowKey) → a c q ≡ b c q → restored_numbers saved a c q ≡ restored_numbers saved b c q
+pub numbers-alike : (pages : List IndexPage) (a b : Numbers) (c : ℕ) (q : RowKey) → a c q ≡ b c q → restored_numbers pages a c q ≡ restored_numbers pages b c q
 numbers-alike [] a b c q e = e
-numbers-alike (k ∷ saved) a b c q e = index-alike k.index (restored_numbers saved a) (restored_numbers saved b) c q (numbers-alike saved a b c q e)
+numbers-alike (p ∷ pages) a b c q e = index-alike p (restored_numbers pages a) (restored_numbers pages b) c q (numbers-alike pages a b c q e)
 
-pub numbers-push : (saved : List Kept) (kept : Kept) (numbers : Numbers) (c : ℕ) (q : RowKey) → restored_numbers (saved ++ kept ∷ []) numbers c q ≡ restored_numbers saved (with_index kept.index numbers) c q
-numbers-push [] kept numbers c q = refl
-numbers-push (k ∷ saved) kept numbers c q = index-alike k.index (restored_numbers (saved ++ kept ∷ []) numbers) (restored_numbers saved (with_index kept.index numbers)) c q (numbers-push saved kept numbers c q)
+pub numbers-push : (pages : List IndexPage) (page : IndexPage) (numbers : Numbers) (c : ℕ) (q : RowKey) → restored_numbers (pages ++ page ∷ []) numbers c q ≡ restored_numbers pages (with_index page numbers) c q
+numbers-push [] page numbers c q = refl
+numbers-push (p ∷ pages) page numbers c q = index-alike p (restored_numbers (pages ++ page ∷ []) numbers) (restored_numbers pages (with_index page numbers)) c q (numbers-push pages page numbers c q)
 
-any-push : (test : Kept → Bool) (saved : List Kept) (kept : Kept) → list_any test (saved ++ kept ∷ []) ≡ (test kept || list_any test saved)
-any-push test [] kept = refl
-any-push test (k ∷ saved) kept = ap (λ b. test k || b) (any-push test saved kept) ∙ swap (test k) (test kept) (list_any test saved)
-  where
-    swap : (a b c : Bool) → (a || (b || c)) ≡ (b || (a || c))
-    swap true true c = refl
-    swap true false c = refl
-    swap false b c = refl
+swap : (a b c : Bool) → (a || (b || c)) ≡ (b || (a || c))
+swap true true c = refl
+swap true false c = refl
+swap false b c = refl
 
-pub leaf-push : (saved : List Kept) (kept : Kept) (n : ℕ) → has_leaf (saved ++ kept ∷ []) n ≡ (is_leaf n kept.page || has_leaf saved n)
-leaf-push saved kept n = any-push (λ k. is_leaf n k.page) saved kept
+any-push : {A : Type 0} (test : A → Bool) (xs : List A) (x : A) → list_any test (xs ++ x ∷ []) ≡ (test x || list_any test xs)
+any-push test [] x = refl
+any-push test (y ∷ xs) x = ap (λ b. test y || b) (any-push test xs x) ∙ swap (test y) (test x) (list_any test xs)
 
-pub place-push : (saved : List Kept) (kept : Kept) (n : ℕ) → has_place (saved ++ kept ∷ []) n ≡ (is_place n kept.index || has_place saved n)
-place-push saved kept n = any-push (λ k. is_place n k.index) saved kept
+pub leaf-push : (pages : List LeafPage) (page : LeafPage) (n : ℕ) → has_leaf (pages ++ page ∷ []) n ≡ (eqb n page.leaf || has_leaf pages n)
+leaf-push pages page n = any-push (λ p. eqb n p.leaf) pages page
 
--- ---- copies of pages as they are
-or-true : (a b : Bool) → b ≡ true → (a || b) ≡ true
-or-true true b h = refl
-or-true false b h = h
+pub place-push : (pages : List IndexPage) (page : IndexPage) (n : ℕ) → has_place (pages ++ page ∷ []) n ≡ (eqb n page.place || has_place pages n)
+place-push pages page n = any-push (λ p. eqb n p.place) pages page
 
-or-first : (a b : Bool) → a ≡ true → (a || b) ≡ true
-or-first true b h = refl
-or-first false b h = let no : false ≡ true = h in cc
+pub old-push : (olds : List OldRow) (old : OldRow) (key : RowKey) → has_old (olds ++ old ∷ []) key ≡ (eq_by_cmp row_key_cmp key old.key || has_old olds key)
+old-push olds old key = any-push (λ o. eq_by_cmp row_key_cmp key o.key) olds old
 
-pub page-same : (saved : List Kept) (rows : Rows) (n : ℕ) (page : Option LeafPage) → IsLacking saved rows n page → with_page page rows ≡ rows
-page-same saved rows n None h = refl
-page-same saved rows n (Some page) h = with_leaf-same rows page.leaf page.rows (h.1 ∙ ap (page_rows rows) (sym h.0))
-
-has-page : (saved : List Kept) (kept : Kept) (rows : Rows) (n : ℕ) (page : Option LeafPage) → kept.page ≡ page → IsLacking saved rows n page → has_leaf (saved ++ kept ∷ []) n ≡ true
-has-page saved kept rows n None e h = leaf-push saved kept n ∙ or-true (is_leaf n kept.page) (has_leaf saved n) h
-has-page saved kept rows n (Some page) e h = leaf-push saved kept n ∙ or-first (is_leaf n kept.page) (has_leaf saved n) (ap (is_leaf n) e ∙ eq-eqb n page.leaf (sym h.0))
-
-pub index-same : (saved : List Kept) (numbers : Numbers) (place : Option ℕ) (index : Option IndexPage) → IsLackingIndex saved numbers place index → (c : ℕ) (q : RowKey) → with_index index numbers c q ≡ numbers c q
-index-same saved numbers place None h c q = refl
-index-same saved numbers None (Some page) h c q = let no : Some page ≡ None = h in cc
-index-same saved numbers (Some n) (Some page) h c q = elim (is_of page.place q) as (λ b. is_of page.place q ≡ b → cond b (has_in page.index c q) (numbers c q) ≡ numbers c q) [
-  | true ↦ λ t. h.1 c q (ap (λ m. is_of m q) (sym h.0) ∙ t)
-  | false ↦ λ t. refl
-] refl
-
-has-index : (saved : List Kept) (kept : Kept) (numbers : Numbers) (n : ℕ) (index : Option IndexPage) → kept.index ≡ index → IsLackingAt saved numbers n index → has_place (saved ++ kept ∷ []) n ≡ true
-has-index saved kept numbers n None e h = place-push saved kept n ∙ or-true (is_place n kept.index) (has_place saved n) h
-has-index saved kept numbers n (Some page) e h = place-push saved kept n ∙ or-first (is_place n kept.index) (has_place saved n) (ap (is_place n) e ∙ eq-eqb n page.place (sym h.0))
-
--- what is known of the place of a key's index page
-abbrev pub IsPlaceOf : RowKey → Option ℕ → Type 0
-IsPlaceOf key None = (c : ℕ) (o : Owner) → owns c key o ≡ false
-IsPlaceOf key (Some n) = is_of n key ≡ true
-
-has-numbers : (saved : List Kept) (kept : Kept) (numbers : Numbers) (key : RowKey) (place : Option ℕ) (index : Option IndexPage) → kept.index ≡ index → IsPlaceOf key place → IsLackingIndex saved numbers place index → HasNumbers (saved ++ kept ∷ []) key
-has-numbers saved kept numbers key None index e at h = inl at
-has-numbers saved kept numbers key (Some n) index e at h = inr (n, at, has-index saved kept numbers n index e h)
-
--- the pages that the key's change alters, copied now or before
-pub record AreCopies (saved : List Kept) (rows : Rows) (numbers : Numbers) (key : RowKey) (place : Option ℕ) (kept : Kept) : Type 0 where
-  pub page : IsLacking saved rows (leaf key) kept.page
-  pub index : IsLackingIndex saved numbers place kept.index
-  pub at : IsPlaceOf key place
-  pub same : (c : ℕ) (q : RowKey) → numbers c q ≡ numbers_of rows c q
-
-module _ (saved : List Kept) (rows : Rows) (numbers : Numbers) (key : RowKey) (place : Option ℕ) (kept : Kept) (h : AreCopies saved rows numbers key place kept) where
-  pub has-pages : HasPages (saved ++ kept ∷ []) key
-  has-pages = record { rows = has-page saved kept rows (leaf key) kept.page refl h.page; numbers = has-numbers saved kept numbers key place kept.index refl h.at h.index }
-
-  pub restored-same : restored (saved ++ kept ∷ []) rows ≡ restored saved rows
-  restored-same = restored-push saved kept rows ∙ ap (restored saved) (page-same saved rows (leaf key) kept.page h.page)
-
-  pub saved-push : IsSavedOf saved rows → IsSavedOf (saved ++ kept ∷ []) rows
-  saved-push of = record {
-    same = λ c q.
-        numbers-push saved kept (numbers_of rows) c q
-        ∙ numbers-alike saved (with_index kept.index (numbers_of rows)) (numbers_of rows) c q
-        (index-alike kept.index (numbers_of rows) numbers c q (sym (h.same c q)) ∙ index-same saved numbers place kept.index h.index c q ∙ h.same c q)
-        ∙ of.same c q ∙ ap (λ (r : Rows). numbers_of r c q) (sym restored-same);
-  }
-
--- ---- rows that change on a saved leaf
-abbrev AgreeOff : ℕ → Rows → Rows → Type 0
-AgreeOff n a b = (q : RowKey) → eqb (leaf q) n ≡ false → get a q ≡ get b q
-
-agree-leaf : (m n : ℕ) (page a b : Rows) → AgreeOff n a b → AgreeOff n (with_leaf a m page) (with_leaf b m page)
-agree-leaf m n page a b h q e = get-with_leaf a m page q ∙ ap (cond (eqb (leaf q) m) (get page q)) (h q e) ∙ sym (get-with_leaf b m page q)
-
-agree-page : (n : ℕ) (page : Option LeafPage) (a b : Rows) → AgreeOff n a b → AgreeOff n (with_page page a) (with_page page b)
-agree-page n None a b h = h
-agree-page n (Some p) a b h = agree-leaf p.leaf n p.rows a b h
-
-agree-restored : (saved : List Kept) (n : ℕ) (a b : Rows) → AgreeOff n a b → AgreeOff n (restored saved a) (restored saved b)
-agree-restored [] n a b h = h
-agree-restored (k ∷ saved) n a b h = agree-page n k.page (restored saved a) (restored saved b) (agree-restored saved n a b h)
-
-leaf-alike : (n : ℕ) (page a b : Rows) → AgreeOff n a b → with_leaf a n page ≡ with_leaf b n page
-leaf-alike n page a b h = same_map row_key_cmp_total exact_keys _ _ (λ q.
-    get-with_leaf a n page q
-    ∙ elim (eqb (leaf q) n) as (λ t. eqb (leaf q) n ≡ t → cond t (get page q) (get a q) ≡ cond t (get page q) (get b q)) [ true ↦ λ t. refl | false ↦ λ t. h q t ] refl
-    ∙ sym (get-with_leaf b n page q))
-
-rows-first : (n : ℕ) (page : Option LeafPage) (saved : List Kept) (a b : Rows) → AgreeOff n a b → (has_leaf saved n ≡ true → restored saved a ≡ restored saved b) → (is_leaf n page || has_leaf saved n) ≡ true → with_page page (restored saved a) ≡ with_page page (restored saved b)
-rows-first n None saved a b h rest has = rest has
-rows-first n (Some p) saved a b h rest has = elim (cases_Bool (eqb n p.leaf)) [
-  | inl here ↦
-      let e : n ≡ p.leaf = eqb-true n p.leaf here in
-      ap (λ m. with_leaf (restored saved a) m p.rows) (sym e) ∙ leaf-alike n p.rows (restored saved a) (restored saved b) (agree-restored saved n a b h) ∙ ap (λ m. with_leaf (restored saved b) m p.rows) e
-  | inr f ↦ ap (λ (r : Rows). with_leaf r p.leaf p.rows) (rest (sym (ap (λ x. x || has_leaf saved n) f) ∙ has))
-]
-
-pub rows-kept : (saved : List Kept) (n : ℕ) (a b : Rows) → has_leaf saved n ≡ true → AgreeOff n a b → restored saved a ≡ restored saved b
-rows-kept [] n a b has h = let no : false ≡ true = has in cc
-rows-kept (k ∷ saved) n a b has h = rows-first n k.page saved a b h (λ t. rows-kept saved n a b t h) has
-
-numbers-first : (n : ℕ) (page : Option IndexPage) (saved : List Kept) (a b : Numbers) (c : ℕ) (q : RowKey) → is_of n q ≡ true → (has_place saved n ≡ true → restored_numbers saved a c q ≡ restored_numbers saved b c q) → (is_place n page || has_place saved n) ≡ true → with_index page (restored_numbers saved a) c q ≡ with_index page (restored_numbers saved b) c q
-numbers-first n None saved a b c q of rest has = rest has
-numbers-first n (Some p) saved a b c q of rest has = elim (cases_Bool (eqb n p.place)) [
-  | inl here ↦
-      let e : is_of p.place q ≡ true = ap (λ m. is_of m q) (sym (eqb-true n p.place here)) ∙ of in
-      ap (λ x. cond x (has_in p.index c q) (restored_numbers saved a c q)) e ∙ sym (ap (λ x. cond x (has_in p.index c q) (restored_numbers saved b c q)) e)
-  | inr f ↦ ap (cond (is_of p.place q) (has_in p.index c q)) (rest (sym (ap (λ x. x || has_place saved n) f) ∙ has))
-]
-
-numbers-kept : (saved : List Kept) (n : ℕ) (a b : Numbers) (c : ℕ) (q : RowKey) → has_place saved n ≡ true → is_of n q ≡ true → restored_numbers saved a c q ≡ restored_numbers saved b c q
-numbers-kept [] n a b c q has of = let no : false ≡ true = has in cc
-numbers-kept (k ∷ saved) n a b c q has of = numbers-first n k.index saved a b c q of (λ t. numbers-kept saved n a b c q t of) has
-
--- a change at a key whose pages are saved
-module _ (saved : List Kept) (rows : Rows) (key : RowKey) (row : Option Row) (h : HasPages saved key) where
-  agree-changed : AgreeOff (leaf key) (changed rows key row) rows
-  agree-changed q e = get-changed row_key_cmp_total exact_keys rows key row q ∙ ap (λ b. cond b row (get rows q)) (other_leaf q key e)
-
-  pub restored-changed : restored saved (changed rows key row) ≡ restored saved rows
-  restored-changed = rows-kept saved (leaf key) (changed rows key row) rows h.rows agree-changed
-
-  at-key : (c : ℕ) → HasNumbers saved key → restored_numbers saved (numbers_of (changed rows key row)) c key ≡ restored_numbers saved (numbers_of rows) c key
-  at-key c (inl none) = numbers-alike saved (numbers_of (changed rows key row)) (numbers_of rows) c key (none c (owner_at (get (changed rows key row) key)) ∙ sym (none c (owner_at (get rows key))))
-  at-key c (inr there) = numbers-kept saved there.0 (numbers_of (changed rows key row)) (numbers_of rows) c key there.2 there.1
-
-  numbers-changed : (c : ℕ) (q : RowKey) → restored_numbers saved (numbers_of (changed rows key row)) c q ≡ restored_numbers saved (numbers_of rows) c q
-  numbers-changed c q = elim (cases_Bool (eq_by_cmp row_key_cmp q key)) [
-    | inl t ↦
-        let e : q ≡ key = exact_keys q key (tied _ t) in
-        ap (λ k. restored_numbers saved (numbers_of (changed rows key row)) c k) e ∙ at-key c h.numbers ∙ ap (λ k. restored_numbers saved (numbers_of rows) c k) (sym e)
-    | inr f ↦ numbers-alike saved (numbers_of (changed rows key row)) (numbers_of rows) c q (ap (λ o. owns c q (owner_at o)) (get-changed row_key_cmp_total exact_keys rows key row q ∙ ap (λ b. cond b row (get rows q)) f))
-  ]
-
-  pub saved-changed : IsSavedOf saved rows → IsSavedOf saved (changed rows key row)
-  saved-changed of = record { same = λ c q. numbers-changed c q ∙ of.same c q ∙ ap (λ (r : Rows). numbers_of r c q) (sym restored-changed) }
-
--- a leaf that isn't saved stays
+-- ---- leaves that aren't saved stay
 or-left : (a b : Bool) → (a || b) ≡ false → a ≡ false
 or-left true b e = e
 or-left false b e = refl
@@ -252,36 +128,337 @@ or-right : (a b : Bool) → (a || b) ≡ false → b ≡ false
 or-right true b e = cc
 or-right false b e = e
 
-stays-first : (page : Option LeafPage) (saved : List Kept) (rows : Rows) (q : RowKey) → (has_leaf saved (leaf q) ≡ false → get (restored saved rows) q ≡ get rows q) → (is_leaf (leaf q) page || has_leaf saved (leaf q)) ≡ false → get (with_page page (restored saved rows)) q ≡ get rows q
-stays-first None saved rows q rest none = rest none
-stays-first (Some p) saved rows q rest none =
-    get-with_leaf (restored saved rows) p.leaf p.rows q ∙ ap (λ b. cond b (get p.rows q) (get (restored saved rows) q)) (or-left (eqb (leaf q) p.leaf) (has_leaf saved (leaf q)) none)
-    ∙ rest (or-right (eqb (leaf q) p.leaf) (has_leaf saved (leaf q)) none)
-
-stays : (saved : List Kept) (rows : Rows) (q : RowKey) → has_leaf saved (leaf q) ≡ false → get (restored saved rows) q ≡ get rows q
+pub stays : (pages : List LeafPage) (rows : Rows) (q : RowKey) → has_leaf pages (leaf q) ≡ false → get (with_pages pages rows) q ≡ get rows q
 stays [] rows q none = refl
-stays (k ∷ saved) rows q none = stays-first k.page saved rows q (λ t. stays saved rows q t) none
+stays (p ∷ pages) rows q none =
+    get-with_leaf (with_pages pages rows) p.leaf p.rows q ∙ ap (λ b. cond b (get p.rows q) (get (with_pages pages rows) q)) (or-left (eqb (leaf q) p.leaf) (has_leaf pages (leaf q)) none)
+    ∙ stays pages rows q (or-right (eqb (leaf q) p.leaf) (has_leaf pages (leaf q)) none)
 
-pub restored-page : (saved : List Kept) (rows : Rows) (n : ℕ) → has_leaf saved n ≡ false → page_rows (restored saved rows) n ≡ page_rows rows n
-restored-page saved rows n none = same_map row_key_cmp_total exact_keys _ _ (λ q.
-    get-page_rows (restored saved rows) n q
-    ∙ elim (eqb (leaf q) n) as (λ b. eqb (leaf q) n ≡ b → cond b (get (restored saved rows) q) None ≡ cond b (get rows q) None) [
-      | true ↦ λ t. stays saved rows q (ap (has_leaf saved) (eqb-true (leaf q) n t) ∙ none)
+other-leaf-row : (key q : RowKey) → eqb (leaf q) (leaf key) ≡ false → eq_by_cmp row_key_cmp q key ≡ false
+other-leaf-row key q e = other_leaf q key e
+
+pub undone-stays : (olds : List OldRow) (rows : Rows) (q : RowKey) → list_any (λ o. eqb (leaf q) (leaf o.key)) olds ≡ false → get (undone olds rows) q ≡ get rows q
+undone-stays [] rows q none = refl
+undone-stays (o ∷ olds) rows q none =
+    get-changed row_key_cmp_total exact_keys (undone olds rows) o.key o.row q
+    ∙ ap (λ b. cond b o.row (get (undone olds rows) q)) (other-leaf-row o.key q (or-left (eqb (leaf q) (leaf o.key)) (list_any (λ o. eqb (leaf q) (leaf o.key)) olds) none))
+    ∙ undone-stays olds rows q (or-right (eqb (leaf q) (leaf o.key)) (list_any (λ o. eqb (leaf q) (leaf o.key)) olds) none)
+
+pub restored-page : (before : Before) (rows : Rows) (n : ℕ) → has_of_leaf before n ≡ false → page_rows (restored before rows) n ≡ page_rows rows n
+restored-page before rows n none = same_map row_key_cmp_total exact_keys _ _ (λ q.
+    get-page_rows (restored before rows) n q
+    ∙ elim (eqb (leaf q) n) as (λ b. eqb (leaf q) n ≡ b → cond b (get (restored before rows) q) None ≡ cond b (get rows q) None) [
+      | true ↦ λ t.
+          let here : leaf q ≡ n = eqb-true (leaf q) n t in
+          let neither = ap (has_of_leaf before) here ∙ none in
+          undone-stays before.olds (with_pages before.pages rows) q (or-right (has_leaf before.pages (leaf q)) (list_any (λ o. eqb (leaf q) (leaf o.key)) before.olds) neither)
+          ∙ stays before.pages rows q (or-left (has_leaf before.pages (leaf q)) (list_any (λ o. eqb (leaf q) (leaf o.key)) before.olds) neither)
       | false ↦ λ t. refl
     ] refl ∙ sym (get-page_rows rows n q))
 
--- ---- for answers
-pub no-pages : (saved : List Kept) (leaves places : List ℕ) → saved ≡ [] → ((n : ℕ) → has_bit leaves n ≡ false) → ((n : ℕ) → has_bit places n ≡ false) → AreMarks saved leaves places
-no-pages saved leaves places none no_leaf no_place = record { leaf_marks = λ n. no_leaf n ∙ sym (ap (λ ks. has_leaf ks n) none); place_marks = λ n. no_place n ∙ sym (ap (λ ks. has_place ks n) none) }
+-- ---- copies of what is there
+or-true : (a b : Bool) → b ≡ true → (a || b) ≡ true
+or-true true b h = refl
+or-true false b h = h
 
-pub no-items : (saved : List Kept) → length saved ≡ 0 → saved ≡ []
-no-items [] e = refl
-no-items (k ∷ saved) e = absurd (omega (arith, e))
+or-first : (a b : Bool) → a ≡ true → (a || b) ≡ true
+or-first true b h = refl
+or-first false b h = let no : false ≡ true = h in cc
+
+changed-same : (rows : Rows) (key : RowKey) (row : Option Row) → row ≡ get rows key → changed rows key row ≡ rows
+changed-same rows key row e = same_map row_key_cmp_total exact_keys _ _ (λ q.
+    get-changed row_key_cmp_total exact_keys rows key row q
+    ∙ elim (eq_by_cmp row_key_cmp q key) as (λ b. eq_by_cmp row_key_cmp q key ≡ b → cond b row (get rows q) ≡ get rows q) [
+      | true ↦ λ t. e ∙ ap (get rows) (sym (exact_keys q key (tied _ t)))
+      | false ↦ λ t. refl
+    ] refl)
+
+there-row : (key : RowKey) (row : Option Row) (rows : Rows) → row ≡ get rows key → IsThere key row rows
+there-row key None rows e = tt
+there-row key (Some row) rows e = ap is_some (sym e)
+
+-- a row more, as it is there
+there-push : (olds : List OldRow) (old : OldRow) (rows : Rows) → old.row ≡ get rows old.key → AreThere olds rows → AreThere (olds ++ old ∷ []) rows
+there-push [] old rows e h = (there-row old.key old.row rows e, tt)
+there-push (o ∷ olds) old rows e h = (subst (λ (r : Rows). IsThere o.key o.row r) (sym (undone-push olds old rows ∙ ap (undone olds) (changed-same rows old.key old.row e))) h.0, there-push olds old rows e h.1)
+
+module _ (old new : Before) (rows : Rows) where
+  pub page-copied : (page : LeafPage) → page.rows ≡ page_rows rows page.leaf → new.pages ≡ old.pages ++ page ∷ [] → new.olds ≡ old.olds → new.indexes ≡ old.indexes → StandsForSame old new rows
+  page-copied page e pages olds indexes =
+      let base : with_pages new.pages rows ≡ with_pages old.pages rows = ap (λ ps. with_pages ps rows) pages ∙ pages-push old.pages page rows ∙ ap (with_pages old.pages) (with_leaf-same rows page.leaf page.rows e) in
+      let back : restored new rows ≡ restored old rows = ap₂ undone olds base in
+      record {
+        restored_same = back;
+        saved_same = λ h. record {
+          same = λ c q. ap (λ ps. restored_numbers ps (numbers_of rows) c q) indexes ∙ h.same c q ∙ ap (λ (r : Rows). numbers_of r c q) (sym back);
+          there = subst (λ (r : Rows). AreThere new.olds r) (sym base) (subst (λ os. AreThere os (with_pages old.pages rows)) (sym olds) h.there);
+        };
+      }
+
+  pub row-copied : (row : OldRow) → row.row ≡ get rows row.key → has_leaf old.pages (leaf row.key) ≡ false → new.pages ≡ old.pages → new.olds ≡ old.olds ++ row ∷ [] → new.indexes ≡ old.indexes → StandsForSame old new rows
+  row-copied row e apart pages olds indexes =
+      let base : with_pages new.pages rows ≡ with_pages old.pages rows = ap (λ ps. with_pages ps rows) pages in
+      let here : row.row ≡ get (with_pages old.pages rows) row.key = e ∙ sym (stays old.pages rows row.key apart) in
+      let back : restored new rows ≡ restored old rows =
+      ap₂ undone olds base ∙ undone-push old.olds row (with_pages old.pages rows) ∙ ap (undone old.olds) (changed-same (with_pages old.pages rows) row.key row.row here) in
+      record {
+        restored_same = back;
+        saved_same = λ h. record {
+          same = λ c q. ap (λ ps. restored_numbers ps (numbers_of rows) c q) indexes ∙ h.same c q ∙ ap (λ (r : Rows). numbers_of r c q) (sym back);
+          there = subst (λ (r : Rows). AreThere new.olds r) (sym base) (subst (λ os. AreThere os (with_pages old.pages rows)) (sym olds) (there-push old.olds row (with_pages old.pages rows) here h.there));
+        };
+      }
+
+  -- an index page that has the numbers of the rows that are there
+  pub index-copied : (page : IndexPage) → ((c : ℕ) (q : RowKey) → is_of page.place q ≡ true → has_in page.index c q ≡ numbers_of rows c q) → new.pages ≡ old.pages → new.olds ≡ old.olds → new.indexes ≡ old.indexes ++ page ∷ [] → StandsForSame old new rows
+  index-copied page e pages olds indexes =
+      let base : with_pages new.pages rows ≡ with_pages old.pages rows = ap (λ ps. with_pages ps rows) pages in
+      let back : restored new rows ≡ restored old rows = ap₂ undone olds base in
+      record {
+        restored_same = back;
+        saved_same = λ h. record {
+          same = λ c q.
+              ap (λ ps. restored_numbers ps (numbers_of rows) c q) indexes ∙ numbers-push old.indexes page (numbers_of rows) c q
+              ∙ numbers-alike old.indexes (with_index page (numbers_of rows)) (numbers_of rows) c q (index-same c q) ∙ h.same c q ∙ ap (λ (r : Rows). numbers_of r c q) (sym back);
+          there = subst (λ (r : Rows). AreThere new.olds r) (sym base) (subst (λ os. AreThere os (with_pages old.pages rows)) (sym olds) h.there);
+        };
+      }
+    where
+      index-same : (c : ℕ) (q : RowKey) → with_index page (numbers_of rows) c q ≡ numbers_of rows c q
+      index-same c q = elim (is_of page.place q) as (λ b. is_of page.place q ≡ b → cond b (has_in page.index c q) (numbers_of rows c q) ≡ numbers_of rows c q) [
+        | true ↦ λ t. e c q t
+        | false ↦ λ t. refl
+      ] refl
+
+pub nothing-copied : (old new : Before) (rows : Rows) → new.pages ≡ old.pages → new.olds ≡ old.olds → new.indexes ≡ old.indexes → StandsForSame old new rows
+nothing-copied old new rows pages olds indexes =
+    let base : with_pages new.pages rows ≡ with_pages old.pages rows = ap (λ ps. with_pages ps rows) pages in
+    let back : restored new rows ≡ restored old rows = ap₂ undone olds base in
+    record {
+      restored_same = back;
+      saved_same = λ h. record {
+        same = λ c q. ap (λ ps. restored_numbers ps (numbers_of rows) c q) indexes ∙ h.same c q ∙ ap (λ (r : Rows). numbers_of r c q) (sym back);
+        there = subst (λ (r : Rows). AreThere new.olds r) (sym base) (subst (λ os. AreThere os (with_pages old.pages rows)) (sym olds) h.there);
+      };
+    }
+
+pub stands-both : (a b c : Before) (rows : Rows) → StandsForSame a b rows → StandsForSame b c rows → StandsForSame a c rows
+stands-both a b c rows first second = record { restored_same = second.restored_same ∙ first.restored_same; saved_same = λ h. second.saved_same (first.saved_same h) }
+
+-- ---- what is saved then
+pub page-there : (pages new : List LeafPage) (page : LeafPage) (n : ℕ) → page.leaf ≡ n → new ≡ pages ++ page ∷ [] → has_leaf new n ≡ true
+page-there pages new page n e is = ap (λ ps. has_leaf ps n) is ∙ leaf-push pages page n ∙ or-first (eqb n page.leaf) (has_leaf pages n) (eq-eqb n page.leaf (sym e))
+
+itself : (key : RowKey) → eq_by_cmp row_key_cmp key key ≡ true
+itself key = ap is_eq (tied_itself row_key_cmp_total key)
+
+pub row-there : (before new : Before) (row : OldRow) (key : RowKey) → row.key ≡ key → new.olds ≡ before.olds ++ row ∷ [] → (has_leaf new.pages (leaf key) || has_old new.olds key) ≡ true
+row-there before new row key e is =
+    or-true (has_leaf new.pages (leaf key)) (has_old new.olds key)
+    (ap (λ os. has_old os key) is ∙ old-push before.olds row key ∙ or-first (eq_by_cmp row_key_cmp key row.key) (has_old before.olds key) (ap (eq_by_cmp row_key_cmp key) e ∙ itself key))
+
+pub page-instead : (before new : Before) (key : RowKey) → has_leaf before.pages (leaf key) ≡ true → new.pages ≡ before.pages → (has_leaf new.pages (leaf key) || has_old new.olds key) ≡ true
+page-instead before new key h e = or-first (has_leaf new.pages (leaf key)) (has_old new.olds key) (ap (λ ps. has_leaf ps (leaf key)) e ∙ h)
+
+-- what is known of the place of a key's index page
+abbrev pub IsPlaceOf : RowKey → Option ℕ → Type 0
+IsPlaceOf key None = (c : ℕ) (o : Owner) → owns c key o ≡ false
+IsPlaceOf key (Some n) = is_of n key ≡ true
 
 pub place-of : (key : RowKey) (place : Option ℕ) → IfSome place (λ n. is_of n key ≡ true) → IfNone place ((c : ℕ) (o : Owner) → owns c key o ≡ false) → IsPlaceOf key place
 place-of key None some none = none
 place-of key (Some n) some none = some
 
--- all copies moved back
-pub moved-back : (saved : List Kept) (before rows : Rows) (old new : Numbers) → ((c : ℕ) (q : RowKey) → old c q ≡ numbers_of before c q) → IsSavedOf saved before → rows ≡ restored saved before → ((c : ℕ) (q : RowKey) → new c q ≡ restored_numbers saved old c q) → (c : ℕ) (q : RowKey) → new c q ≡ numbers_of rows c q
-moved-back saved before rows old new h of is e c q = e c q ∙ numbers-alike saved old (numbers_of before) c q (h c q) ∙ of.same c q ∙ ap (λ (r : Rows). numbers_of r c q) (sym is)
+-- the index page, copied now or before
+pub numbers-copied : (pages new : List IndexPage) (numbers : Numbers) (key : RowKey) (place : Option ℕ) (page : IndexPage) → IsPlaceOf key place → IsLackingIndex pages numbers place (Some page) → new ≡ pages ++ page ∷ [] → HasNumbers new key
+numbers-copied pages new numbers key None page at h is = inl at
+numbers-copied pages new numbers key (Some n) page at h is =
+    inr (n, at, ap (λ ps. has_place ps n) is ∙ place-push pages page n ∙ or-first (eqb n page.place) (has_place pages n) (eq-eqb n page.place (sym h.0)))
+
+pub numbers-there : (pages new : List IndexPage) (numbers : Numbers) (key : RowKey) (place : Option ℕ) → IsPlaceOf key place → IsLackingIndex pages numbers place None → new ≡ pages → HasNumbers new key
+numbers-there pages new numbers key None at h is = inl at
+numbers-there pages new numbers key (Some n) at h is = inr (n, at, ap (λ ps. has_place ps n) is ∙ h)
+
+-- the numbers of a copy are those of the rows
+pub copy-has : (pages : List IndexPage) (numbers : Numbers) (rows : Rows) (place : Option ℕ) (page : IndexPage) → ((c : ℕ) (q : RowKey) → numbers c q ≡ numbers_of rows c q) → IsLackingIndex pages numbers place (Some page) → (c : ℕ) (q : RowKey) → is_of page.place q ≡ true → has_in page.index c q ≡ numbers_of rows c q
+copy-has pages numbers rows None page e h c q t = let no : Some page ≡ None = h in cc
+copy-has pages numbers rows (Some n) page e h c q t = h.1 c q (ap (λ m. is_of m q) (sym h.0) ∙ t) ∙ e c q
+
+-- ---- rows that change at a key, or on a leaf, that is saved
+abbrev AgreeOff : ℕ → Rows → Rows → Type 0
+AgreeOff n a b = (q : RowKey) → eqb (leaf q) n ≡ false → get a q ≡ get b q
+
+agree-pages : (pages : List LeafPage) (n : ℕ) (a b : Rows) → AgreeOff n a b → AgreeOff n (with_pages pages a) (with_pages pages b)
+agree-pages [] n a b h q e = h q e
+agree-pages (p ∷ pages) n a b h q e =
+    get-with_leaf (with_pages pages a) p.leaf p.rows q ∙ ap (cond (eqb (leaf q) p.leaf) (get p.rows q)) (agree-pages pages n a b h q e) ∙ sym (get-with_leaf (with_pages pages b) p.leaf p.rows q)
+
+leaf-alike : (n : ℕ) (page a b : Rows) → AgreeOff n a b → with_leaf a n page ≡ with_leaf b n page
+leaf-alike n page a b h = same_map row_key_cmp_total exact_keys _ _ (λ q.
+    get-with_leaf a n page q
+    ∙ elim (eqb (leaf q) n) as (λ t. eqb (leaf q) n ≡ t → cond t (get page q) (get a q) ≡ cond t (get page q) (get b q)) [ true ↦ λ t. refl | false ↦ λ t. h q t ] refl
+    ∙ sym (get-with_leaf b n page q))
+
+pub pages-kept : (pages : List LeafPage) (n : ℕ) (a b : Rows) → has_leaf pages n ≡ true → AgreeOff n a b → with_pages pages a ≡ with_pages pages b
+pages-kept [] n a b has h = let no : false ≡ true = has in cc
+pages-kept (p ∷ pages) n a b has h = elim (cases_Bool (eqb n p.leaf)) [
+  | inl here ↦
+      let e : n ≡ p.leaf = eqb-true n p.leaf here in
+      ap (λ m. with_leaf (with_pages pages a) m p.rows) (sym e) ∙ leaf-alike n p.rows (with_pages pages a) (with_pages pages b) (agree-pages pages n a b h) ∙ ap (λ m. with_leaf (with_pages pages b) m p.rows) e
+  | inr f ↦ ap (λ (r : Rows). with_leaf r p.leaf p.rows) (pages-kept pages n a b (sym (ap (λ x. x || has_leaf pages n) f) ∙ has) h)
+]
+
+-- a change on a leaf that isn't saved is one of the rows with the pages, too
+pub pages-changed : (pages : List LeafPage) (rows : Rows) (key : RowKey) (row : Option Row) → has_leaf pages (leaf key) ≡ false → with_pages pages (changed rows key row) ≡ changed (with_pages pages rows) key row
+pages-changed [] rows key row none = refl
+pages-changed (p ∷ pages) rows key row none = same_map row_key_cmp_total exact_keys _ _ (λ q.
+    let apart : eqb (leaf key) p.leaf ≡ false = or-left (eqb (leaf key) p.leaf) (has_leaf pages (leaf key)) none in
+    let rest = pages-changed pages rows key row (or-right (eqb (leaf key) p.leaf) (has_leaf pages (leaf key)) none) in
+    ap (λ (r : Rows). get (with_leaf r p.leaf p.rows) q) rest ∙ get-with_leaf (changed (with_pages pages rows) key row) p.leaf p.rows q
+    ∙ ap (cond (eqb (leaf q) p.leaf) (get p.rows q)) (get-changed row_key_cmp_total exact_keys (with_pages pages rows) key row q)
+    ∙ elim (eq_by_cmp row_key_cmp q key) as (λ b. eq_by_cmp row_key_cmp q key ≡ b → cond (eqb (leaf q) p.leaf) (get p.rows q) (cond b row (get (with_pages pages rows) q)) ≡ cond b row (cond (eqb (leaf q) p.leaf) (get p.rows q) (get (with_pages pages rows) q))) [
+      | true ↦ λ t. ap (λ b. cond b (get p.rows q) row) (ap (λ k. eqb (leaf k) p.leaf) (exact_keys q key (tied _ t)) ∙ apart)
+      | false ↦ λ t. refl
+    ] refl
+    ∙ ap (cond (eq_by_cmp row_key_cmp q key) row) (sym (get-with_leaf (with_pages pages rows) p.leaf p.rows q))
+    ∙ sym (get-changed row_key_cmp_total exact_keys (with_leaf (with_pages pages rows) p.leaf p.rows) key row q))
+
+-- rows that agree but for one key
+abbrev AgreeBut : RowKey → Rows → Rows → Type 0
+AgreeBut key a b = (q : RowKey) → eq_by_cmp row_key_cmp q key ≡ false → get a q ≡ get b q
+
+agree-undone : (olds : List OldRow) (key : RowKey) (a b : Rows) → AgreeBut key a b → AgreeBut key (undone olds a) (undone olds b)
+agree-undone [] key a b h q e = h q e
+agree-undone (o ∷ olds) key a b h q e =
+    get-changed row_key_cmp_total exact_keys (undone olds a) o.key o.row q ∙ ap (cond (eq_by_cmp row_key_cmp q o.key) o.row) (agree-undone olds key a b h q e)
+    ∙ sym (get-changed row_key_cmp_total exact_keys (undone olds b) o.key o.row q)
+
+changed-alike : (key : RowKey) (row : Option Row) (a b : Rows) → AgreeBut key a b → changed a key row ≡ changed b key row
+changed-alike key row a b h = same_map row_key_cmp_total exact_keys _ _ (λ q.
+    get-changed row_key_cmp_total exact_keys a key row q
+    ∙ elim (eq_by_cmp row_key_cmp q key) as (λ t. eq_by_cmp row_key_cmp q key ≡ t → cond t row (get a q) ≡ cond t row (get b q)) [ true ↦ λ t. refl | false ↦ λ t. h q t ] refl
+    ∙ sym (get-changed row_key_cmp_total exact_keys b key row q))
+
+pub olds-kept : (olds : List OldRow) (key : RowKey) (a b : Rows) → has_old olds key ≡ true → AgreeBut key a b → undone olds a ≡ undone olds b
+olds-kept [] key a b has h = let no : false ≡ true = has in cc
+olds-kept (o ∷ olds) key a b has h = elim (cases_Bool (eq_by_cmp row_key_cmp key o.key)) [
+  | inl here ↦
+      let e : key ≡ o.key = exact_keys key o.key (tied _ here) in
+      ap (λ k. changed (undone olds a) k o.row) (sym e) ∙ changed-alike key o.row (undone olds a) (undone olds b) (agree-undone olds key a b h) ∙ ap (λ k. changed (undone olds b) k o.row) e
+  | inr f ↦ ap (λ (r : Rows). changed r o.key o.row) (olds-kept olds key a b (sym (ap (λ x. x || has_old olds key) f) ∙ has) h)
+]
+
+-- rows that have all keys that others have
+abbrev HasMore : Rows → Rows → Type 0
+HasMore a b = (q : RowKey) → is_some (get a q) ≡ true → is_some (get b q) ≡ true
+
+more-changed : (key : RowKey) (row : Option Row) (a b : Rows) → HasMore a b → HasMore (changed a key row) (changed b key row)
+more-changed key row a b h q t =
+    let had : is_some (cond (eq_by_cmp row_key_cmp q key) row (get a q)) ≡ true = ap is_some (sym (get-changed row_key_cmp_total exact_keys a key row q)) ∙ t in
+    ap is_some (get-changed row_key_cmp_total exact_keys b key row q) ∙ chosen (eq_by_cmp row_key_cmp q key) row (get a q) (get b q) (h q) had
+  where
+    chosen : (x : Bool) (o y z : Option Row) → (is_some y ≡ true → is_some z ≡ true) → is_some (cond x o y) ≡ true → is_some (cond x o z) ≡ true
+    chosen true o y z f e = e
+    chosen false o y z f e = f e
+
+more-undone : (olds : List OldRow) (a b : Rows) → HasMore a b → HasMore (undone olds a) (undone olds b)
+more-undone [] a b h q t = h q t
+more-undone (o ∷ olds) a b h q t = more-changed o.key o.row (undone olds a) (undone olds b) (more-undone olds a b h) q t
+
+there-more : (key : RowKey) (row : Option Row) (a b : Rows) → HasMore a b → IsThere key row a → IsThere key row b
+there-more key None a b h t = tt
+there-more key (Some row) a b h t = h key t
+
+pub all-there-more : (olds : List OldRow) (a b : Rows) → HasMore a b → AreThere olds a → AreThere olds b
+all-there-more [] a b h t = tt
+all-there-more (o ∷ olds) a b h t = (there-more o.key o.row (undone olds a) (undone olds b) (more-undone olds a b h) t.0, all-there-more olds a b h t.1)
+
+more-put : (rows : Rows) (key : RowKey) (row : Row) → HasMore rows (changed rows key (Some row))
+more-put rows key row q t = ap is_some (get-changed row_key_cmp_total exact_keys rows key (Some row) q) ∙ chosen (eq_by_cmp row_key_cmp q key) (get rows q) t
+  where
+    chosen : (x : Bool) (o : Option Row) → is_some o ≡ true → is_some (cond x (Some row) o) ≡ true
+    chosen true o e = refl
+    chosen false o e = e
+
+numbers-kept : (pages : List IndexPage) (n : ℕ) (a b : Numbers) (c : ℕ) (q : RowKey) → has_place pages n ≡ true → is_of n q ≡ true → restored_numbers pages a c q ≡ restored_numbers pages b c q
+numbers-kept [] n a b c q has here = let no : false ≡ true = has in cc
+numbers-kept (p ∷ pages) n a b c q has here = elim (cases_Bool (eqb n p.place)) [
+  | inl t ↦
+      let e : is_of p.place q ≡ true = ap (λ m. is_of m q) (sym (eqb-true n p.place t)) ∙ here in
+      ap (λ x. cond x (has_in p.index c q) (restored_numbers pages a c q)) e ∙ sym (ap (λ x. cond x (has_in p.index c q) (restored_numbers pages b c q)) e)
+  | inr f ↦ ap (cond (is_of p.place q) (has_in p.index c q)) (numbers-kept pages n a b c q (sym (ap (λ x. x || has_place pages n) f) ∙ has) here)
+]
+
+-- a change at a key for which all is saved
+module _ (before : Before) (rows : Rows) (key : RowKey) (row : Option Row) (h : HasBefore before key row) where
+  agree-leaf : AgreeOff (leaf key) (changed rows key row) rows
+  agree-leaf q e = get-changed row_key_cmp_total exact_keys rows key row q ∙ ap (λ b. cond b row (get rows q)) (other_leaf q key e)
+
+  agree-key : (all : Rows) → AgreeBut key (changed all key row) all
+  agree-key all q e = get-changed row_key_cmp_total exact_keys all key row q ∙ ap (λ b. cond b row (get all q)) e
+
+  -- the page is saved
+  page-base : has_leaf before.pages (leaf key) ≡ true → with_pages before.pages (changed rows key row) ≡ with_pages before.pages rows
+  page-base t = pages-kept before.pages (leaf key) (changed rows key row) rows t agree-leaf
+
+  -- the row is
+  row-back : has_leaf before.pages (leaf key) ≡ false → has_old before.olds key ≡ true → restored before (changed rows key row) ≡ restored before rows
+  row-back f t =
+      ap (undone before.olds) (pages-changed before.pages rows key row f)
+      ∙ olds-kept before.olds key (changed (with_pages before.pages rows) key row) (with_pages before.pages rows) t (agree-key (with_pages before.pages rows))
+
+  old-of : (r : Option Row) → HasRow before key r → has_leaf before.pages (leaf key) ≡ false → has_old before.olds key ≡ true
+  old-of None has f = let no : true ≡ false = sym has ∙ f in cc
+  old-of (Some r) has f = sym (ap (λ b. b || has_old before.olds key) f) ∙ has
+
+  pub restored-changed : restored before (changed rows key row) ≡ restored before rows
+  restored-changed = elim (cases_Bool (has_leaf before.pages (leaf key))) [
+    | inl t ↦ ap (undone before.olds) (page-base t)
+    | inr f ↦ row-back f (old-of row h.rows f)
+  ]
+
+  at-key : (c : ℕ) → HasNumbers before.indexes key → restored_numbers before.indexes (numbers_of (changed rows key row)) c key ≡ restored_numbers before.indexes (numbers_of rows) c key
+  at-key c (inl none) = numbers-alike before.indexes (numbers_of (changed rows key row)) (numbers_of rows) c key (none c (owner_at (get (changed rows key row) key)) ∙ sym (none c (owner_at (get rows key))))
+  at-key c (inr there) = numbers-kept before.indexes there.0 (numbers_of (changed rows key row)) (numbers_of rows) c key there.2 there.1
+
+  numbers-changed : (c : ℕ) (q : RowKey) → restored_numbers before.indexes (numbers_of (changed rows key row)) c q ≡ restored_numbers before.indexes (numbers_of rows) c q
+  numbers-changed c q = elim (cases_Bool (eq_by_cmp row_key_cmp q key)) [
+    | inl t ↦
+        let e : q ≡ key = exact_keys q key (tied _ t) in
+        ap (λ k. restored_numbers before.indexes (numbers_of (changed rows key row)) c k) e ∙ at-key c h.numbers ∙ ap (λ k. restored_numbers before.indexes (numbers_of rows) c k) (sym e)
+    | inr f ↦ numbers-alike before.indexes (numbers_of (changed rows key row)) (numbers_of rows) c q (ap (λ o. owns c q (owner_at o)) (get-changed row_key_cmp_total exact_keys rows key row q ∙ ap (λ b. cond b row (get rows q)) f))
+  ]
+
+  there-put : (r : Option Row) → r ≡ row → HasRow before key r → has_leaf before.pages (leaf key) ≡ false → AreThere before.olds (with_pages before.pages rows) → AreThere before.olds (with_pages before.pages (changed rows key row))
+  there-put None is has f t = let no : true ≡ false = sym has ∙ f in cc
+  there-put (Some r) is has f t =
+      subst (λ (all : Rows). AreThere before.olds all) (sym (pages-changed before.pages rows key row f))
+      (subst (λ o. AreThere before.olds (changed (with_pages before.pages rows) key o)) is
+      (all-there-more before.olds (with_pages before.pages rows) (changed (with_pages before.pages rows) key (Some r)) (more-put (with_pages before.pages rows) key r) t))
+
+  there-changed : AreThere before.olds (with_pages before.pages rows) → AreThere before.olds (with_pages before.pages (changed rows key row))
+  there-changed t = elim (cases_Bool (has_leaf before.pages (leaf key))) [
+    | inl page ↦ subst (λ (all : Rows). AreThere before.olds all) (sym (page-base page)) t
+    | inr f ↦ there-put row refl h.rows f t
+  ]
+
+  pub saved-changed : IsSavedOf before rows → IsSavedOf before (changed rows key row)
+  saved-changed kept = record { same = λ c q. numbers-changed c q ∙ kept.same c q ∙ ap (λ (r : Rows). numbers_of r c q) (sym restored-changed); there = there-changed kept.there }
+
+-- ---- for answers
+pub no-items : {A : Type 0} (xs : List A) → length xs ≡ 0 → xs ≡ []
+no-items [] e = refl
+no-items (x ∷ xs) e = absurd (omega (arith, e))
+
+-- the newest of the rows takes the place of one that is there
+pub there-last : (olds : List OldRow) (old : OldRow) (rows : Rows) → AreThere (olds ++ old ∷ []) rows → IsThere old.key old.row rows
+there-last [] old rows h = h.0
+there-last (o ∷ olds) old rows h = there-last olds old rows h.1
+
+pub there-rest : (olds : List OldRow) (old : OldRow) (rows : Rows) → AreThere (olds ++ old ∷ []) rows → AreThere olds (changed rows old.key old.row)
+there-rest [] old rows h = tt
+there-rest (o ∷ olds) old rows h = (subst (λ (r : Rows). IsThere o.key o.row r) (undone-push olds old rows) h.0, there-rest olds old rows h.1)
+
+-- all of it moved back
+pub moved-back : (before : Before) (then rows : Rows) (old new : Numbers) → ((c : ℕ) (q : RowKey) → old c q ≡ numbers_of then c q) → IsSavedOf before then → rows ≡ restored before then → ((c : ℕ) (q : RowKey) → new c q ≡ restored_numbers before.indexes old c q) → (c : ℕ) (q : RowKey) → new c q ≡ numbers_of rows c q
+moved-back before then rows old new h kept is e c q = e c q ∙ numbers-alike before.indexes old (numbers_of then) c q (h c q) ∙ kept.same c q ∙ ap (λ (r : Rows). numbers_of r c q) (sym is)

@@ -1,3 +1,4 @@
 pub mod BitSets
 pub mod Paged
+pub mod Points
 pub mod Saving

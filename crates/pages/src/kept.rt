@@ -1,11 +1,22 @@
-//! Copies of pages.
-ghost use Rattle.std.specs.Prelude.{◌≡◌, ◌<◌};
+//! Copies of pages and of rows.
+ghost use Rattle.std.specs.Prelude.{◌≡◌, ◌<◌, true};
 ghost use Rattle.indexes.specs.declared.place.TheConstants.{PLACES};
 ghost use Rattle.pages.specs.Paged.{AreOfLeaf};
+ghost use Rattle.tpcc_rows.specs.Changing.{new_row_fits};
 ghost use Rattle.tpcc_rows.specs.declared.codes.TheConstants.{LEAVES};
 
 use indexes::DistrictIndex;
 use leaf_rows::LeafRows;
+use tpcc_rows::key::RowKey;
+use tpcc_rows::row::Row;
+
+/// What a key had: a row, or none.
+#[derive(Drop)]
+pub(crate) struct OldRow {
+    pub(crate) key: RowKey,
+    pub(crate) row: Option<Row>,
+    ghost fits: { new_row_fits key row ≡ true },
+}
 
 /// The page of a leaf, as it was.
 #[derive(Drop)]
@@ -22,11 +33,4 @@ pub(crate) struct IndexPage {
     pub(crate) place: usize,
     pub(crate) index: DistrictIndex,
     ghost small: { place < PLACES },
-}
-
-/// Pages that were copied together.
-#[derive(Drop)]
-pub(crate) struct Kept {
-    pub(crate) page: Option<LeafPage>,
-    pub(crate) index: Option<IndexPage>,
 }

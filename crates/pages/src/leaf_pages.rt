@@ -1,11 +1,12 @@
 //! A page of rows for each leaf.
-ghost use Rattle.std.specs.Prelude.{◌≡◌, ◌<◌, IfOk, IfSome, OnOk, OnErr, length, option_copied, true};
+ghost use Rattle.std.specs.Prelude.{◌≡◌, ◌<◌, IfOk, IfSome, OnOk, OnErr, is_some, length, option_copied, true};
 ghost use Rattle.std.specs.FinMap as map;
-ghost use Rattle.pages.specs.Saving.{with_page};
+ghost use Rattle.serializability.specs.Changes.{changed};
+ghost use Rattle.pages.specs.Saving.{IsThere, with_leaf};
 ghost use Rattle.tpcc_rows.specs.Leaves.{page_rows};
 ghost use Rattle.tpcc_rows.specs.RowKinds.{fits};
 
-use crate::kept::LeafPage;
+use crate::kept::{LeafPage, OldRow};
 use crate::leaf_lists::LeafLists;
 use leaf_rows::LeafRows;
 use std::alloc::Global;
@@ -106,12 +107,34 @@ impl Pages {
         &self.pages[leaf]
     }
 
-    /// The page, where there is one, is its leaf's from now on.
-    pub(crate) fn put_back(&mut self, page: Option<LeafPage>)
-        ensures { self.new ≡ with_page page self.old }
+    /// The page is its leaf's from now on.
+    pub(crate) fn put_back(&mut self, page: LeafPage)
+        ensures { self.new ≡ with_leaf self.old page.leaf page.rows }
     {
-        if let Some(page) = page {
-            self.pages[page.leaf] = page.rows;
+        self.pages[page.leaf] = page.rows;
+    }
+
+    /// The key, which has a row, has this one from now on. It takes no memory.
+    fn replace(&mut self, key: RowKey, row: Row)
+        requires kind { fits key row ≡ true }
+        requires there { is_some (map.get self.old key) ≡ true }
+        ensures { self.new ≡ map.insert self.old key row }
+    {
+        let n = leaf(&key);
+        self.pages[n].replace(key, row);
+    }
+
+    /// The key has what it had from now on.
+    pub(crate) fn undo(&mut self, old: OldRow)
+        requires { IsThere old.key old.row self.old }
+        ensures { self.new ≡ changed self.old old.key old.row }
+    {
+        let OldRow { key, row } = old;
+        match row {
+            Some(row) => self.replace(key, row),
+            None => {
+                self.remove(&key);
+            }
         }
     }
 

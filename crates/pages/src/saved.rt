@@ -1,17 +1,15 @@
-//! Pages as they were, to which rows can go back.
-ghost use Rattle.std.specs.Prelude.{◌≡◌, ◌<◌, ◌*◌, ◌++◌, ◌∷◌, [], ◌||◌, ℕ, IfSome, OnOk, OnErr};
+//! Rows as they were, to which a store can go back.
+ghost use Rattle.std.specs.Prelude.{◌≡◌, ◌<◌, ◌++◌, ◌∷◌, [], OnOk, OnErr};
 ghost use Rattle.indexes.specs.declared.place.TheConstants.{PLACES};
 ghost use Rattle.tpcc_rows.specs.declared.codes.TheConstants.{LEAVES};
-ghost use Rattle.pages.specs.BitSets.{has_bit};
-ghost use Rattle.pages.specs.Saving.{AreMarks, has_leaf, has_place, is_leaf, is_place, is_that};
-ghost use Rattle.pages.specs.declared.bits.TheConstants.{WORD_BITS};
+ghost use Rattle.pages.specs.Saving.{AreMarks, Before, has_leaf, has_of_leaf, has_place};
 
 use crate::bits::{Bits, WORD_BITS};
-use crate::kept::Kept;
+use crate::kept::{IndexPage, LeafPage, OldRow};
 use indexes::place::PLACES;
 use std::alloc::Global;
 use std::default::MadeWith;
-use tpcc_rows::codes::LEAVES;
+use tpcc_rows::codes::{LEAVES, leaf};
 use tpcc_rows::memory::Memory;
 
 /// A bit for each leaf.
@@ -20,59 +18,41 @@ const LEAF_WORDS: usize = LEAVES / WORD_BITS;
 /// A bit for each place.
 const PLACE_WORDS: usize = PLACES / WORD_BITS + 1;
 
-/// Copies of pages, each from before its first change, and which pages they are of.
+/// What has changed since rows were as they are to be again: what each key had that was put, and where a row was removed, the
+/// whole page of its leaf, since a row that comes back to a page may need memory; then no row of that leaf is noted any more.
+/// Index pages are copied whole.
 #[derive(Drop)]
 pub struct Saved {
-    kept: Vec<Kept>,
+    pages: Vec<LeafPage>,
+    olds: Vec<OldRow>,
+    indexes: Vec<IndexPage>,
     leaves: Bits<LEAF_WORDS>,
     places: Bits<PLACE_WORDS>,
-    ghost marked: { AreMarks kept.items leaves.words places.words },
-}
-
-impl Kept {
-    fn leaf(&self) -> Option<usize>
-        ensures value { (n : ℕ) → is_that n result ≡ is_leaf n self.now.page }
-        ensures small { IfSome result (λ n. n < LEAVES) }
-    {
-        let page = self.page.as_ref()?;
-        Some(page.leaf)
-    }
-
-    fn place(&self) -> Option<usize>
-        ensures value { (n : ℕ) → is_that n result ≡ is_place n self.now.index }
-        ensures small { IfSome result (λ n. n < PLACES) }
-    {
-        let page = self.index.as_ref()?;
-        Some(page.place)
-    }
-}
-
-/// The number, where there is one, is marked from now on.
-fn mark<const WORDS: usize>(marks: &mut Bits<WORDS>, number: Option<usize>)
-    requires { IfSome number (λ n. n < WORD_BITS * WORDS) }
-    ensures { (n : ℕ) → has_bit marks.new.words n ≡ (is_that n number || has_bit marks.old.words n) }
-{
-    if let Some(n) = number {
-        marks.add(n);
-    }
+    touched: Bits<LEAF_WORDS>,
+    ghost marked: { AreMarks (record { pages = pages.items; olds = olds.items; indexes = indexes.items }) leaves.words places.words touched.words },
 }
 
 impl Saved {
-    /// No pages.
+    /// Nothing.
     pub fn new(alloc: Global) -> Saved
-        ensures { result.kept.items ≡ [] }
+        ensures pages { result.pages.items ≡ [] }
+        ensures olds { result.olds.items ≡ [] }
+        ensures indexes { result.indexes.items ≡ [] }
     {
         Saved {
-            kept: Vec::new(alloc),
+            pages: Vec::new(alloc),
+            olds: Vec::new(alloc),
+            indexes: Vec::new(alloc),
             leaves: Bits::new(),
             places: Bits::new(),
+            touched: Bits::new(),
         }
     }
 
     /// Whether the page of the leaf is here.
-    pub fn has_leaf(&self, leaf: usize) -> bool
+    pub(crate) fn has_leaf(&self, leaf: usize) -> bool
         requires { leaf < LEAVES }
-        ensures { result ≡ has_leaf self.now.kept.items leaf }
+        ensures { result ≡ has_leaf self.now.pages.items leaf }
     {
         self.leaves.has(leaf)
     }
@@ -80,29 +60,66 @@ impl Saved {
     /// Whether the index page at the place is here.
     pub(crate) fn has_place(&self, place: usize) -> bool
         requires { place < PLACES }
-        ensures { result ≡ has_place self.now.kept.items place }
+        ensures { result ≡ has_place self.now.indexes.items place }
     {
         self.places.has(place)
     }
 
-    /// These copies too are here from now on.
-    pub(crate) fn keep(&mut self, kept: Kept) -> Result<(), Memory>
-        ensures ok { OnOk result (self.new.kept.items ≡ self.old.kept.items ++ kept ∷ []) }
-        ensures err { OnErr result (self.new.kept.items ≡ self.old.kept.items) }
+    /// Whether the page of the leaf or a row of it is here.
+    pub fn has_of_leaf(&self, leaf: usize) -> bool
+        requires { leaf < LEAVES }
+        ensures { result ≡ has_of_leaf (record { pages = self.now.pages.items; olds = self.now.olds.items; indexes = self.now.indexes.items }) leaf }
     {
-        let leaf = kept.leaf();
-        let place = kept.place();
-        self.kept.push(kept)?;
-        mark(&mut self.leaves, leaf);
-        mark(&mut self.places, place);
+        self.touched.has(leaf)
+    }
+
+    /// This page too is here from now on.
+    pub(crate) fn keep_page(&mut self, page: LeafPage) -> Result<(), Memory>
+        ensures ok { OnOk result (self.new.pages.items ≡ self.old.pages.items ++ page ∷ []) }
+        ensures err { OnErr result (self.new.pages.items ≡ self.old.pages.items) }
+        ensures olds { self.new.olds.items ≡ self.old.olds.items }
+        ensures indexes { self.new.indexes.items ≡ self.old.indexes.items }
+    {
+        let leaf = page.leaf;
+        self.pages.push(page)?;
+        self.leaves.add(leaf);
+        self.touched.add(leaf);
         Ok(())
     }
 
-    /// The copies, given away.
-    pub(crate) fn into_kept(self) -> Vec<Kept>
-        ensures { result.items ≡ self.kept.items }
+    /// This row too is here from now on.
+    pub(crate) fn keep_row(&mut self, old: OldRow) -> Result<(), Memory>
+        ensures ok { OnOk result (self.new.olds.items ≡ self.old.olds.items ++ old ∷ []) }
+        ensures err { OnErr result (self.new.olds.items ≡ self.old.olds.items) }
+        ensures pages { self.new.pages.items ≡ self.old.pages.items }
+        ensures indexes { self.new.indexes.items ≡ self.old.indexes.items }
     {
-        self.kept
+        let leaf = leaf(&old.key);
+        self.olds.push(old)?;
+        self.touched.add(leaf);
+        Ok(())
+    }
+
+    /// This index page too is here from now on.
+    pub(crate) fn keep_index(&mut self, page: IndexPage) -> Result<(), Memory>
+        ensures ok { OnOk result (self.new.indexes.items ≡ self.old.indexes.items ++ page ∷ []) }
+        ensures err { OnErr result (self.new.indexes.items ≡ self.old.indexes.items) }
+        ensures pages { self.new.pages.items ≡ self.old.pages.items }
+        ensures olds { self.new.olds.items ≡ self.old.olds.items }
+    {
+        let place = page.place;
+        self.indexes.push(page)?;
+        self.places.add(place);
+        Ok(())
+    }
+
+    /// All of it, given away.
+    pub(crate) fn into_parts(self) -> (Vec<LeafPage>, Vec<OldRow>, Vec<IndexPage>)
+        ensures pages { result.0.items ≡ self.pages.items }
+        ensures olds { result.1.items ≡ self.olds.items }
+        ensures indexes { result.2.items ≡ self.indexes.items }
+    {
+        (self.pages, self.olds, self.indexes)
     }
 }
 

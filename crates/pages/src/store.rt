@@ -1,5 +1,5 @@
 //! Rows by leaf, and the indexes of the orders' numbers.
-ghost use Rattle.std.specs.Prelude.{◌≡◌, ◌<◌, ℕ, IfNone, IfOk, IfSome, OnOk, OnErr, false, length, option_copied, true};
+ghost use Rattle.std.specs.Prelude.{◌≡◌, ◌<◌, ◌||◌, ℕ, IfNone, IfOk, IfSome, OnOk, OnErr, false, length, option_copied, true};
 ghost use Rattle.std.specs.BTreeSet.{contains};
 ghost use Rattle.std.specs.FinMap as map;
 ghost use Rattle.std.specs.Ordering.{nat_cmp};
@@ -7,15 +7,17 @@ ghost use Rattle.indexes.specs.declared.place.TheConstants.{PLACES};
 ghost use Rattle.indexes.specs.Indexed.{AreOf, has};
 ghost use Rattle.indexes.specs.Owners.{owner_at};
 ghost use Rattle.indexes.specs.Numbers.{is_customer_number, is_new_number};
-ghost use Rattle.pages.specs.Saving.{HasPages, IsLacking, IsLackingIndex, IsSavedOf, restored, with_index};
+ghost use Rattle.pages.specs.Points.{before_of};
+ghost use Rattle.pages.specs.Saving.{AreThere, HasBefore, HasNumbers, IsLacking, IsLackingIndex, IsLackingRow, IsSavedOf, StandsForSame, has_leaf, has_old};
+ghost use Rattle.pages.specs.Saving.{restored, restored_numbers, undone, with_pages};
 ghost use Rattle.tpcc_rows.specs.declared.key.RowKey.{RowKey};
 ghost use Rattle.tpcc_rows.specs.declared.codes.TheConstants.{LEAVES};
-ghost use Rattle.tpcc_rows.specs.Leaves.{page_rows};
+ghost use Rattle.tpcc_rows.specs.Leaves.{leaf, page_rows};
 ghost use Rattle.tpcc_rows.specs.Picks.{latest, oldest};
 ghost use Rattle.tpcc_rows.specs.RowKinds.{fits};
 ghost use Rattle.tpcc_rows.specs.Rows.{customer_row, district_row, warehouse_row};
 
-use crate::kept::{IndexPage, Kept, LeafPage};
+use crate::kept::{IndexPage, LeafPage, OldRow};
 use crate::leaf_pages::Pages;
 use crate::saved::Saved;
 use indexes::Indexes;
@@ -74,10 +76,24 @@ fn indexes_of(alloc: Global, pages: &Pages) -> Result<Indexes, Memory>
     Ok(indexes)
 }
 
+/// A copy of what the key has, where the page of its leaf isn't saved.
+fn lacking_row(pages: &Pages, key: &RowKey, saved: &Saved) -> Result<Option<OldRow>, Memory>
+    ensures { IfOk result (IsLackingRow (before_of saved.now) pages.now key.now) }
+{
+    if saved.has_leaf(leaf(key)) {
+        return Ok(None);
+    }
+    let row = match pages.get(key) {
+        Some(row) => Some(row.copied()?),
+        None => None,
+    };
+    Ok(Some(OldRow { key: *key, row }))
+}
+
 /// A copy of the page of the leaf, where it isn't saved.
 fn lacking_page(pages: &Pages, leaf: usize, saved: &Saved) -> Result<Option<LeafPage>, Memory>
     requires { leaf < LEAVES }
-    ensures { IfOk result (IsLacking saved.now.kept.items pages.now leaf) }
+    ensures { IfOk result (IsLacking saved.now.pages.items pages.now leaf) }
 {
     if saved.has_leaf(leaf) {
         return Ok(None);
@@ -93,7 +109,7 @@ fn lacking_index(
     saved: &Saved,
 ) -> Result<Option<IndexPage>, Memory>
     requires { IfSome place (λ n. n < PLACES) }
-    ensures { IfOk result (IsLackingIndex saved.now.kept.items (has indexes.now) place) }
+    ensures { IfOk result (IsLackingIndex saved.now.indexes.items (has indexes.now) place) }
 {
     let Some(place) = place else {
         return Ok(None);
@@ -105,11 +121,30 @@ fn lacking_index(
     Ok(Some(IndexPage { place, index }))
 }
 
-/// The index page, where there is one, is at its place from now on.
-fn put_back(indexes: &mut Indexes, page: Option<IndexPage>)
-    ensures { (c : ℕ) (q : RowKey) → has indexes.new c q ≡ with_index page (has indexes.old) c q }
+/// The pages are their leaves' from now on, the one that was saved first in place of later ones.
+fn put_pages_back(pages: &mut Pages, mut saved: Vec<LeafPage>)
+    ensures { pages.new ≡ with_pages saved.items pages.old }
 {
-    if let Some(page) = page {
+    while let Some(page) = saved.pop() {
+        pages.put_back(page);
+    }
+}
+
+/// Each key has what it had from now on, before the first of its changes.
+fn undo_all(pages: &mut Pages, mut saved: Vec<OldRow>)
+    requires { AreThere saved.items pages.old }
+    ensures { pages.new ≡ undone saved.items pages.old }
+{
+    while let Some(old) = saved.pop() {
+        pages.undo(old);
+    }
+}
+
+/// The index pages are at their places from now on.
+fn put_indexes_back(indexes: &mut Indexes, mut saved: Vec<IndexPage>)
+    ensures { (c : ℕ) (q : RowKey) → has indexes.new c q ≡ restored_numbers saved.items (has indexes.old) c q }
+{
+    while let Some(page) = saved.pop() {
         indexes.put_back(page.place, page.index);
     }
 }
@@ -186,31 +221,68 @@ impl RowStore {
         self.pages.remove(key)
     }
 
-    /// Copies the pages that a change of the key alters into the saved ones, where these lack them.
-    pub fn save(&self, key: &RowKey, saved: &mut Saved) -> Result<(), Memory>
-        ensures there { OnOk result (HasPages saved.new.kept.items key.now) }
-        ensures rows { OnOk result (restored saved.new.kept.items self.now ≡ restored saved.old.kept.items self.now) }
-        ensures numbers { OnOk result (IsSavedOf saved.old.kept.items self.now → IsSavedOf saved.new.kept.items self.now) }
-        ensures err { OnErr result (saved.new.kept.items ≡ saved.old.kept.items) }
+    /// Copies the index page of the key's number, where it has one that isn't saved.
+    fn save_index(&self, key: &RowKey, saved: &mut Saved) -> Result<(), Memory>
+        ensures there { OnOk result (HasNumbers saved.new.indexes.items key.now) }
+        ensures same { StandsForSame (before_of saved.old) (before_of saved.new) self.now }
     {
-        let page = lacking_page(&self.pages, leaf(key), saved)?;
-        let index = lacking_index(&self.indexes, place_of(key), saved)?;
-        if page.is_none() && index.is_none() {
-            return Ok(());
+        match lacking_index(&self.indexes, place_of(key), saved)? {
+            Some(page) => saved.keep_index(page),
+            None => Ok(()),
         }
-        saved.keep(Kept { page, index })
     }
 
-    /// Moves the saved pages back.
-    pub fn restore(&mut self, saved: Saved)
-        requires { IsSavedOf saved.kept.items self.old }
-        ensures { self.new ≡ restored saved.kept.items self.old }
+    /// Copies what the key has, where the page of its leaf isn't saved.
+    fn save_row(&self, key: &RowKey, saved: &mut Saved) -> Result<(), Memory>
+        ensures there { OnOk result ((has_leaf saved.new.pages.items (leaf key.now) || has_old saved.new.olds.items key.now) ≡ true) }
+        ensures same { StandsForSame (before_of saved.old) (before_of saved.new) self.now }
+        ensures indexes { saved.new.indexes.items ≡ saved.old.indexes.items }
     {
-        let mut saved = saved.into_kept();
-        while let Some(kept) = saved.pop() {
-            self.pages.put_back(kept.page);
-            put_back(&mut self.indexes, kept.index);
+        match lacking_row(&self.pages, key, saved)? {
+            Some(old) => saved.keep_row(old),
+            None => Ok(()),
         }
+    }
+
+    /// Copies the page of a leaf, where it isn't saved.
+    fn save_page(&self, leaf: usize, saved: &mut Saved) -> Result<(), Memory>
+        requires { leaf < LEAVES }
+        ensures there { OnOk result (has_leaf saved.new.pages.items leaf ≡ true) }
+        ensures same { StandsForSame (before_of saved.old) (before_of saved.new) self.now }
+        ensures indexes { saved.new.indexes.items ≡ saved.old.indexes.items }
+    {
+        match lacking_page(&self.pages, leaf, saved)? {
+            Some(page) => saved.keep_page(page),
+            None => Ok(()),
+        }
+    }
+
+    /// Copies what a change of the key to this row, or to none, alters into what is saved, where that lacks it.
+    pub fn save(
+        &self,
+        key: &RowKey,
+        new_row: Option<&Row>,
+        saved: &mut Saved,
+    ) -> Result<(), Memory>
+        ensures there { OnOk result (HasBefore (before_of saved.new) key.now (option_copied new_row.entry)) }
+        ensures same { StandsForSame (before_of saved.old) (before_of saved.new) self.now }
+    {
+        self.save_index(key, saved)?;
+        match new_row {
+            Some(_) => self.save_row(key, saved),
+            None => self.save_page(leaf(key), saved),
+        }
+    }
+
+    /// Moves back what is saved. It takes no memory.
+    pub fn restore(&mut self, saved: Saved)
+        requires { IsSavedOf (before_of saved) self.old }
+        ensures { self.new ≡ restored (before_of saved) self.old }
+    {
+        let (pages, olds, indexes) = saved.into_parts();
+        put_pages_back(&mut self.pages, pages);
+        undo_all(&mut self.pages, olds);
+        put_indexes_back(&mut self.indexes, indexes);
     }
 
     /// The rows of a leaf.

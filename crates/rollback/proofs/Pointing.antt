@@ -10,87 +10,95 @@ use Rattle.tpcc_rows.specs.declared.row.Row.{Row}
 use Rattle.tpcc_rows.specs.RowMap.{Rows}
 use Rattle.tpcc_rows.specs.Leaves.{page_rows}
 use Rattle.pages.specs.declared.saved.Saved.{Saved}
-use Rattle.pages.specs.Saving.{HasPages, has_leaf, IsSavedOf, restored}
+use Rattle.pages.specs.Points.{before_of}
+use Rattle.pages.specs.Saving.{Before, AreThere, HasBefore, has_of_leaf, IsSavedOf, numbers_of, restored, restored_numbers, StandsForSame, undone, with_pages}
 use Rattle.pages.proofs.Restoring.{restored-changed, restored-page, saved-changed}
 use Rattle.rollback.specs.Marks.{is_dirty, HasAlsoSaved}
 use Rattle.rollback.specs.Pointed.{AreSaved, first_or, NewestHas, points_of}
 use Rattle.rollback.proofs.Marking.{or-left, or-right, page-past}
 
--- ---- a change at a key whose pages the newest point has
-pub points-changed : (ss : List Saved) (rows : Rows) (k : RowKey) (c : Option Row) → NewestHas ss k → points_of ss (changed rows k c) ≡ points_of ss rows
+-- ---- a change at a key for which the newest point has all
+pub points-changed : (ss : List Saved) (rows : Rows) (k : RowKey) (c : Option Row) → NewestHas ss k c → points_of ss (changed rows k c) ≡ points_of ss rows
 points-changed [] rows k c h = refl
-points-changed (s ∷ []) rows k c h = ap (λ (r : Rows). r ∷ []) (restored-changed s.kept.items rows k c h)
-points-changed (s ∷ t ∷ ss) rows k c h = ap (λ (ps : List Rows). restored s.kept.items (first_or ps rows) ∷ ps) (points-changed (t ∷ ss) rows k c h)
+points-changed (s ∷ []) rows k c h = ap (λ (r : Rows). r ∷ []) (restored-changed (before_of s) rows k c h)
+points-changed (s ∷ t ∷ ss) rows k c h = ap (λ (ps : List Rows). restored (before_of s) (first_or ps rows) ∷ ps) (points-changed (t ∷ ss) rows k c h)
 
-pub saved-points : (ss : List Saved) (rows : Rows) (k : RowKey) (c : Option Row) → NewestHas ss k → AreSaved ss rows → AreSaved ss (changed rows k c)
+pub saved-points : (ss : List Saved) (rows : Rows) (k : RowKey) (c : Option Row) → NewestHas ss k c → AreSaved ss rows → AreSaved ss (changed rows k c)
 saved-points [] rows k c h a = a
-saved-points (s ∷ []) rows k c h a = (saved-changed s.kept.items rows k c h a.0, tt)
-saved-points (s ∷ t ∷ ss) rows k c h a = (subst (λ (ps : List Rows). IsSavedOf s.kept.items (first_or ps rows)) (sym (points-changed (t ∷ ss) rows k c h)) a.0, saved-points (t ∷ ss) rows k c h a.1)
+saved-points (s ∷ []) rows k c h a = (saved-changed (before_of s) rows k c h a.0, tt)
+saved-points (s ∷ t ∷ ss) rows k c h a = (subst (λ (ps : List Rows). IsSavedOf (before_of s) (first_or ps rows)) (sym (points-changed (t ∷ ss) rows k c h)) a.0, saved-points (t ∷ ss) rows k c h a.1)
 
--- ---- the newest point's pages replaced
-pub record IsMore (s d : Saved) (rows : Rows) : Type 0 where
-  pub rows_same : restored s.kept.items rows ≡ restored d.kept.items rows
-  pub of_same : IsSavedOf d.kept.items rows → IsSavedOf s.kept.items rows
-
-pub points-set : (ss : List Saved) (s d : Saved) (rows : Rows) (n : ℕ) → n + 1 ≡ length ss → IsMore s (get_or ss n d) rows → points_of (set ss n s) rows ≡ points_of ss rows
+-- ---- the newest point replaced
+pub points-set : (ss : List Saved) (s d : Saved) (rows : Rows) (n : ℕ) → n + 1 ≡ length ss → StandsForSame (before_of (get_or ss n d)) (before_of s) rows → points_of (set ss n s) rows ≡ points_of ss rows
 points-set [] s d rows n e h = refl
-points-set (t ∷ []) s d rows zero e h = ap (λ (r : Rows). r ∷ []) h.rows_same
+points-set (t ∷ []) s d rows zero e h = ap (λ (r : Rows). r ∷ []) h.restored_same
 points-set (t ∷ u ∷ ss) s d rows zero e h = absurd (omega arith)
 points-set (t ∷ []) s d rows (suc n) e h = absurd (omega arith)
-points-set (t ∷ u ∷ ss) s d rows (suc n) e h = ap (λ (ps : List Rows). restored t.kept.items (first_or ps rows) ∷ ps) (points-set (u ∷ ss) s d rows n (omega arith) h)
+points-set (t ∷ u ∷ ss) s d rows (suc n) e h = ap (λ (ps : List Rows). restored (before_of t) (first_or ps rows) ∷ ps) (points-set (u ∷ ss) s d rows n (omega arith) h)
 
-pub saved-set : (ss : List Saved) (s d : Saved) (rows : Rows) (n : ℕ) → n + 1 ≡ length ss → IsMore s (get_or ss n d) rows → AreSaved ss rows → AreSaved (set ss n s) rows
+pub saved-set : (ss : List Saved) (s d : Saved) (rows : Rows) (n : ℕ) → n + 1 ≡ length ss → StandsForSame (before_of (get_or ss n d)) (before_of s) rows → AreSaved ss rows → AreSaved (set ss n s) rows
 saved-set [] s d rows n e h a = a
-saved-set (t ∷ []) s d rows zero e h a = (h.of_same a.0, tt)
+saved-set (t ∷ []) s d rows zero e h a = (h.saved_same a.0, tt)
 saved-set (t ∷ u ∷ ss) s d rows zero e h a = absurd (omega arith)
 saved-set (t ∷ []) s d rows (suc n) e h a = absurd (omega arith)
-saved-set (t ∷ u ∷ ss) s d rows (suc n) e h a = (subst (λ (ps : List Rows). IsSavedOf t.kept.items (first_or ps rows)) (sym (points-set (u ∷ ss) s d rows n (omega arith) h)) a.0, saved-set (u ∷ ss) s d rows n (omega arith) h a.1)
+saved-set (t ∷ u ∷ ss) s d rows (suc n) e h a = (subst (λ (ps : List Rows). IsSavedOf (before_of t) (first_or ps rows)) (sym (points-set (u ∷ ss) s d rows n (omega arith) h)) a.0, saved-set (u ∷ ss) s d rows n (omega arith) h a.1)
 
-pub newest-set : (ss : List Saved) (s : Saved) (k : RowKey) (n : ℕ) → n + 1 ≡ length ss → HasPages s.kept.items k → NewestHas (set ss n s) k
-newest-set [] s k n e h = absurd (omega arith)
-newest-set (t ∷ []) s k zero e h = h
-newest-set (t ∷ u ∷ ss) s k zero e h = absurd (omega arith)
-newest-set (t ∷ []) s k (suc n) e h = absurd (omega arith)
-newest-set (t ∷ u ∷ []) s k (suc zero) e h = h
-newest-set (t ∷ u ∷ []) s k (suc (suc n)) e h = absurd (omega arith)
-newest-set (t ∷ u ∷ v ∷ ss) s k (suc zero) e h = absurd (omega arith)
-newest-set (t ∷ u ∷ v ∷ ss) s k (suc (suc n)) e h = newest-set (u ∷ v ∷ ss) s k (suc n) (omega arith) h
+pub newest-set : (ss : List Saved) (s : Saved) (k : RowKey) (c : Option Row) (n : ℕ) → n + 1 ≡ length ss → HasBefore (before_of s) k c → NewestHas (set ss n s) k c
+newest-set [] s k c n e h = absurd (omega arith)
+newest-set (t ∷ []) s k c zero e h = h
+newest-set (t ∷ u ∷ ss) s k c zero e h = absurd (omega arith)
+newest-set (t ∷ []) s k c (suc n) e h = absurd (omega arith)
+newest-set (t ∷ u ∷ []) s k c (suc zero) e h = h
+newest-set (t ∷ u ∷ []) s k c (suc (suc n)) e h = absurd (omega arith)
+newest-set (t ∷ u ∷ v ∷ ss) s k c (suc zero) e h = absurd (omega arith)
+newest-set (t ∷ u ∷ v ∷ ss) s k c (suc (suc n)) e h = newest-set (u ∷ v ∷ ss) s k c (suc n) (omega arith) h
 
 -- ---- one point more
 first-push : (ps : List Rows) (p rows : Rows) → first_or (ps ++ p ∷ []) rows ≡ first_or ps p
 first-push [] p rows = refl
 first-push (q ∷ ps) p rows = refl
 
-pub points-push : (ss : List Saved) (s : Saved) (rows : Rows) → points_of (ss ++ s ∷ []) rows ≡ points_of ss (restored s.kept.items rows) ++ restored s.kept.items rows ∷ []
+pub points-push : (ss : List Saved) (s : Saved) (rows : Rows) → points_of (ss ++ s ∷ []) rows ≡ points_of ss (restored (before_of s) rows) ++ restored (before_of s) rows ∷ []
 points-push [] s rows = refl
 points-push (t ∷ ss) s rows =
-    let back = restored s.kept.items rows in
-    ap (λ (ps : List Rows). restored t.kept.items (first_or ps rows) ∷ ps) (points-push ss s rows)
-    ∙ ap (λ (r : Rows). restored t.kept.items r ∷ (points_of ss back ++ back ∷ [])) (first-push (points_of ss back) back rows)
+    let back = restored (before_of s) rows in
+    ap (λ (ps : List Rows). restored (before_of t) (first_or ps rows) ∷ ps) (points-push ss s rows)
+    ∙ ap (λ (r : Rows). restored (before_of t) r ∷ (points_of ss back ++ back ∷ [])) (first-push (points_of ss back) back rows)
 
-pub saved-push : (ss : List Saved) (s : Saved) (rows : Rows) → IsSavedOf s.kept.items rows → AreSaved ss (restored s.kept.items rows) → AreSaved (ss ++ s ∷ []) rows
+pub saved-push : (ss : List Saved) (s : Saved) (rows : Rows) → IsSavedOf (before_of s) rows → AreSaved ss (restored (before_of s) rows) → AreSaved (ss ++ s ∷ []) rows
 saved-push [] s rows of a = (of, tt)
 saved-push (t ∷ ss) s rows of a =
-    let back = restored s.kept.items rows in
-    (subst (λ (r : Rows). IsSavedOf t.kept.items r) (sym (ap (λ (ps : List Rows). first_or ps rows) (points-push ss s rows) ∙ first-push (points_of ss back) back rows)) a.0, saved-push ss s rows of a.1)
+    let back = restored (before_of s) rows in
+    (subst (λ (r : Rows). IsSavedOf (before_of t) r) (sym (ap (λ (ps : List Rows). first_or ps rows) (points-push ss s rows) ∙ first-push (points_of ss back) back rows)) a.0, saved-push ss s rows of a.1)
 
 -- the newest of them
-pub saved-last : (ss : List Saved) (s : Saved) (rows : Rows) → AreSaved (ss ++ s ∷ []) rows → IsSavedOf s.kept.items rows
+pub saved-last : (ss : List Saved) (s : Saved) (rows : Rows) → AreSaved (ss ++ s ∷ []) rows → IsSavedOf (before_of s) rows
 saved-last [] s rows a = a.0
 saved-last (t ∷ ss) s rows a = saved-last ss s rows a.1
 
 -- and the others
-pub saved-pop : (ss : List Saved) (s : Saved) (rows : Rows) → AreSaved (ss ++ s ∷ []) rows → AreSaved ss (restored s.kept.items rows)
+pub saved-pop : (ss : List Saved) (s : Saved) (rows : Rows) → AreSaved (ss ++ s ∷ []) rows → AreSaved ss (restored (before_of s) rows)
 saved-pop [] s rows a = tt
 saved-pop (t ∷ ss) s rows a =
-    let back = restored s.kept.items rows in
-    (subst (λ (r : Rows). IsSavedOf t.kept.items r) (ap (λ (ps : List Rows). first_or ps rows) (points-push ss s rows) ∙ first-push (points_of ss back) back rows) a.0, saved-pop ss s rows a.1)
+    let back = restored (before_of s) rows in
+    (subst (λ (r : Rows). IsSavedOf (before_of t) r) (ap (λ (ps : List Rows). first_or ps rows) (points-push ss s rows) ∙ first-push (points_of ss back) back rows) a.0, saved-pop ss s rows a.1)
 
-pub nothing-saved : (s : Saved) (rows : Rows) → s.kept.items ≡ [] → IsSavedOf s.kept.items rows
-nothing-saved s rows e = subst (λ ks. IsSavedOf ks rows) (sym e) (record { same = λ c q. refl })
+nothing-back : (b : Before) (rows : Rows) → b.pages ≡ [] → b.olds ≡ [] → restored b rows ≡ rows
+nothing-back b rows pages olds = ap (λ os. undone os (with_pages b.pages rows)) olds ∙ ap (λ ps. with_pages ps rows) pages
 
-pub nothing-restored : (s : Saved) (rows : Rows) → s.kept.items ≡ [] → restored s.kept.items rows ≡ rows
-nothing-restored s rows e = ap (λ ks. restored ks rows) e
+nothing-of : (b : Before) (rows : Rows) → b.pages ≡ [] → b.olds ≡ [] → b.indexes ≡ [] → IsSavedOf b rows
+nothing-of b rows pages olds indexes =
+    let back : restored b rows ≡ rows = nothing-back b rows pages olds in
+    record {
+      same = λ c q. ap (λ ps. restored_numbers ps (numbers_of rows) c q) indexes ∙ ap (λ (r : Rows). numbers_of r c q) (sym back);
+      there = subst (λ os. AreThere os (with_pages b.pages rows)) (sym olds) tt;
+    }
+
+pub nothing-saved : (s : Saved) (rows : Rows) → s.pages.items ≡ [] → s.olds.items ≡ [] → s.indexes.items ≡ [] → IsSavedOf (before_of s) rows
+nothing-saved s rows pages olds indexes = nothing-of (before_of s) rows pages olds indexes
+
+pub nothing-restored : (s : Saved) (rows : Rows) → s.pages.items ≡ [] → s.olds.items ≡ [] → restored (before_of s) rows ≡ rows
+nothing-restored s rows pages olds = nothing-back (before_of s) rows pages olds
 
 pub length-points : (ss : List Saved) (rows : Rows) → length (points_of ss rows) ≡ length ss
 length-points [] rows = refl
@@ -120,9 +128,9 @@ first-drop zero (q ∷ ps) p rows h = refl
 first-drop (suc n) [] p rows h = absurd (omega arith)
 first-drop (suc n) (q ∷ ps) p rows h = first-drop n ps p rows (omega arith)
 
-pub back-pop : (n : ℕ) (old : List Rows) (present : Rows) (ss : List Saved) (s : Saved) (rows : Rows) → n ≤ length ss → IsBack n old present (ss ++ s ∷ []) rows → IsBack n old present ss (restored s.kept.items rows)
+pub back-pop : (n : ℕ) (old : List Rows) (present : Rows) (ss : List Saved) (s : Saved) (rows : Rows) → n ≤ length ss → IsBack n old present (ss ++ s ∷ []) rows → IsBack n old present ss (restored (before_of s) rows)
 back-pop n old present ss s rows h b =
-    let back = restored s.kept.items rows in
+    let back = restored (before_of s) rows in
     let few : n ≤ length (points_of ss back) = rw (length-points ss back) h in
     record {
       few = sym (ap (take n) (points-push ss s rows) ∙ take-append-le n (points_of ss back) (back ∷ []) few) ∙ b.few;
@@ -163,18 +171,18 @@ rewound n old new p at e = e ∙ take-next n (n + 1) old p refl at
 pub record KeepsClean (before after : List Bool) (old new : Rows) : Type 0 where
   pub kept : (n : ℕ) → is_dirty after n ≡ false → (is_dirty before n ≡ false) × (page_rows new n ≡ page_rows old n)
 
-not-saved : (s : Saved) (n : ℕ) → (nat_lt n 4096 && has_leaf s.kept.items n) ≡ false → (rows : Rows) → page_rows (restored s.kept.items rows) n ≡ page_rows rows n
+not-saved : (s : Saved) (n : ℕ) → (nat_lt n 4096 && has_of_leaf (before_of s) n) ≡ false → (rows : Rows) → page_rows (restored (before_of s) rows) n ≡ page_rows rows n
 not-saved s n h rows = elim (cases_Bool (nat_lt n 4096)) [
-  | inl t ↦ restored-page s.kept.items rows n (sym (ap (λ b. b && has_leaf s.kept.items n) t) ∙ h)
-  | inr f ↦ page-past (restored s.kept.items rows) rows n f
+  | inl t ↦ restored-page (before_of s) rows n (sym (ap (λ b. b && has_of_leaf (before_of s) n) t) ∙ h)
+  | inr f ↦ page-past (restored (before_of s) rows) rows n f
 ]
 
-pub clean-back : (first before after : List Bool) (old rows : Rows) (s : Saved) → HasAlsoSaved before s after → KeepsClean first before old rows → KeepsClean first after old (restored s.kept.items rows)
+pub clean-back : (first before after : List Bool) (old rows : Rows) (s : Saved) → HasAlsoSaved before s after → KeepsClean first before old rows → KeepsClean first after old (restored (before_of s) rows)
 clean-back first before after old rows s marks h = record {
   kept = λ n clean.
-      let both : ((nat_lt n 4096 && has_leaf s.kept.items n) || is_dirty before n) ≡ false = sym (marks n) ∙ clean in
-      let earlier = h.kept n (or-right (nat_lt n 4096 && has_leaf s.kept.items n) (is_dirty before n) both) in
-      (earlier.0, not-saved s n (or-left (nat_lt n 4096 && has_leaf s.kept.items n) (is_dirty before n) both) rows ∙ earlier.1);
+      let both : ((nat_lt n 4096 && has_of_leaf (before_of s) n) || is_dirty before n) ≡ false = sym (marks n) ∙ clean in
+      let earlier = h.kept n (or-right (nat_lt n 4096 && has_of_leaf (before_of s) n) (is_dirty before n) both) in
+      (earlier.0, not-saved s n (or-left (nat_lt n 4096 && has_of_leaf (before_of s) n) (is_dirty before n) both) rows ∙ earlier.1);
 }
 
 -- marks joined with those of saved leaves, one more

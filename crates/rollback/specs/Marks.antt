@@ -6,7 +6,8 @@ use Rattle.tpcc_rows.specs.Leaves.{leaf}
 use Rattle.tpcc_rows.specs.declared.codes.TheConstants.{LEAVES}
 use Rattle.tpcc_rows.specs.RowMap.{Changes}
 use Rattle.pages.specs.declared.saved.Saved.{Saved}
-use Rattle.pages.specs.Saving.{has_leaf}
+use Rattle.pages.specs.Points.{before_of}
+use Rattle.pages.specs.Saving.{has_of_leaf}
 
 -- whether the leaf is one of them
 abbrev pub is_dirty : List Bool → ℕ → Bool
@@ -19,9 +20,9 @@ AreClean marks = (n : ℕ) → is_dirty marks n ≡ false
 abbrev pub HasAlso : List Bool → ℕ → List Bool → Type 0
 HasAlso old leaf new = (n : ℕ) → is_dirty new n ≡ (eqb n leaf || is_dirty old n)
 
--- the new leaves are the old ones and those whose pages are saved
+-- the new leaves are the old ones and those of which something is saved
 abbrev pub HasAlsoSaved : List Bool → Saved → List Bool → Type 0
-HasAlsoSaved old saved new = (n : ℕ) → is_dirty new n ≡ ((nat_lt n LEAVES && has_leaf saved.kept.items n) || is_dirty old n)
+HasAlsoSaved old saved new = (n : ℕ) → is_dirty new n ≡ ((nat_lt n LEAVES && has_of_leaf (before_of saved) n) || is_dirty old n)
 
 -- whether one of the changes is on the leaf
 abbrev pub changes_leaf : Changes → ℕ → Bool

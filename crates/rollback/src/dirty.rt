@@ -60,12 +60,12 @@ impl Dirty {
         self.marks[leaf] = true;
     }
 
-    /// The leaves whose pages are saved are in the set too from now on.
+    /// The leaves of which something is saved are in the set too from now on.
     pub(crate) fn add_saved(&mut self, saved: &Saved)
         ensures { HasAlsoSaved self.old saved.now self.new }
     {
         for leaf in 0..LEAVES {
-            let is_saved = saved.has_leaf(leaf);
+            let is_saved = saved.has_of_leaf(leaf);
             let is_dirty = self.marks[leaf];
             self.marks[leaf] = is_dirty || is_saved;
         }

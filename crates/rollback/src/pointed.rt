@@ -28,7 +28,7 @@ use tpcc_rows::row::{CustomerRow, DistrictRow, Row, WarehouseRow};
 pub const POINTS: usize = 8;
 
 /// Rows, points to which they can go back, and the set of the leaves on which they have changed since it was last taken.
-/// A point is the pages that have changed since it was made and before the next one was, as they were.
+/// A point is what has changed since it was made and before the next one was, as it was.
 #[derive(Drop)]
 pub struct PointedStore {
     alloc: Global,
@@ -51,17 +51,23 @@ impl Model for PointedStore {
     ghost invariant = { λ s. AreSaved s.points.items s.store };
 }
 
-/// The newest point, if there is one, has the pages that a change of the key alters from now on, and stands for what it did.
-fn save_newest(store: &RowStore, key: &RowKey, points: &mut [Saved]) -> Result<(), Memory>
+/// The newest point, if there is one, has what a change of the key to this row, or to none, alters from now on, and stands for
+/// what it did.
+fn save_newest(
+    store: &RowStore,
+    key: &RowKey,
+    new_row: Option<&Row>,
+    points: &mut [Saved],
+) -> Result<(), Memory>
     ensures points { points_of points.new store.now ≡ points_of points.old store.now }
     ensures saved { AreSaved points.old store.now → AreSaved points.new store.now }
-    ensures there { OnOk result (NewestHas points.new key.now) }
+    ensures there { OnOk result (NewestHas points.new key.now (option_copied new_row.entry)) }
 {
     let len = points.len();
     if len == 0 {
         return Ok(());
     }
-    store.save(key, &mut points[len - 1])
+    store.save(key, new_row, &mut points[len - 1])
 }
 
 impl PointedStore {
@@ -152,7 +158,7 @@ impl PointedStore {
         ensures err { OnErr result (self.new ≡ self.old) }
         ensures clean { KeepsCleanLeaves self.old self.new }
     {
-        save_newest(&self.store, &key, self.points.as_mut_slice())?;
+        save_newest(&self.store, &key, Some(&row), self.points.as_mut_slice())?;
         let leaf = leaf(&key);
         self.store.put(key, row)?;
         self.dirty.add(leaf);
@@ -168,7 +174,7 @@ impl PointedStore {
         ensures err { OnErr result (self.new ≡ self.old) }
         ensures clean { KeepsCleanLeaves self.old self.new }
     {
-        save_newest(&self.store, key, self.points.as_mut_slice())?;
+        save_newest(&self.store, key, None, self.points.as_mut_slice())?;
         self.dirty.add(leaf(key));
         Ok(self.store.remove(key))
     }

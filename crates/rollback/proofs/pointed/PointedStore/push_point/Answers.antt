@@ -15,13 +15,13 @@ pub invariant_of-self : goal.invariant_of-self
 invariant_of-self c =
     let saved = c.self.inside.points.items in
     let store = c.self.inside.store in
-    subst (λ ss. AreSaved ss store) (sym c.push.ensures.items) (saved-push saved c.new.result store (nothing-saved c.new.result store c.new.ensures)
-    (subst (λ (rows : Rows). AreSaved saved rows) (sym (nothing-restored c.new.result store c.new.ensures)) c.self.invariant))
+    subst (λ ss. AreSaved ss store) (sym c.push.ensures.items) (saved-push saved c.new.result store (nothing-saved c.new.result store c.new.ensures.pages c.new.ensures.olds c.new.ensures.indexes)
+    (subst (λ (rows : Rows). AreSaved saved rows) (sym (nothing-restored c.new.result store c.new.ensures.pages c.new.ensures.olds)) c.self.invariant))
 
 pub returns-clause-points : goal.returns-clause-points
 returns-clause-points c =
     let saved = c.self.inside.points.items in
     let store = c.self.inside.store in
     ap (λ ss. points_of ss store) c.push.ensures.items ∙ points-push saved c.new.result store
-    ∙ ap (λ (rows : Rows). points_of saved rows ++ rows ∷ []) (nothing-restored c.new.result store c.new.ensures)
+    ∙ ap (λ (rows : Rows). points_of saved rows ++ rows ∷ []) (nothing-restored c.new.result store c.new.ensures.pages c.new.ensures.olds)
     ∙ ap (λ (p : Pointed). p.points ++ p.rows ∷ []) c.self.view_is
