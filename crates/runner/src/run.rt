@@ -1,6 +1,7 @@
 //! From the bytes of an image and of batches to the bytes of the replies.
 ghost use Rattle.std.specs.Prelude.{◌≡◌, ◌+◌, ◌<◌, ◌≤◌, ◌^◌, [], IfErr, IfOk, IfSome, OnOk, if◌then◌else◌};
-ghost use Rattle.runner.specs.WholeRuns.{IsOfDatabase, LeavesDatabase, LeavesRun, LeavesState, RanFrom, RanOn, RanWhole, is_batches_read, is_image_read, line_after};
+ghost use Rattle.runner.specs.WholeRuns.{IsOfDatabase, LeavesDatabase, LeavesRun, LeavesState, RanFrom, RanOn, RanWhole};
+ghost use Rattle.runner.specs.WholeRuns.{is_batches_read, is_image_read, line_after};
 ghost use Rattle.runner.specs.Runs.{is_write};
 ghost use Rattle.executor.specs.States.{IsSoundState};
 ghost use Rattle.tpcc_model.specs.Soundness.{IsSound};

@@ -57,7 +57,7 @@ fn store_state<K: Sink>(
     Ok(())
 }
 
-/// Reads all bytes of batches, runs them on the state that an executor has, and then writes the image of the state that they leave.
+/// Reads all bytes of batches, runs them on the state that an executor has, and then writes the image of the state after them.
 fn store_read<R: Threads + Sync, B: Source, S: Sink, K: Sink, G: Gate>(
     rt: &R,
     alloc: Global,
@@ -74,9 +74,11 @@ fn store_read<R: Threads + Sync, B: Source, S: Sink, K: Sink, G: Gate>(
     requires batches { B.failed batches.old < 2 ^ 63 }
     requires sink { S.failed sink.old < 2 ^ 63 }
     requires tables { K.failed tables.old < 2 ^ 63 }
-    ensures ok { IfOk result (λ count. IfSome (B.left batches.old) (λ batch_bytes. StoredFrom executor.old.cards executor.old.present batch_bytes
+    ensures ok { IfOk result (λ count. IfSome (B.left batches.old) (λ batch_bytes.
+        StoredFrom executor.old.cards executor.old.present batch_bytes
         (S.taken sink.old) (S.taken sink.new) (K.taken tables.old) (K.taken tables.new) count)) }
-    ensures err { IfErr result (λ e. IfSome (B.left batches.old) (λ batch_bytes. LeavesStoredState e executor.old.cards executor.old.present batch_bytes
+    ensures err { IfErr result (λ e. IfSome (B.left batches.old) (λ batch_bytes.
+        LeavesStoredState e executor.old.cards executor.old.present batch_bytes
         (S.taken sink.old) (S.taken sink.new) (K.taken tables.old) (K.taken tables.new))) }
     ensures kinds { IfErr result IsOfStoredDatabase }
     ensures batches_failures { B.failed batches.new ≡ B.failed batches.old + (if in_run is_batches_read result then 1 else 0) }
@@ -93,7 +95,7 @@ fn store_read<R: Threads + Sync, B: Source, S: Sink, K: Sink, G: Gate>(
     }
 }
 
-/// Reads all bytes of batches, runs them on a database, and then writes the image of the state that they leave.
+/// Reads all bytes of batches, runs them on a database, and then writes the image of the state after them.
 fn store_database<R: Threads + Sync, B: Source, S: Sink, K: Sink, G: Gate>(
     rt: &R,
     alloc: Global,
@@ -110,9 +112,11 @@ fn store_database<R: Threads + Sync, B: Source, S: Sink, K: Sink, G: Gate>(
     requires batches { B.failed batches.old < 2 ^ 63 }
     requires sink { S.failed sink.old < 2 ^ 63 }
     requires tables { K.failed tables.old < 2 ^ 63 }
-    ensures ok { IfOk result (λ count. IfSome (B.left batches.old) (λ batch_bytes. StoredOn (record { cards = catalog; rows = store.rows }) batch_bytes
+    ensures ok { IfOk result (λ count. IfSome (B.left batches.old) (λ batch_bytes.
+        StoredOn (record { cards = catalog; rows = store.rows }) batch_bytes
         (S.taken sink.old) (S.taken sink.new) (K.taken tables.old) (K.taken tables.new) count)) }
-    ensures err { IfErr result (λ e. IfSome (B.left batches.old) (λ batch_bytes. LeavesStoredDatabase e (record { cards = catalog; rows = store.rows }) batch_bytes
+    ensures err { IfErr result (λ e. IfSome (B.left batches.old) (λ batch_bytes.
+        LeavesStoredDatabase e (record { cards = catalog; rows = store.rows }) batch_bytes
         (S.taken sink.old) (S.taken sink.new) (K.taken tables.old) (K.taken tables.new))) }
     ensures kinds { IfErr result IsOfStoredDatabase }
     ensures batches_failures { B.failed batches.new ≡ B.failed batches.old + (if in_run is_batches_read result then 1 else 0) }
