@@ -1,5 +1,5 @@
 -- The words that the program takes, and the line that they are.
-use Rattle.std.specs.Prelude.{[], ◌∷◌, ◌≡◌, ℕ, ⊤, IsSomeAnd, List, Some, String, codes, false, pos}
+use Rattle.std.specs.Prelude.{[], ◌∷◌, ◌≡◌, ℕ, ⊤, IsSomeAnd, List, Option, Some, String, codes, false, option_map, pos}
 use Rattle.std.specs.Prelude.{string_bytes, true}
 use Rattle.std.specs.Int.{IsInRange}
 use Rattle.std.specs.Str.Parse.{IsNumeral, digits_value, without_leading_plus}
@@ -58,10 +58,17 @@ workers_rule = record (ranged_rule (codes "workers") 1 64) {
   defaults = codes "1" ∷ [];
 }
 
--- run IMAGE BATCHES [--workers N]
+-- the option `--store FILE`
+abbrev pub store_rule : Rule
+store_rule = record (new_rule (codes "store")) {
+  long = Some (codes "store");
+  value_names = 1;
+}
+
+-- run IMAGE BATCHES [--workers N] [--store FILE]
 abbrev pub run_app : App
-run_app = with_rule (with_rule (with_rule (new_app (codes "run")) image_rule) batches_rule)
-    workers_rule
+run_app = with_rule (with_rule (with_rule (with_rule (new_app (codes "run")) image_rule) batches_rule)
+    workers_rule) store_rule
 
 -- check IMAGE
 abbrev pub check_app : App
@@ -104,6 +111,10 @@ rows_in matches = rows_of (found_of matches)
 abbrev pub HasText : List Row → Text → String Global → Type 0
 HasText rows id text = first_of id rows ≡ Some (string_bytes text)
 
+-- the text of the argument with this id, which may be left out
+abbrev pub HasOption : List Row → Text → Option (String Global) → Type 0
+HasOption rows id text = first_of id rows ≡ option_map string_bytes text
+
 -- the text is this number in decimal digits, behind a plus or nothing
 abbrev pub Spells : Text → ℕ → Type 0
 Spells text number =
@@ -116,10 +127,11 @@ HasNumber rows id number = IsSomeAnd (first_of id rows) (λ text. Spells text nu
 
 -- the line is that of the subcommand that was met, by its name and its rows
 abbrev pub IsLineOf : Line → Text × List Row → Type 0
-IsLineOf (Run image batches workers) met =
+IsLineOf (Run image batches workers store) met =
     (met.0 ≡ codes "run") × HasText met.1 (codes "IMAGE") image
     × HasText met.1 (codes "BATCHES") batches
     × HasNumber met.1 (codes "workers") workers
+    × HasOption met.1 (codes "store") store
 IsLineOf (Check image) met = (met.0 ≡ codes "check") × HasText met.1 (codes "IMAGE") image
 IsLineOf (Make warehouses customers items) met =
     (met.0 ≡ codes "make") × HasNumber met.1 (codes "W") warehouses
@@ -129,7 +141,7 @@ IsLineOf (Serve image workers) met =
 
 -- the numbers of the line are within their bounds
 abbrev pub IsWithinBounds : Line → Type 0
-IsWithinBounds (Run image batches workers) = IsInRange 1 64 workers
+IsWithinBounds (Run image batches workers store) = IsInRange 1 64 workers
 IsWithinBounds (Check image) = ⊤
 IsWithinBounds (Make warehouses customers items) =
     IsInRange 1 100 warehouses × IsInRange 1 3000 customers × IsInRange 1 100000 items

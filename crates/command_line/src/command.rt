@@ -4,7 +4,7 @@ ghost use Rattle.clap.specs.Words.{new_app};
 ghost use Rattle.clap.specs.declared.builder.value_parser.ValueParser.TheVariants.{Signed};
 ghost use Rattle.command_line.specs.CommandLine.{IsArgument, IsCommand, bare_app, check_app, make_app};
 ghost use Rattle.command_line.specs.CommandLine.{number_rule, program_app, ranged_rule, required_rule, run_app};
-ghost use Rattle.command_line.specs.CommandLine.{serve_app, workers_rule};
+ghost use Rattle.command_line.specs.CommandLine.{serve_app, store_rule, workers_rule};
 
 use clap::builder::ValueParser;
 use clap::{Arg, Command, value_parser};
@@ -59,6 +59,15 @@ fn workers<'a>(alloc: Global) -> Arg<'a>
         .default_value("1")
 }
 
+fn store<'a>(alloc: Global) -> Arg<'a>
+    ensures { IsArgument store_rule result }
+{
+    Arg::new(alloc, "store")
+        .long("store")
+        .value_name("FILE")
+        .help("A file to write the database's image to, as the batches leave it")
+}
+
 // A command of this name, whose help says what it does and what the files are.
 fn described<'a>(alloc: Global, name: &'a str, about: &'a str) -> Command<'a>
     ensures { IsCommand (new_app name.entry.now) result }
@@ -76,7 +85,8 @@ fn run<'a>(alloc: Global) -> Result<Command<'a>, AllocError>
     )
     .arg(required(alloc, "IMAGE", IMAGE))?
     .arg(required(alloc, "BATCHES", "The file of the batches"))?
-    .arg(workers(alloc))
+    .arg(workers(alloc))?
+    .arg(store(alloc))
 }
 
 fn check<'a>(alloc: Global) -> Result<Command<'a>, AllocError>

@@ -22,6 +22,8 @@ pub enum Line {
         batches: String,
         /// The number of workers: 1 where it isn't given.
         workers: Workers,
+        /// The path of a file to write the database's image to, as the batches leave it, where one is given.
+        store: Option<String>,
     },
     /// To check the image of a database.
     Check {

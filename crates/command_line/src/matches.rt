@@ -3,13 +3,13 @@ ghost use Rattle.std.specs.Prelude.{◌≡◌, [], IfErr, IfOk, IfSome, IsSomeAn
 ghost use Rattle.std.specs.Prelude.{string_bytes};
 ghost use Rattle.std.specs.Int.{IsInRange};
 ghost use Rattle.clap.specs.Words.{fault_of, first_of, subcommand_of, subcommand_rows_of};
-ghost use Rattle.command_line.specs.CommandLine.{HasNumber, HasText, IsFaultOf, IsLineOf};
+ghost use Rattle.command_line.specs.CommandLine.{HasNumber, HasOption, HasText, IsFaultOf, IsLineOf};
 ghost use Rattle.command_line.specs.CommandLine.{IsWithinBounds, program_app, rows_in};
 
 use crate::command::program;
 use crate::line::{Line, LineFault};
 use clap::ArgMatches;
-use std::alloc::Global;
+use std::alloc::{AllocError, Global};
 use tickets::Workers;
 
 /// What `clap` finds in the words.
@@ -37,6 +37,16 @@ fn text_of(alloc: Global, matches: &ArgMatches, id: &str) -> Option<String>
     String::from_str(alloc, value_of(matches, id)?).ok()
 }
 
+/// The text of an argument that may be left out.
+fn option_of(alloc: Global, matches: &ArgMatches, id: &str) -> Result<Option<String>, AllocError>
+    ensures { IfOk result (HasOption (rows_in matches.now) id.now) }
+{
+    let Some(value) = value_of(matches, id) else {
+        return Ok(None);
+    };
+    Ok(Some(String::from_str(alloc, value)?))
+}
+
 /// The number between these that an argument spells.
 fn number_of(matches: &ArgMatches, id: &str, least: u32, most: u32) -> Option<u32>
     ensures number { IfSome result (HasNumber (rows_in matches.now) id.now) }
@@ -59,6 +69,7 @@ fn run_in(alloc: Global, matches: &ArgMatches) -> Option<Line>
         image: text_of(alloc, matches, "IMAGE")?,
         batches: text_of(alloc, matches, "BATCHES")?,
         workers: Workers::new(workers as usize)?,
+        store: option_of(alloc, matches, "store").ok()?,
     })
 }
 

@@ -4,9 +4,12 @@
 
 ghost use Rattle.tpcc_rows.specs.Limits.{IsBetween};
 
+mod store_file;
+
+use crate::store_file::open_store;
 use command_line::{Line, LineFault, line_of, line_status};
 use records::io::Counting;
-use runner::{RunFault, check_text, fault_line, make_text, run_text};
+use runner::{StoredRunFault, check_text, make_text, run_and_store, run_text, stored_fault_line};
 use session::serve;
 use std::io::Input;
 use std::process::ExitCode;
@@ -20,9 +23,14 @@ fn cannot_open(rt: &impl Eprint, path: &str) -> ExitCode {
     ExitCode::FAILURE
 }
 
-fn report<R: Eprint + AllocGlobal>(rt: &R, fault: &RunFault) -> ExitCode {
+fn cannot_create(rt: &impl Eprint, path: &str) -> ExitCode {
+    let _ = eprintln!(rt; "eve-tpcc: cannot create {path}");
+    ExitCode::FAILURE
+}
+
+fn report<R: Eprint + AllocGlobal>(rt: &R, fault: &StoredRunFault) -> ExitCode {
     let mut line = Vec::new(rt.alloc());
-    if fault_line(rt.alloc(), fault, &mut line).is_ok() {
+    if stored_fault_line(rt.alloc(), fault, &mut line).is_ok() {
         if let Ok(text) = str::from_utf8(line.as_slice()) {
             let _ = eprint!(rt; "{text}");
         }
@@ -59,6 +67,46 @@ where
     );
     match ran {
         Ok(_) => ExitCode::SUCCESS,
+        Err(fault) => report(rt, &StoredRunFault::Run(fault)),
+    }
+}
+
+/// Runs batches, and writes the image of the state that they leave to the file of this path.
+fn run_stored<R: Files + Print + Eprint + AllocGlobal + Threads + Sync>(
+    rt: &R,
+    image: &str,
+    batches: &str,
+    workers: Workers,
+    path: &str,
+) -> ExitCode
+where
+    R::File: Drop,
+{
+    let Ok(image_file) = fs::open(rt, image) else {
+        return cannot_open(rt, image);
+    };
+    let Ok(batches_file) = fs::open(rt, batches) else {
+        return cannot_open(rt, batches);
+    };
+    let Ok(store_file) = open_store(rt, path) else {
+        return cannot_create(rt, path);
+    };
+    let mut image_source = Counting::new(image_file);
+    let mut batches_source = Counting::new(batches_file);
+    let mut output = Counting::new(io::writer(rt));
+    let mut tables = Counting::new(store_file);
+    let ran = run_and_store(
+        rt,
+        rt.alloc(),
+        &mut image_source,
+        &mut batches_source,
+        &mut output,
+        &mut tables,
+        workers,
+        &NoGate,
+    );
+    match ran {
+        Ok(_) => ExitCode::SUCCESS,
         Err(fault) => report(rt, &fault),
     }
 }
@@ -74,7 +122,7 @@ where
     let mut output = Counting::new(io::writer(rt));
     match check_text(rt, rt.alloc(), &mut image_source, &mut output) {
         Ok(()) => ExitCode::SUCCESS,
-        Err(fault) => report(rt, &fault),
+        Err(fault) => report(rt, &StoredRunFault::Run(fault)),
     }
 }
 
@@ -91,7 +139,7 @@ fn make<R: Print + Eprint + AllocGlobal>(
     let mut output = Counting::new(io::writer(rt));
     match make_text(rt.alloc(), warehouses, customers, items, &mut output) {
         Ok(()) => ExitCode::SUCCESS,
-        Err(fault) => report(rt, &fault),
+        Err(fault) => report(rt, &StoredRunFault::Run(fault)),
     }
 }
 
@@ -119,7 +167,7 @@ where
     );
     match served {
         Ok(()) => ExitCode::SUCCESS,
-        Err(fault) => report(rt, &fault),
+        Err(fault) => report(rt, &StoredRunFault::Run(fault)),
     }
 }
 
@@ -137,8 +185,18 @@ fn main(rt: HostRuntime) -> ExitCode {
                 image,
                 batches,
                 workers,
+                store,
             },
-        ) => run(&rt, image.as_str(), batches.as_str(), workers),
+        ) => match store {
+            None => run(&rt, image.as_str(), batches.as_str(), workers),
+            Some(path) => run_stored(
+                &rt,
+                image.as_str(),
+                batches.as_str(),
+                workers,
+                path.as_str(),
+            ),
+        },
         Ok(Line::Check { image }) => check(&rt, image.as_str()),
         Ok(
             Line::Make {

@@ -20,7 +20,7 @@ use Rattle.requests.specs.declared.request.Request.{Request}
 use Rattle.records.specs.Io.{AppendsFront}
 use Rattle.requests.specs.declared.request.Batch.{Batch}
 use Rattle.records.proofs.IoLemmas.{appends_twice}
-use Rattle.runner.specs.Runs.{AllFit, AreCompleted, Began, Completes, IsOfRecords, LeavesBatch, Left, NumbersFit, Taken, TookFront, TookSome}
+use Rattle.runner.specs.Runs.{AllFit, AreCompleted, Began, Completes, IsOfRecords, LeavesBatch, Left, NumbersFit, Taken, TookFront, TookSome, line_on}
 use Rattle.runner.specs.Text.{batch_text, text}
 use Rattle.runner.specs.declared.fault.RunFault.{RunFault}
 use Rattle.runner.specs.declared.fault.RunFault.TheVariants as run_fault
@@ -35,9 +35,6 @@ then_kept (Some xs) (Some ys) None bytes a k = absurd k
 then_kept (Some xs) (Some ys) (Some zs) bytes a k = k ∙ a
 
 -- ---- more batches
--- what a state leads to by batches, each of which was committed
-abbrev pub line_on : Cards → State → List Batch → Line
-line_on cards state done = record { cards = cards; earlier = []; present = serial cards state done }
 
 pub serial-more : (cards : Cards) (state : State) (done : List Batch) (batch : Batch) → serial cards state (done ++ batch ∷ []) ≡ after_batch cards (serial cards state done) batch
 serial-more cards state [] batch = refl

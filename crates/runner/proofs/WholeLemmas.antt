@@ -50,7 +50,7 @@ ran_whole (Ok count) None batches db old new is ran = tt
 ran_whole (Ok count) (Some bytes) None db old new is ran = tt
 ran_whole (Ok count) (Some bytes) (Some batch_bytes) db old new is ran = (db, is, ran)
 
-left_by : (e : RunFault) (image_bytes batch_bytes : List ℕ) (db : Database) (old new : Taken) → image image_bytes ≡ Ok db → IsOfDatabase e → LeavesDatabase e db batch_bytes old new → LeavesRun e image_bytes batch_bytes old new
+pub left_by : (e : RunFault) (image_bytes batch_bytes : List ℕ) (db : Database) (old new : Taken) → image image_bytes ≡ Ok db → IsOfDatabase e → LeavesDatabase e db batch_bytes old new → LeavesRun e image_bytes batch_bytes old new
 left_by (run_fault.Load e) image_bytes batch_bytes db old new is kind left = absurd kind
 left_by (run_fault.Read e) image_bytes batch_bytes db old new is kind left = (db, is, left)
 left_by (run_fault.Exec r) image_bytes batch_bytes db old new is kind left = (db, is, left)

@@ -1,4 +1,4 @@
--- The line that reports a fault of a run.
+-- The lines that report faults.
 use Rattle.std.specs.Prelude.{ℕ, List, [], ◌∷◌, ◌++◌, codes, decimal, Option, Some, None}
 use Rattle.executor.specs.Refusals.{refusal_code, refusal_name}
 use Rattle.loader.specs.Faults as image
@@ -6,6 +6,10 @@ use Rattle.loader.specs.declared.fault.LoadError.TheVariants as load_error
 use Rattle.records.specs.Faults as batches
 use Rattle.runner.specs.declared.fault.RunFault.{RunFault}
 use Rattle.runner.specs.declared.fault.RunFault.TheVariants as run_fault
+use Rattle.runner.specs.declared.store_fault.StoreFault.{StoreFault}
+use Rattle.runner.specs.declared.store_fault.StoreFault.TheVariants as store_fault
+use Rattle.runner.specs.declared.store_fault.StoredRunFault.{StoredRunFault}
+use Rattle.runner.specs.declared.store_fault.StoredRunFault.TheVariants as stored_fault
 
 abbrev pub part_of : RunFault → List ℕ
 part_of (run_fault.Load e) = codes "image"
@@ -50,6 +54,27 @@ place_text None = []
 place_text (Some n) = codes " at record " ++ decimal n
 
 -- `eve-tpcc: <part>: <code> <Name>`, the condition or the record where there is one, and a line feed
+abbrev pub line_text : List ℕ → ℕ → List ℕ → Option ℕ → Option ℕ → List ℕ
+line_text part code name condition place =
+    codes "eve-tpcc: " ++ part ++ codes ": " ++ decimal code ++ codes " " ++ name ++ condition_text condition ++ place_text place ++ 10 ∷ []
+
+-- the line of a fault of a run
 unfoldable pub fault_text : RunFault → List ℕ
-fault_text f =
-    codes "eve-tpcc: " ++ part_of f ++ codes ": " ++ decimal (code_of f) ++ codes " " ++ name_of f ++ condition_text (condition_of f) ++ place_text (place_of f) ++ 10 ∷ []
+fault_text f = line_text (part_of f) (code_of f) (name_of f) (condition_of f) (place_of f)
+
+-- ---- a run that stores its last state
+abbrev pub store_code_of : StoreFault → ℕ
+store_code_of store_fault.Write = 1
+store_code_of store_fault.Memory = 2
+
+abbrev pub store_name_of : StoreFault → List ℕ
+store_name_of store_fault.Write = codes "Write"
+store_name_of store_fault.Memory = codes "Memory"
+
+unfoldable pub store_fault_text : StoreFault → List ℕ
+store_fault_text f = line_text (codes "store") (store_code_of f) (store_name_of f) None None
+
+-- the line of a fault of such a run, or of the image that wasn't written
+abbrev pub stored_fault_text : StoredRunFault → List ℕ
+stored_fault_text (stored_fault.Run f) = fault_text f
+stored_fault_text (stored_fault.Store f) = store_fault_text f

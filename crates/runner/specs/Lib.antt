@@ -4,3 +4,4 @@ pub mod FaultText
 pub mod WholeRuns
 pub mod MadeTexts
 pub mod CheckTexts
+pub mod StoredRuns

@@ -3,6 +3,7 @@ use Rattle.std.specs.Prelude.{◌≡◌, ◌⊎◌, ℕ, ◌+◌, ◌<◌, ◌�
 use Rattle.std.specs.Io.KnownBytes.{Appends, Keeps}
 use Rattle.catalog.specs.CardMap.{Cards}
 use Rattle.executor.specs.Headline.{Headline, all_serially}
+use Rattle.executor.specs.Lines.{Line}
 use Rattle.executor.specs.States.{IsSoundState}
 use Rattle.executor.specs.declared.next_batch.TheConstants.{LAST_NUMBER}
 use Rattle.executor.specs.declared.refusal.Refusal.TheVariants as refusal
@@ -39,6 +40,10 @@ AreCompleted cards state batches = AllFit cards state batches × Headline cards 
 -- the numbers of a batch fit, and the state that it leaves is sound
 abbrev pub Completes : Cards → State → Batch → Type 0
 Completes cards state batch = NumbersFit state batch × IsSoundState cards (after_batch cards state batch)
+
+-- what a state leads to by batches, each of which was committed
+abbrev pub line_on : Cards → State → List Batch → Line
+line_on cards state done = record { cards = cards; earlier = []; present = serial cards state done }
 
 -- all batches were completed and written, and no fault came behind them
 pub record Ran (cards : Cards) (state : State) (reading : Reading) (old new : Taken) (count : ℕ) : Type 0 where

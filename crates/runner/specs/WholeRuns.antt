@@ -7,12 +7,17 @@ use Rattle.loader.specs.declared.fault.LoadError.TheVariants as load_error
 use Rattle.requests.specs.Batches.{batches}
 use Rattle.records.specs.declared.fault.ReadError.{ReadError}
 use Rattle.records.specs.declared.fault.ReadError.TheVariants as read_error
-use Rattle.runner.specs.Runs.{Left, Ran, Taken}
+use Rattle.runner.specs.Runs.{Left, Ran, Taken, line_on}
 use Rattle.runner.specs.declared.fault.RunFault.{RunFault}
 use Rattle.runner.specs.declared.fault.RunFault.TheVariants as run_fault
 use Rattle.catalog.specs.CardMap.{Cards}
+use Rattle.executor.specs.Lines.{Line}
 use Rattle.tpcc_model.specs.Database.{Database}
 use Rattle.tpcc_model.specs.Serial.{State, opening}
+
+-- what a state leads to by the batches of a text, each of which was committed
+abbrev pub line_after : Cards → State → List ℕ → Line
+line_after cards state batch_bytes = line_on cards state (batches batch_bytes).0
 
 -- all batches were executed from the state on and written, and no fault came behind them
 abbrev pub RanFrom : Cards → State → List ℕ → Taken → Taken → ℕ → Type 0

@@ -1,6 +1,6 @@
 //! Why a run ends early, and the line that says so.
 ghost use Rattle.std.specs.Prelude.{◌≡◌, ◌++◌, OnOk, OnErr, IfOk};
-ghost use Rattle.runner.specs.FaultText.{code_of, condition_of, fault_text, name_of, part_of, place_of, condition_text, place_text};
+ghost use Rattle.runner.specs.FaultText.{code_of, condition_of, condition_text, fault_text, line_text, name_of, part_of, place_of, place_text};
 
 use executor::Refusal;
 use itoa::Buffer;
@@ -114,20 +114,35 @@ fn push_place(line: &mut Vec<u8>, place: Option<u64>) -> Result<(), Memory>
     Ok(())
 }
 
-fn line_of(alloc: Global, fault: RunFault) -> Result<Vec<u8>, Memory>
-    ensures { IfOk result (λ line. line.items ≡ fault_text fault) }
+/// The line of a fault of this part, with this number and this name.
+pub(crate) fn line_of(
+    alloc: Global,
+    part: &str,
+    code: u8,
+    name: &str,
+    condition: Option<u8>,
+    place: Option<u64>,
+) -> Result<Vec<u8>, Memory>
+    ensures { IfOk result (λ line. line.items ≡ line_text part.now code name.now condition place) }
 {
     let mut line = Vec::new(alloc);
     line.extend_from_slice(b"eve-tpcc: ")?;
-    line.extend_from_slice(fault.part().as_bytes())?;
+    line.extend_from_slice(part.as_bytes())?;
     line.extend_from_slice(b": ")?;
-    line.extend_from_slice(Buffer::new().format(fault.code()).as_bytes())?;
+    line.extend_from_slice(Buffer::new().format(code).as_bytes())?;
     line.extend_from_slice(b" ")?;
-    line.extend_from_slice(fault.name().as_bytes())?;
-    push_condition(&mut line, fault.condition())?;
-    push_place(&mut line, fault.record())?;
+    line.extend_from_slice(name.as_bytes())?;
+    push_condition(&mut line, condition)?;
+    push_place(&mut line, place)?;
     line.extend_from_slice(b"\n")?;
     Ok(line)
+}
+
+fn run_line(alloc: Global, fault: RunFault) -> Result<Vec<u8>, Memory>
+    ensures { IfOk result (λ line. line.items ≡ fault_text fault) }
+{
+    let (part, code, name) = (fault.part(), fault.code(), fault.name());
+    line_of(alloc, part, code, name, fault.condition(), fault.record())
 }
 
 /// Appends the line that reports a fault: `eve-tpcc: <part>: <code> <Name>`, with ` at record <n>` behind it where the
@@ -136,7 +151,7 @@ pub fn fault_line(alloc: Global, fault: &RunFault, out: &mut Vec<u8>) -> Result<
     ensures ok { OnOk result (out.new.items ≡ out.old.items ++ fault_text fault.now) }
     ensures err { OnErr result (out.new.items ≡ out.old.items) }
 {
-    let line = line_of(alloc, *fault)?;
+    let line = run_line(alloc, *fault)?;
     out.extend_from_slice(line.as_slice())?;
     Ok(())
 }

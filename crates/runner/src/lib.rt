@@ -6,9 +6,13 @@ pub mod fault;
 mod make;
 mod run;
 mod serving;
+pub mod store_fault;
+mod stored_run;
 pub mod text;
 
 pub use check::check_text;
 pub use fault::{RunFault, fault_line};
 pub use make::make_text;
 pub use run::run_text;
+pub use store_fault::{StoreFault, StoredRunFault, stored_fault_line};
+pub use stored_run::run_and_store;

@@ -1,6 +1,7 @@
 //! From the bytes of an image and of batches to the bytes of the replies.
-ghost use Rattle.std.specs.Prelude.{◌≡◌, ◌+◌, ◌<◌, ◌≤◌, ◌^◌, [], IfErr, IfOk, IfSome, if◌then◌else◌};
-ghost use Rattle.runner.specs.WholeRuns.{IsOfDatabase, LeavesDatabase, LeavesRun, LeavesState, RanFrom, RanOn, RanWhole, is_batches_read, is_image_read};
+ghost use Rattle.std.specs.Prelude.{◌≡◌, ◌+◌, ◌<◌, ◌≤◌, ◌^◌, [], IfErr, IfOk, IfSome, OnOk, if◌then◌else◌};
+ghost use Rattle.runner.specs.WholeRuns.{IsOfDatabase, LeavesDatabase, LeavesRun, LeavesState, RanFrom, RanOn, RanWhole};
+ghost use Rattle.runner.specs.WholeRuns.{is_batches_read, is_image_read, line_after};
 ghost use Rattle.runner.specs.Runs.{is_write};
 ghost use Rattle.executor.specs.States.{IsSoundState};
 ghost use Rattle.tpcc_model.specs.Soundness.{IsSound};
@@ -22,7 +23,7 @@ use workers::{Gate, Workers};
 const MOST_BATCH_BYTES: usize = 1_073_741_824;
 
 /// Reads all bytes of batches, and runs them on the state that an executor has.
-fn run_read<R: Threads + Sync, B: Source, S: Sink, G: Gate>(
+pub(crate) fn run_read<R: Threads + Sync, B: Source, S: Sink, G: Gate>(
     rt: &R,
     alloc: Global,
     executor: &mut Executor,
@@ -40,6 +41,8 @@ fn run_read<R: Threads + Sync, B: Source, S: Sink, G: Gate>(
         RanFrom executor.old.cards executor.old.present batch_bytes (S.taken sink.old) (S.taken sink.new) count)) }
     ensures err { IfErr result (λ e. IfSome (B.left batches.old) (λ batch_bytes.
         LeavesState e executor.old.cards executor.old.present batch_bytes (S.taken sink.old) (S.taken sink.new))) }
+    ensures line { OnOk result (IfSome (B.left batches.old) (λ batch_bytes.
+        executor.new ≡ line_after executor.old.cards executor.old.present batch_bytes)) }
     ensures kinds { IfErr result IsOfDatabase }
     ensures batches_failures { B.failed batches.new ≡ B.failed batches.old + (if is_batches_read result then 1 else 0) }
     ensures sink_failures { S.failed sink.new ≡ S.failed sink.old + (if is_write result then 1 else 0) }

@@ -4,7 +4,7 @@ ghost use Rattle.std.specs.Io.KnownBytes.{Appends};
 ghost use Rattle.executor.specs.Lines.{committed, extended};
 ghost use Rattle.executor.specs.States.{IsSoundState};
 ghost use Rattle.requests.specs.Batches.{batches};
-ghost use Rattle.runner.specs.Runs.{Completes, IsOfBatches, LeavesBatch, Left, Ran, is_write};
+ghost use Rattle.runner.specs.Runs.{Completes, IsOfBatches, LeavesBatch, Left, Ran, is_write, line_on};
 ghost use Rattle.runner.specs.Text.{batch_text};
 
 use crate::fault::RunFault;
@@ -69,6 +69,7 @@ pub(crate) fn run_batches<R: Threads + Sync, S: Sink, G: Gate>(
     requires count { S.failed sink.old < 2 ^ 63 }
     ensures ok { IfOk result (Ran executor.old.cards executor.old.present (batches text.now) (S.taken sink.old) (S.taken sink.new)) }
     ensures err { IfErr result (λ e. Left e executor.old.cards executor.old.present (batches text.now) (S.taken sink.old) (S.taken sink.new)) }
+    ensures line { OnOk result (executor.new ≡ line_on executor.old.cards executor.old.present (batches text.now).0) }
     ensures kinds { IfErr result IsOfBatches }
     ensures failures { S.failed sink.new ≡ S.failed sink.old + (if is_write result then 1 else 0) }
 {

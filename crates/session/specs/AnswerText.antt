@@ -3,9 +3,9 @@ use Rattle.std.specs.Prelude.{ℕ, List, [], ◌∷◌, ◌++◌, codes, decimal
 use Rattle.catalog.specs.CardMap.{Cards}
 use Rattle.executor.specs.Refusals.{refusal_code, refusal_name}
 use Rattle.executor.specs.declared.refusal.Refusal.{Refusal}
-use Rattle.loader.specs.StoredImage.{image_text}
 use Rattle.records.specs.Fields.{Fields}
 use Rattle.records.specs.Spelling.{text_of_record}
+use Rattle.runner.specs.StoredRuns.{state_image}
 use Rattle.runner.specs.Text.{token_digits}
 use Rattle.tpcc_model.specs.Serial.{State}
 
@@ -41,7 +41,7 @@ image_head sequence count = text_of_record (image_fields sequence count)
 -- and behind it the image
 abbrev pub image_answer : Cards → State → List ℕ
 image_answer cards state =
-    let image = image_text (record { cards = cards; rows = state.rows }) in
+    let image = state_image cards state in
     image_head state.sequence (length image) ++ image
 
 -- `refused,CODE,Name`

@@ -6,13 +6,16 @@ use command_line::{Line, LineFault, line_of, line_status};
 use std::alloc::{AllocError, Global};
 
 /// Lines that are taken, that are refused, and that ask for help or the version.
-const LINES: [&str; 66] = [
+const LINES: [&str; 72] = [
     "eve-tpcc run image.csv batches.csv",
     "eve-tpcc run image.csv batches.csv --workers 2",
     "eve-tpcc run image.csv batches.csv --workers=64",
     "eve-tpcc run image.csv --workers +03 batches.csv",
     "eve-tpcc run --workers 1 image.csv batches.csv",
     "eve-tpcc run --workers 1 -- image.csv batches.csv",
+    "eve-tpcc run image.csv batches.csv --store later.csv",
+    "eve-tpcc run --store=later.csv image.csv --workers 2 batches.csv",
+    "eve-tpcc run --store later.csv -- image.csv batches.csv",
     "eve-tpcc check image.csv",
     "eve-tpcc make 1 45 100",
     "eve-tpcc make 1 1 1",
@@ -35,6 +38,9 @@ const LINES: [&str; 66] = [
     "eve-tpcc run a b --workers=",
     "eve-tpcc run a b --workers",
     "eve-tpcc run a b --workers 1 --workers 2",
+    "eve-tpcc run a b --store",
+    "eve-tpcc run a b --store c --store d",
+    "eve-tpcc check a --store b",
     "eve-tpcc check",
     "eve-tpcc check a b",
     "eve-tpcc check --all a",
@@ -110,7 +116,17 @@ fn print_line<R: Print>(rt: &R, line: &Line) {
             image,
             batches,
             workers,
+            store: None,
         } => println!(rt; "run {image} {batches} {}", workers.count()),
+        Line::Run {
+            image,
+            batches,
+            workers,
+            store: Some(path),
+        } => println!(rt;
+            "run {image} {batches} {}, stored in {path}",
+            workers.count()
+        ),
         Line::Check { image } => println!(rt; "check {image}"),
         Line::Make {
             warehouses,

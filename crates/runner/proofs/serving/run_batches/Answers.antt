@@ -2,7 +2,7 @@ use Rattle.std.proofs.Common.{rules, ◌≡◌, ◌≤◌, ◌∙◌, ◌∷◌,
 use Rattle.std.specs.Io.KnownBytes.{Appends}
 use Rattle.executor.specs.Lines.{Line, committed, extended}
 use Rattle.requests.specs.Batches.{StopsBy, batches, clean}
-use Rattle.runner.specs.Runs.{Completes, LeavesBatch}
+use Rattle.runner.specs.Runs.{Completes, LeavesBatch, line_on}
 use Rattle.runner.specs.Text.{batch_text, text}
 use Rattle.runner.proofs.RunLemmas.{all_read, completed-more, completed-none, left_in_batch, line-more, next_in, next-serial, nothing_taken, reading-more, stops_by_records, text-more, then_kept, took_none}
 use Rattle.runner.proofs.ShortBatches.{short_batch}
@@ -58,6 +58,13 @@ returns-then-is_err-clause-err g c =
     let end : c.batches.reader.left ≡ ([], clean) = search rules in
     let all = all_read _ c.batches.reader.left done read end in
     (done, [], all ∙ sym (append-nil done), completed, (text cards state done, [], sym (append-nil (text cards state done)), then_kept _ _ _ _ written c.flush.ensures.bytes))
+
+pub returns-clause-line : goal.returns-clause-line
+returns-clause-line g c =
+    let (same, done, read, count, line, completed, written) = c.batches.invariant in
+    let end : c.batches.reader.left ≡ ([], clean) = search rules in
+    let all = all_read _ c.batches.reader.left done read end in
+    line ∙ ap (line_on c.args.executor.now.cards c.args.executor.now.present) (sym all)
 
 pub returns-in-Err-next_batch-clause-kinds : goal.returns-in-Err-next_batch-clause-kinds
 returns-in-Err-next_batch-clause-kinds g c =

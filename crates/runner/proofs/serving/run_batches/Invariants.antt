@@ -2,9 +2,8 @@ use Rattle.std.proofs.Common.{◌≡◌, ◌++◌, List, length}
 use Rattle.std.specs.Io.KnownBytes.{Appends}
 use Rattle.requests.specs.Batches.{batches}
 use Rattle.requests.specs.declared.request.Batch.{Batch}
-use Rattle.runner.specs.Runs.{AreCompleted}
+use Rattle.runner.specs.Runs.{AreCompleted, line_on}
 use Rattle.runner.specs.Text.{text}
-use Rattle.runner.proofs.RunLemmas.{line_on}
 use Rattle.runner.proofs.serving.run_batches.Given as goal
 
 -- some batches are completed, committed and written; the others are left to be read

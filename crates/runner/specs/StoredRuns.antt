@@ -1,0 +1,90 @@
+-- What a run leaves behind that stores the image of its last state. `old` and `new` are of the sink of the text, `empty` and `full`
+-- of the sink of the image, before and after the run.
+use Rattle.std.specs.Prelude.{◌≡◌, ℕ, Bool, true, false, List, Result, Ok, Err}
+use Rattle.std.specs.Io.KnownBytes.{Appends, Keeps}
+use Rattle.catalog.specs.CardMap.{Cards}
+use Rattle.loader.specs.Image.{image}
+use Rattle.loader.specs.StoredImage.{image_text}
+use Rattle.records.specs.Io.{AppendsFront}
+use Rattle.requests.specs.Batches.{batches}
+use Rattle.runner.specs.Runs.{Taken}
+use Rattle.runner.specs.WholeRuns.{IsOfDatabase, LeavesRun, LeavesState, RanFrom}
+use Rattle.runner.specs.declared.fault.RunFault.{RunFault}
+use Rattle.runner.specs.declared.store_fault.StoreFault.{StoreFault}
+use Rattle.runner.specs.declared.store_fault.StoreFault.TheVariants as store_fault
+use Rattle.runner.specs.declared.store_fault.StoredRunFault.{StoredRunFault}
+use Rattle.runner.specs.declared.store_fault.StoredRunFault.TheVariants as stored_fault
+use Rattle.tpcc_model.specs.Database.{Database}
+use Rattle.tpcc_model.specs.Serial.{State, opening, serial}
+
+-- the image of a state
+abbrev pub state_image : Cards → State → List ℕ
+state_image cards state = image_text (record { cards = cards; rows = state.rows })
+
+-- the image of the state that one thread leaves after these batches
+abbrev pub last_image : Cards → State → List ℕ → List ℕ
+last_image cards state batch_bytes = state_image cards (serial cards state (batches batch_bytes).0)
+
+-- ---- the image is written
+-- all batches were executed from the state on and written, and the image of the state that they leave
+abbrev pub StoredFrom : Cards → State → List ℕ → Taken → Taken → Taken → Taken → ℕ → Type 0
+StoredFrom cards state batch_bytes old new empty full count =
+    RanFrom cards state batch_bytes old new count × Appends empty full (last_image cards state batch_bytes)
+
+-- the same on a database
+abbrev pub StoredOn : Database → List ℕ → Taken → Taken → Taken → Taken → ℕ → Type 0
+StoredOn db batch_bytes old new empty full count = StoredFrom db.cards (opening db.cards db.rows) batch_bytes old new empty full count
+
+-- an image gives the database
+abbrev pub StoredWhole : List ℕ → List ℕ → Taken → Taken → Taken → Taken → ℕ → Type 0
+StoredWhole image_bytes batch_bytes old new empty full count =
+    (db : Database) × (image image_bytes ≡ Ok db) × StoredOn db batch_bytes old new empty full count
+
+-- ---- it isn't, or not whole
+-- memory is refused before its first byte; the sink fails behind a beginning of it
+abbrev pub LeavesStore : StoreFault → List ℕ → Taken → Taken → Type 0
+LeavesStore store_fault.Memory text empty full = Keeps empty full
+LeavesStore store_fault.Write text empty full = AppendsFront empty full text
+
+-- a run from a state ended early, and no byte of the image was written; or it ended well, with all of its text written
+abbrev pub LeavesStoredState : StoredRunFault → Cards → State → List ℕ → Taken → Taken → Taken → Taken → Type 0
+LeavesStoredState (stored_fault.Run e) cards state batch_bytes old new empty full =
+    LeavesState e cards state batch_bytes old new × Keeps empty full
+LeavesStoredState (stored_fault.Store e) cards state batch_bytes old new empty full =
+    (count : ℕ) × RanFrom cards state batch_bytes old new count × LeavesStore e (last_image cards state batch_bytes) empty full
+
+-- the same on a database
+abbrev pub LeavesStoredDatabase : StoredRunFault → Database → List ℕ → Taken → Taken → Taken → Taken → Type 0
+LeavesStoredDatabase fault db batch_bytes old new empty full =
+    LeavesStoredState fault db.cards (opening db.cards db.rows) batch_bytes old new empty full
+
+-- the faults of such a run on a database
+abbrev pub IsOfStoredDatabase : StoredRunFault → Type 0
+IsOfStoredDatabase (stored_fault.Run e) = IsOfDatabase e
+IsOfStoredDatabase (stored_fault.Store e) = Unit {0}
+
+-- the same from the bytes of an image
+abbrev pub LeavesStoredRun : StoredRunFault → List ℕ → List ℕ → Taken → Taken → Taken → Taken → Type 0
+LeavesStoredRun (stored_fault.Run e) image_bytes batch_bytes old new empty full =
+    LeavesRun e image_bytes batch_bytes old new × Keeps empty full
+LeavesStoredRun (stored_fault.Store e) image_bytes batch_bytes old new empty full =
+    (db : Database) × (image image_bytes ≡ Ok db) × LeavesStoredDatabase (stored_fault.Store e) db batch_bytes old new empty full
+
+-- ---- the end that failed
+-- one of the run, by what its own answer says
+abbrev pub in_run : {A : Type 0} → (Result A RunFault → Bool) → Result A StoredRunFault → Bool
+in_run fails (Ok a) = false
+in_run fails (Err (stored_fault.Run e)) = fails (Err e)
+in_run fails (Err (stored_fault.Store e)) = false
+
+-- the sink of the image
+abbrev pub is_store_write : {A : Type 0} → Result A StoreFault → Bool
+is_store_write (Ok a) = false
+is_store_write (Err store_fault.Write) = true
+is_store_write (Err store_fault.Memory) = false
+
+abbrev pub in_store : {A : Type 0} → Result A StoredRunFault → Bool
+in_store (Ok a) = false
+in_store (Err (stored_fault.Run e)) = false
+in_store (Err (stored_fault.Store store_fault.Write)) = true
+in_store (Err (stored_fault.Store store_fault.Memory)) = false

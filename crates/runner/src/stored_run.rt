@@ -1,0 +1,176 @@
+//! A run that ends with the image of its last state.
+ghost use Rattle.std.specs.Prelude.{◌≡◌, ◌+◌, ◌<◌, ◌≤◌, ◌^◌, [], IfErr, IfOk, IfSome, OnOk, if◌then◌else◌};
+ghost use Rattle.std.specs.Io.KnownBytes.{Appends};
+ghost use Rattle.executor.specs.States.{IsSoundState};
+ghost use Rattle.runner.specs.Runs.{is_write};
+ghost use Rattle.runner.specs.StoredRuns.{IsOfStoredDatabase, LeavesStore, LeavesStoredDatabase, LeavesStoredRun, LeavesStoredState};
+ghost use Rattle.runner.specs.StoredRuns.{StoredFrom, StoredOn, StoredWhole, in_run, in_store, is_store_write, state_image};
+ghost use Rattle.runner.specs.WholeRuns.{is_batches_read, is_image_read};
+ghost use Rattle.tpcc_model.specs.Soundness.{IsSound};
+
+use crate::fault::RunFault;
+use crate::run::run_read;
+use crate::store_fault::{StoreFault, StoredRunFault};
+use catalog::Catalog;
+use executor::laws::sound_states;
+use executor::{Executor, Refusal};
+use loader::{load, store_image};
+use records::io::{Sink, Source};
+use records::slurp::push_all;
+use rollback::PointedStore;
+use std::alloc::Global;
+use std::thread::Threads;
+use tpcc_rows::memory::Memory;
+use workers::{Gate, Workers};
+
+/// The image of the state that an executor has.
+fn image_of(alloc: Global, executor: &Executor) -> Result<Vec<u8>, Memory>
+    ensures { IfOk result (λ text. text.items ≡ state_image executor.now.cards executor.now.present) }
+{
+    let mut text = Vec::new(alloc);
+    store_image(alloc, executor.catalog(), executor.store(), &mut text)?;
+    Ok(text)
+}
+
+/// Writes the image of the state that an executor has.
+fn store_state<K: Sink>(
+    alloc: Global,
+    executor: &Executor,
+    tables: &mut K,
+) -> Result<(), StoreFault>
+    requires { K.failed tables.old < 2 ^ 63 }
+    ensures ok { OnOk result
+        (Appends (K.taken tables.old) (K.taken tables.new) (state_image executor.now.cards executor.now.present)) }
+    ensures err { IfErr result (λ e. LeavesStore e
+        (state_image executor.now.cards executor.now.present) (K.taken tables.old) (K.taken tables.new)) }
+    ensures failures { K.failed tables.new ≡ K.failed tables.old + (if is_store_write result then 1 else 0) }
+{
+    let Ok(text) = image_of(alloc, executor) else {
+        return Err(StoreFault::Memory);
+    };
+    if push_all(tables, text.as_slice()).is_err() {
+        return Err(StoreFault::Write);
+    }
+    if tables.flush().is_err() {
+        return Err(StoreFault::Write);
+    }
+    Ok(())
+}
+
+/// Reads all bytes of batches, runs them on the state that an executor has, and then writes the image of the state after them.
+fn store_read<R: Threads + Sync, B: Source, S: Sink, K: Sink, G: Gate>(
+    rt: &R,
+    alloc: Global,
+    executor: &mut Executor,
+    batches: &mut B,
+    sink: &mut S,
+    tables: &mut K,
+    workers: Workers,
+    gate: &G,
+) -> Result<u64, StoredRunFault>
+    requires alone { executor.old.earlier ≡ [] }
+    requires sound { IsSoundState executor.old.cards executor.old.present }
+    requires low { 1 ≤ executor.old.present.next }
+    requires batches { B.failed batches.old < 2 ^ 63 }
+    requires sink { S.failed sink.old < 2 ^ 63 }
+    requires tables { K.failed tables.old < 2 ^ 63 }
+    ensures ok { IfOk result (λ count. IfSome (B.left batches.old) (λ batch_bytes.
+        StoredFrom executor.old.cards executor.old.present batch_bytes
+        (S.taken sink.old) (S.taken sink.new) (K.taken tables.old) (K.taken tables.new) count)) }
+    ensures err { IfErr result (λ e. IfSome (B.left batches.old) (λ batch_bytes.
+        LeavesStoredState e executor.old.cards executor.old.present batch_bytes
+        (S.taken sink.old) (S.taken sink.new) (K.taken tables.old) (K.taken tables.new))) }
+    ensures kinds { IfErr result IsOfStoredDatabase }
+    ensures batches_failures { B.failed batches.new ≡ B.failed batches.old + (if in_run is_batches_read result then 1 else 0) }
+    ensures sink_failures { S.failed sink.new ≡ S.failed sink.old + (if in_run is_write result then 1 else 0) }
+    ensures tables_failures { K.failed tables.new ≡ K.failed tables.old + (if in_store result then 1 else 0) }
+{
+    let count = match run_read(rt, alloc, executor, batches, sink, workers, gate) {
+        Ok(count) => count,
+        Err(fault) => return Err(StoredRunFault::Run(fault)),
+    };
+    match store_state(alloc, executor, tables) {
+        Ok(()) => Ok(count),
+        Err(fault) => Err(StoredRunFault::Store(fault)),
+    }
+}
+
+/// Reads all bytes of batches, runs them on a database, and then writes the image of the state after them.
+fn store_database<R: Threads + Sync, B: Source, S: Sink, K: Sink, G: Gate>(
+    rt: &R,
+    alloc: Global,
+    catalog: Catalog,
+    store: PointedStore,
+    batches: &mut B,
+    sink: &mut S,
+    tables: &mut K,
+    workers: Workers,
+    gate: &G,
+) -> Result<u64, StoredRunFault>
+    requires sound { IsSound (record { cards = catalog; rows = store.rows }) }
+    requires points { store.points ≡ [] }
+    requires batches { B.failed batches.old < 2 ^ 63 }
+    requires sink { S.failed sink.old < 2 ^ 63 }
+    requires tables { K.failed tables.old < 2 ^ 63 }
+    ensures ok { IfOk result (λ count. IfSome (B.left batches.old) (λ batch_bytes.
+        StoredOn (record { cards = catalog; rows = store.rows }) batch_bytes
+        (S.taken sink.old) (S.taken sink.new) (K.taken tables.old) (K.taken tables.new) count)) }
+    ensures err { IfErr result (λ e. IfSome (B.left batches.old) (λ batch_bytes.
+        LeavesStoredDatabase e (record { cards = catalog; rows = store.rows }) batch_bytes
+        (S.taken sink.old) (S.taken sink.new) (K.taken tables.old) (K.taken tables.new))) }
+    ensures kinds { IfErr result IsOfStoredDatabase }
+    ensures batches_failures { B.failed batches.new ≡ B.failed batches.old + (if in_run is_batches_read result then 1 else 0) }
+    ensures sink_failures { S.failed sink.new ≡ S.failed sink.old + (if in_run is_write result then 1 else 0) }
+    ensures tables_failures { K.failed tables.new ≡ K.failed tables.old + (if in_store result then 1 else 0) }
+{
+    sound_states();
+    let Ok(mut executor) = Executor::new(rt, alloc, catalog, store) else {
+        return Err(StoredRunFault::Run(RunFault::Exec(Refusal::Memory)));
+    };
+    store_read(
+        rt,
+        alloc,
+        &mut executor,
+        batches,
+        sink,
+        tables,
+        workers,
+        gate,
+    )
+}
+
+/// Runs batches on the database of an image as `run_text` does, and then writes the image of the state that the last of them left,
+/// so that a later run can go on from it. A run that ends early writes no image.
+pub fn run_and_store<R: Threads + Sync, I: Source, B: Source, S: Sink, K: Sink, G: Gate>(
+    rt: &R,
+    alloc: Global,
+    image: &mut I,
+    batches: &mut B,
+    sink: &mut S,
+    tables: &mut K,
+    workers: Workers,
+    gate: &G,
+) -> Result<u64, StoredRunFault>
+    requires image { I.failed image.old < 2 ^ 63 }
+    requires batches { B.failed batches.old < 2 ^ 63 }
+    requires sink { S.failed sink.old < 2 ^ 63 }
+    requires tables { K.failed tables.old < 2 ^ 63 }
+    ensures ok { IfOk result (λ count. IfSome (I.left image.old) (λ image_bytes. IfSome (B.left batches.old) (λ batch_bytes.
+        StoredWhole image_bytes batch_bytes (S.taken sink.old) (S.taken sink.new) (K.taken tables.old) (K.taken tables.new) count))) }
+    ensures err { IfErr result (λ e. IfSome (I.left image.old) (λ image_bytes. IfSome (B.left batches.old) (λ batch_bytes.
+        LeavesStoredRun e image_bytes batch_bytes (S.taken sink.old) (S.taken sink.new) (K.taken tables.old) (K.taken tables.new)))) }
+
+    // An end that failed is the reason of the answer, and every failure is answered.
+    ensures image_failures { I.failed image.new ≡ I.failed image.old + (if in_run is_image_read result then 1 else 0) }
+    ensures batches_failures { B.failed batches.new ≡ B.failed batches.old + (if in_run is_batches_read result then 1 else 0) }
+    ensures sink_failures { S.failed sink.new ≡ S.failed sink.old + (if in_run is_write result then 1 else 0) }
+    ensures tables_failures { K.failed tables.new ≡ K.failed tables.old + (if in_store result then 1 else 0) }
+{
+    let (catalog, store) = match load(alloc, image) {
+        Ok(database) => database,
+        Err(error) => return Err(StoredRunFault::Run(RunFault::Load(error))),
+    };
+    store_database(
+        rt, alloc, catalog, store, batches, sink, tables, workers, gate,
+    )
+}
