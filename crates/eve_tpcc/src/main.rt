@@ -38,6 +38,7 @@ fn report<R: Eprint + AllocGlobal>(rt: &R, fault: &StoredRunFault) -> ExitCode {
     ExitCode::FAILURE
 }
 
+#[inline(never)]
 fn run<R: Files + Print + Eprint + AllocGlobal + Threads + Sync>(
     rt: &R,
     image: &str,
@@ -72,6 +73,7 @@ where
 }
 
 /// Runs batches, and writes the image of the state that they leave to the file of this path.
+#[inline(never)]
 fn run_stored<R: Files + Print + Eprint + AllocGlobal + Threads + Sync>(
     rt: &R,
     image: &str,
@@ -111,6 +113,7 @@ where
     }
 }
 
+#[inline(never)]
 fn check<R: Files + Print + Eprint + AllocGlobal + Threads + Sync>(rt: &R, image: &str) -> ExitCode
 where
     R::File: Drop,
@@ -126,6 +129,7 @@ where
     }
 }
 
+#[inline(never)]
 fn make<R: Print + Eprint + AllocGlobal>(
     rt: &R,
     warehouses: u8,
@@ -143,6 +147,7 @@ fn make<R: Print + Eprint + AllocGlobal>(
     }
 }
 
+#[inline(never)]
 fn serve_commands<R: Files + Input + Print + Eprint + AllocGlobal + Threads + Sync>(
     rt: &R,
     image: &str,
