@@ -1,15 +1,13 @@
 -- Runs that store the image of their last state.
-use Rattle.std.proofs.Common.{◌≡◌, ℕ, List, Option, Some, None, Result, Ok, Err, IfOk, IfErr, IfSome, refl, subst}
-use Rattle.std.specs.Io.KnownBytes.{Appends, Keeps}
+use Rattle.std.proofs.Common.{◌≡◌, ℕ, List, Option, Some, None, Result, Ok, Err, IfOk, IfErr, IfSome, refl}
+use Rattle.std.specs.Io.KnownBytes.{Keeps}
 use Rattle.catalog.specs.CardMap.{Cards}
-use Rattle.executor.specs.Lines.{Line}
 use Rattle.loader.specs.Image.{image}
 use Rattle.runner.proofs.WholeLemmas.{left_by}
 use Rattle.runner.specs.Runs.{Taken}
-use Rattle.runner.specs.StoredRuns.{IsOfStoredDatabase, LeavesStore, LeavesStoredDatabase, LeavesStoredRun, LeavesStoredState, StoredFrom, StoredOn, StoredWhole, state_image}
-use Rattle.runner.specs.WholeRuns.{LeavesState, RanFrom, line_after}
+use Rattle.runner.specs.StoredRuns.{IsOfStoredDatabase, LeavesStoredDatabase, LeavesStoredRun, LeavesStoredState, StoredOn, StoredWhole}
+use Rattle.runner.specs.WholeRuns.{LeavesState}
 use Rattle.runner.specs.declared.fault.RunFault.{RunFault}
-use Rattle.runner.specs.declared.store_fault.StoreFault.{StoreFault}
 use Rattle.runner.specs.declared.store_fault.StoredRunFault.{StoredRunFault}
 use Rattle.runner.specs.declared.store_fault.StoredRunFault.TheVariants as stored_fault
 use Rattle.tpcc_model.specs.Database.{Database}
@@ -25,18 +23,6 @@ module _ (cards : Cards) (state : State) (old new : Taken) where
       → IfSome left (λ batch_bytes. LeavesStoredState (stored_fault.Run e) cards state batch_bytes old new t t)
   unstored None e t h = tt
   unstored (Some batch_bytes) e t h = (h, same_kept t)
-
-  pub stored : (left : Option (List ℕ)) (count : ℕ) (line : Line) (empty full : Taken) → IfSome left (λ batch_bytes. RanFrom cards state batch_bytes old new count)
-      → IfSome left (λ batch_bytes. line ≡ line_after cards state batch_bytes) → Appends empty full (state_image line.cards line.present)
-      → IfSome left (λ batch_bytes. StoredFrom cards state batch_bytes old new empty full count)
-  stored None count line empty full ran is took = tt
-  stored (Some batch_bytes) count line empty full ran is took = (ran, subst (λ (l : Line). Appends empty full (state_image l.cards l.present)) is took)
-
-  pub unwritten : (left : Option (List ℕ)) (count : ℕ) (line : Line) (e : StoreFault) (empty full : Taken) → IfSome left (λ batch_bytes. RanFrom cards state batch_bytes old new count)
-      → IfSome left (λ batch_bytes. line ≡ line_after cards state batch_bytes) → LeavesStore e (state_image line.cards line.present) empty full
-      → IfSome left (λ batch_bytes. LeavesStoredState (stored_fault.Store e) cards state batch_bytes old new empty full)
-  unwritten None count line e empty full ran is leaves = tt
-  unwritten (Some batch_bytes) count line e empty full ran is leaves = (count, ran, subst (λ (l : Line). LeavesStore e (state_image l.cards l.present) empty full) is leaves)
 
 -- ---- a run on the database of an image
 pub stored_whole : (r : Result ℕ StoredRunFault) (images batches : Option (List ℕ)) (db : Database) (old new empty full : Taken) → IfSome images (λ image_bytes. image image_bytes ≡ Ok db)
