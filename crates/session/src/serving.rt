@@ -1,6 +1,7 @@
 //! Commands in, answers out: each is answered, and its answer handed on, before the next is read.
-ghost use Rattle.std.specs.Prelude.{◌≡◌, ◌+◌, ◌<◌, ◌≤◌, ◌^◌, [], IfErr, IfOk, IfSome, OnErr, OnOk, if◌then◌else◌, is_ok};
+ghost use Rattle.std.specs.Prelude.{◌≡◌, ◌+◌, ◌<◌, ◌≤◌, ◌^◌, [], IfErr, IfOk, IfSome, OnErr, OnOk, if◌then◌else◌, is_ok, option_map};
 ghost use Rattle.std.specs.Io.KnownBytes.{Appends};
+ghost use Rattle.commands.specs.Commands.{commands};
 ghost use Rattle.commands.specs.declared.command_reader.TheConstants.{LAST_RECORD};
 ghost use Rattle.records.specs.Io.{AppendsFront};
 ghost use Rattle.runner.specs.Runs.{is_write};
@@ -87,6 +88,32 @@ fn serve_commands<R: Threads + Sync, C: Read + Drop, S: Sink, G: Gate>(
     }
 }
 
+/// Reads the commands of a text in turn, and answers each before the next is read. Its frame has the reader's room, and that of
+/// `serve` the executor's.
+#[inline(never)]
+fn serve_input<R: Threads + Sync, C: Read + Drop, S: Sink, G: Gate>(
+    rt: &R,
+    alloc: Global,
+    executor: &mut Executor,
+    input: C,
+    sink: &mut S,
+    workers: Workers,
+    gate: &G,
+) -> Result<(), RunFault>
+    requires alone { executor.old.earlier ≡ [] }
+    requires low { 1 ≤ executor.old.present.next }
+    requires count { S.failed sink.old < 2 ^ 63 }
+    ensures ok { OnOk result (IfSome (option_map commands (C.remaining input)) (λ hearing.
+        Served executor.old hearing (S.taken sink.old) (S.taken sink.new))) }
+    ensures err { IfErr result (λ e. IfSome (option_map commands (C.remaining input)) (λ hearing.
+        LeavesSession e executor.old hearing (S.taken sink.old) (S.taken sink.new))) }
+    ensures kinds { IfErr result IsOfSession }
+    ensures failures { S.failed sink.new ≡ S.failed sink.old + (if is_write result then 1 else 0) }
+{
+    let mut reader = CommandReader::new(alloc, input);
+    serve_commands(rt, alloc, executor, &mut reader, sink, workers, gate)
+}
+
 /// Loads an image, and then reads commands in turn, each of which is answered before the next is read. What is written is the same
 /// for every number of workers, whoever is told of the executions, and however the bytes of the commands come in pieces.
 pub fn serve<R: Threads + Sync, I: Source, C: Read + Drop, S: Sink, G: Gate>(
@@ -114,6 +141,5 @@ pub fn serve<R: Threads + Sync, I: Source, C: Read + Drop, S: Sink, G: Gate>(
     let Ok(mut executor) = Executor::new(rt, alloc, catalog, store) else {
         return Err(RunFault::Exec(Refusal::Memory));
     };
-    let mut reader = CommandReader::new(alloc, input);
-    serve_commands(rt, alloc, &mut executor, &mut reader, sink, workers, gate)
+    serve_input(rt, alloc, &mut executor, input, sink, workers, gate)
 }

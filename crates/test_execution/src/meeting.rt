@@ -53,7 +53,8 @@ impl MeetingGate {
     }
 }
 
-/// Whether places 0 and 1 of the batch meet on two workers.
+/// Whether the batch of which places 0 and 1 meet on two workers is executed in parallel; None where they don't meet, as where the
+/// memory of a second thread is refused.
 fn meets<R: Threads + Sync>(
     rt: &R,
     alloc: Global,
@@ -63,7 +64,10 @@ fn meets<R: Threads + Sync>(
 ) -> Option<bool> {
     let workers = Workers::new(2)?;
     let record = executor.execute(rt, alloc, batch, workers, gate).ok()?;
-    Some(record.path == Path::Parallel && gate.has_met())
+    if !gate.has_met() {
+        return None;
+    }
+    Some(record.path == Path::Parallel)
 }
 
 pub fn two_at_once<R: Threads + Sync>(rt: &R, alloc: Global) -> Option<bool> {
