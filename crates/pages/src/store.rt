@@ -258,12 +258,7 @@ impl RowStore {
     }
 
     /// Copies what a change of the key to this row, or to none, alters into what is saved, where that lacks it.
-    pub fn save(
-        &self,
-        key: &RowKey,
-        new_row: Option<&Row>,
-        saved: &mut Saved,
-    ) -> Result<(), Memory>
+    pub fn save(&self, key: &RowKey, new_row: Option<&Row>, saved: &mut Saved) -> Result<(), Memory>
         ensures there { OnOk result (HasBefore (before_of saved.new) key.now (option_copied new_row.entry)) }
         ensures same { StandsForSame (before_of saved.old) (before_of saved.new) self.now }
     {
