@@ -23,8 +23,7 @@ use Rattle.pages.specs.declared.kept.LeafPage.{LeafPage}
 use Rattle.pages.specs.declared.kept.OldRow.{OldRow}
 use Rattle.pages.specs.declared.kept.IndexPage.{IndexPage}
 use Rattle.pages.specs.Paged.{AreOfLeaf, IsByLeaf, IsPaged, page_at, union}
-use Rattle.pages.specs.BitSets.{has_bit}
-use Rattle.pages.specs.Saving.{AreMarks, AreThere, Before, HasBefore, HasNumbers, HasRow, has_leaf, has_of_leaf, has_old, has_place, IsLacking, IsLackingAt, IsLackingIndex, IsLackingRow, IsSavedOf, IsThere, Numbers, numbers_of, restored, restored_numbers, StandsForSame, undone, with_index, with_leaf, with_pages}
+use Rattle.pages.specs.Saving.{AreThere, Before, HasBefore, HasNumbers, HasRow, has_leaf, has_of_leaf, has_old, has_place, IsLackingIndex, IsSavedOf, IsThere, Numbers, numbers_of, restored, restored_numbers, StandsForSame, undone, with_index, with_leaf, with_pages}
 use Rattle.pages.proofs.Paging.{or_else, or_none, find-two, get-page_rows, get-union, page-set, other_leaf}
 
 -- ---- one leaf's rows

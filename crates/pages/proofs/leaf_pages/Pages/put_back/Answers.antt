@@ -1,4 +1,4 @@
-use Rattle.std.proofs.Common.{sym, ap, ◌∙◌}
+use Rattle.std.proofs.Common.{ap, ◌∙◌}
 use Rattle.tpcc_rows.specs.RowMap.{Rows}
 use Rattle.pages.specs.Saving.{with_leaf}
 use Rattle.pages.proofs.Restoring.{union-put}
