@@ -2,6 +2,7 @@ pub mod Fitting
 pub mod SoundStates
 pub mod Levels
 pub mod CutPlaces
+pub mod Declarations
 pub mod Examples
 pub mod Numbers
 pub mod Filing

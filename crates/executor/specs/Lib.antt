@@ -12,3 +12,4 @@ pub mod Executions
 pub mod Engines
 pub mod Runs
 pub mod Headline
+pub mod Footprints

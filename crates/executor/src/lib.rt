@@ -5,6 +5,7 @@
 
 mod batch;
 mod crew;
+mod declaring;
 mod engine;
 mod executor;
 mod in_order;

@@ -4,7 +4,7 @@ ghost use Rattle.std.specs.FinMap.{find};
 ghost use Rattle.std.specs.List.{AllPairs};
 ghost use Rattle.std.specs.Ordering.{nat_cmp};
 ghost use Rattle.executor.specs.Filing.{Awaits, FilesEach, reply_at};
-ghost use Rattle.executor.specs.LevelRuns.{cut_by, declared_footprints, strays};
+ghost use Rattle.executor.specs.LevelRuns.{cut_by, strays};
 ghost use Rattle.executor.specs.Lines.{state_of};
 ghost use Rattle.executor.specs.PlannedLevels.{AwaitsOthers, level_replies, level_rows, level_strays, plan_replies, plan_rows, plan_strays};
 ghost use Rattle.executor.specs.States.{IsSoundState};
@@ -13,6 +13,7 @@ ghost use Rattle.tpcc_model.specs.Serial.{batch_replies, batch_rows};
 ghost use Rattle.workers.specs.LevelEnds.{StraysWhere};
 
 use crate::crew::Crew;
+use crate::declaring::declare_all;
 use crate::in_order::{Pass, execute_in_order};
 use crate::laws::{cuts, declared_levels, strays_in_turn};
 use crate::level::{Level, Plan};
@@ -20,7 +21,6 @@ use crate::next_batch::NextBatch;
 use catalog::Catalog;
 use gather::{ReplyBook, merge};
 use mixer::{Cut, mix};
-use profiles::declare;
 use requests::reply::Reply;
 use rollback::PointedStore;
 use std::alloc::Global;
@@ -31,23 +31,6 @@ use tpcc_rows::id::RequestNumber;
 use tpcc_rows::memory::Memory;
 use transactions::ExecError;
 use workers::{END_OF_NUMBERS, Gate, LevelEnd, PlaceOutcome, run_level};
-
-/// What each request of a batch declares on the rows that the batch meets.
-fn declare_all(
-    alloc: Global,
-    catalog: &Catalog,
-    store: &PointedStore,
-    next: &NextBatch<'_>,
-) -> Result<Vec<Footprint>, Memory>
-    ensures { IfOk result (λ footprints. footprints.items ≡ declared_footprints catalog.now (state_of store.now.rows next.now.stamp) next.now.batch.now) }
-{
-    let requests = next.batch.requests.as_slice();
-    let mut footprints = Vec::with_capacity(alloc, requests.len())?;
-    for request in requests {
-        footprints.push(declare(alloc, catalog, request, store)?)?;
-    }
-    Ok(footprints)
-}
 
 /// Files the replies of a level of a batch, whose first request has this number. The changes are left, in their order.
 fn file_replies(
@@ -203,7 +186,7 @@ pub(crate) fn execute_parallel<R: Threads + Sync, G: Gate>(
     declared_levels();
     strays_in_turn();
     next.keep_within();
-    let footprints = declare_all(alloc, catalog, store, next)?;
+    let footprints = declare_all(alloc, crew, catalog, store, next)?;
     let plan = Plan {
         batch: next.batch,
         first: next.stamp.next,
