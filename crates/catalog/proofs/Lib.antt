@@ -1,7 +1,9 @@
 pub mod CardCodes
 pub mod CardKeys
 pub mod Counts
+pub mod InOrder
 pub mod Keyed
+pub mod Late
 pub mod Middles
 pub mod NameOrders
 pub mod Naming

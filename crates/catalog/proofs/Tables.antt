@@ -10,7 +10,7 @@ use Rattle.catalog.specs.declared.card.CardKey.{CardKey}
 use Rattle.catalog.specs.CardMap.{card_key_cmp}
 use Rattle.catalog.proofs.CardKeys.{card_key_cmp_total, exact_cards}
 
-in-order : (b : Bool) → T b → b ≡ true
+pub in-order : (b : Bool) → T b → b ≡ true
 in-order true h = refl
 in-order false h = absurd h
 

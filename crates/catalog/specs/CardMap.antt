@@ -1,10 +1,11 @@
 -- The cards of a database, as a finite map.
-use Rattle.std.specs.Prelude.{◌≡◌, ◌||◌, Bool, false, List, [], ◌∷◌, map, Some}
+use Rattle.std.specs.Prelude.{◌≡◌, ◌<◌, ◌||◌, ℕ, Bool, false, List, [], ◌∷◌, ◌++◌, length, map, slice_index_or, Some}
 use Rattle.std.specs.Coded.{Coded}
 use Rattle.std.specs.FinMap as finmap
 use Rattle.std.specs.List.{list_any}
 use Rattle.std.specs.Ordering.{eq_by_cmp}
 use Rattle.std.specs.declared.cmp.Ordering.{Ordering}
+use Rattle.std.specs.declared.cmp.Ordering.TheVariants.{Less}
 use Rattle.catalog.specs.declared.card.CardKey.{CardKey}
 use Rattle.catalog.specs.declared.card.Card.{Card}
 use Rattle.catalog.specs.contracts.card.CardKey.{the_row as key_row}
@@ -45,3 +46,19 @@ cards_in entries = finmap.from_sorted entries
 abbrev pub has_twins : List Card → Bool
 has_twins [] = false
 has_twins (card ∷ later) = list_any (λ twin. has_key (card_key twin) card) later || has_twins later
+
+-- the cards of a list, of each key the first one
+abbrev pub firsts : List (CardKey × Card) → Cards
+firsts entries = finmap.from_entries entries
+
+-- the cards of the list, and those of other keys
+abbrev pub over : List (CardKey × Card) → Cards → Cards
+over late cards = firsts (late ++ finmap.entries cards)
+
+-- the key is greater than all of these
+abbrev pub IsBehind : CardKey → List (CardKey × Card) → Type 0
+IsBehind key entries = (i : ℕ) (d : CardKey × Card) → i < length entries → card_key_cmp (slice_index_or entries i d).0 key ≡ Less
+
+-- the key is less than all of these
+abbrev pub IsBefore : CardKey → List (CardKey × Card) → Type 0
+IsBefore key entries = (i : ℕ) (d : CardKey × Card) → i < length entries → card_key_cmp key (slice_index_or entries i d).0 ≡ Less

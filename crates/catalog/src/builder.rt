@@ -1,13 +1,15 @@
 //! How a catalog is made.
-ghost use Rattle.std.specs.Prelude.{◌≡◌, IfOk, IfErr, IsSome, Ok, OnErr, OnOk, None, false, true};
+ghost use Rattle.std.specs.Prelude.{◌≡◌, ◌++◌, IfOk, IfErr, IsSome, Ok, OnErr, OnOk, None, Some, false, is_some, true};
 ghost use Rattle.std.specs.FinMap as map;
 ghost use Rattle.catalog.specs.CardKinds.{card_key};
-ghost use Rattle.catalog.specs.CardMap.{AreKeyed, cards_of, has_twins};
+ghost use Rattle.catalog.specs.CardMap.{AreKeyed, cards_of, firsts, has_twins};
 ghost use Rattle.catalog.specs.declared.builder.CatalogError.TheVariants.{Twice};
 ghost use Rattle.catalog.specs.declared.builder.CatalogError.TheVariants as catalog_error;
 
 use crate::card::{Card, CardKey};
 use crate::cards::Catalog;
+use crate::rising::Rising;
+use crate::table::moved;
 use std::alloc::Global;
 use std::collections::BTreeMap;
 use std::marker::Model;
@@ -34,20 +36,37 @@ impl From<Memory> for CatalogError {
 /// A catalog that is being made: a finite map from keys to cards, each card at its own key.
 #[derive(Drop)]
 pub struct CatalogBuilder {
-    cards: BTreeMap<CardKey, Card>,
+    in_order: Rising,
+    /// Cards that came out of order, each in place of another one of its key.
+    late: BTreeMap<CardKey, Card>,
 }
 
 impl Model for CatalogBuilder {
-    ghost use Rattle.std.specs.FinMap as map;
-    ghost use Rattle.catalog.specs.CardMap.{AreKeyed, Cards, cards_code};
+    ghost use Rattle.catalog.specs.CardMap.{AreKeyed, Cards, cards_code, over};
 
     ghost Value = { Cards };
 
     ghost coded = { cards_code };
 
-    ghost view = { λ s. map.from_entries s.cards.entries };
+    ghost view = { λ s. over s.late.entries s.in_order };
 
-    ghost invariant = { λ s. AreKeyed (map.from_entries s.cards.entries) };
+    ghost invariant = { λ s. AreKeyed (over s.late.entries s.in_order) };
+}
+
+/// The late cards and the earlier ones of other keys.
+fn with_earlier(
+    late: BTreeMap<CardKey, Card>,
+    cards: Vec<(CardKey, Card)>,
+) -> Result<BTreeMap<CardKey, Card>, Memory>
+    ensures { IfOk result (λ all. firsts all.entries ≡ firsts (late.entries ++ cards.items)) }
+{
+    let mut all = late;
+    for (key, card) in cards {
+        if !all.contains_key(&key) {
+            all.insert(key, card)?;
+        }
+    }
+    Ok(all)
 }
 
 impl CatalogBuilder {
@@ -56,17 +75,35 @@ impl CatalogBuilder {
         ensures { result ≡ map.empty }
     {
         CatalogBuilder {
-            cards: BTreeMap::new(alloc),
+            in_order: Rising::new(alloc),
+            late: BTreeMap::new(alloc),
         }
     }
 
-    fn insert(&mut self, key: CardKey, card: Card) -> Result<Option<Card>, Memory>
-        requires { card_key card ≡ key }
-        ensures ok { OnOk result (self.new ≡ map.insert self.old key card) }
-        ensures old { IfOk result (λ old. old ≡ map.get self.old key) }
+    /// Takes a card in order, whose key no late one has; or gives it back.
+    fn push(&mut self, card: Card) -> Result<Option<Card>, Memory>
+        ensures fresh { result ≡ Ok None → map.get self.old (card_key card) ≡ None }
+        ensures taken { result ≡ Ok None → self.new ≡ map.insert self.old (card_key card) card }
+        ensures back { IfOk result (λ back. is_some back ≡ true → (back ≡ Some card) × (self.new ≡ self.old)) }
         ensures err { OnErr result (self.new ≡ self.old) }
     {
-        Ok(self.cards.insert(key, card)?)
+        let key = card.key();
+        if self.late.contains_key(&key) {
+            return Ok(Some(card));
+        }
+        self.in_order.push(key, card)
+    }
+
+    /// Takes a card out of order, in place of the one that has its key. The answer is whether there was one.
+    fn insert(&mut self, card: Card) -> Result<bool, Memory>
+        ensures ok { OnOk result (self.new ≡ map.insert self.old (card_key card) card) }
+        ensures twin { IfOk result (λ twin. twin ≡ is_some (map.get self.old (card_key card))) }
+        ensures err { OnErr result (self.new ≡ self.old) }
+    {
+        let key = card.key();
+        let is_twin = self.late.contains_key(&key) || self.in_order.has(&key);
+        self.late.insert(key, card)?;
+        Ok(is_twin)
     }
 
     /// One card more, whose key none of the others has. After `Twice` it stands in place of the other one.
@@ -77,9 +114,14 @@ impl CatalogBuilder {
         ensures replaced { IfErr result (λ e. e ≡ Twice → self.new ≡ map.insert self.old (card_key card) card) }
         ensures memory { IfErr result (λ e. e ≡ catalog_error.Memory → self.new ≡ self.old) }
     {
-        match self.insert(card.key(), card)? {
+        match self.push(card)? {
             None => Ok(()),
-            Some(_) => Err(CatalogError::Twice),
+            Some(late) => {
+                if self.insert(late)? {
+                    return Err(CatalogError::Twice);
+                }
+                Ok(())
+            }
         }
     }
 
@@ -88,7 +130,13 @@ impl CatalogBuilder {
         ensures cards { IfOk result (λ catalog. catalog ≡ self) }
         ensures keyed { IfOk result AreKeyed }
     {
-        Catalog::from_map(alloc, self.cards)
+        let CatalogBuilder { in_order, late, .. } = self;
+        let cards = in_order.into_cards()?;
+        if late.is_empty() {
+            return Catalog::from_cards(alloc, cards);
+        }
+        let all = with_earlier(late, cards)?;
+        Catalog::from_cards(alloc, moved(alloc, all)?)
     }
 }
 

@@ -1,15 +1,15 @@
 //! The catalog.
-ghost use Rattle.std.specs.Prelude.{◌≡◌, ◌<◌, ◌^◌, IfOk, length, option_copied};
+ghost use Rattle.std.specs.Prelude.{◌≡◌, ◌<◌, ◌^◌, IfOk, length, option_copied, true};
 ghost use Rattle.std.specs.FinMap as map;
-ghost use Rattle.catalog.specs.CardMap.{AreKeyed};
+ghost use Rattle.catalog.specs.CardMap.{AreKeyed, card_key_cmp, cards_in};
 ghost use Rattle.catalog.specs.LastNames.{customer_by_last};
 ghost use Rattle.catalog.specs.Lookups.{customer_card, district_card, item_card, stock_card, warehouse_card};
+ghost use Rattle.tpcc_rows.specs.Places.{are_in_order};
 
 use crate::card::{Card, CardKey, CustomerCard, DistrictCard, ItemCard, StockCard, WarehouseCard};
 use crate::last_names::LastNames;
-use crate::table::{Layout, found, moved};
+use crate::table::{Layout, found};
 use std::alloc::Global;
-use std::collections::BTreeMap;
 use std::marker::Model;
 use tpcc_rows::id::{CustomerId, DistrictId, ItemId, WarehouseId};
 use tpcc_rows::memory::Memory;
@@ -40,14 +40,14 @@ impl Model for Catalog {
 }
 
 impl Catalog {
-    /// The catalog of these cards.
-    pub(crate) fn from_map(alloc: Global, cards: BTreeMap<CardKey, Card>) -> Result<Catalog, Memory>
-        requires { AreKeyed (map.from_entries cards.entries) }
-        ensures cards { IfOk result (λ catalog. catalog ≡ map.from_entries cards.entries) }
+    /// The catalog of these cards, which stand in the order of their keys.
+    pub(crate) fn from_cards(alloc: Global, cards: Vec<(CardKey, Card)>) -> Result<Catalog, Memory>
+        requires order { are_in_order card_key_cmp cards.items ≡ true }
+        requires keyed { AreKeyed (cards_in cards.items) }
+        ensures cards { IfOk result (λ catalog. catalog ≡ cards_in cards.items) }
         ensures keyed { IfOk result AreKeyed }
     {
         let names = LastNames::new(alloc, &cards)?;
-        let cards = moved(alloc, cards)?;
         let layout = Layout::of(&cards);
         Ok(Catalog {
             cards,

@@ -1,16 +1,14 @@
 //! The customers by last name (TPC-C clauses 2.5.2.2 and 2.6.2.2).
-ghost use Rattle.std.specs.Prelude.{◌≡◌, ◌+◌, ◌≤◌, IfOk, List, filter, length, map as mapped};
-ghost use Rattle.std.specs.BTreeMap.{IsOrdered};
-ghost use Rattle.std.specs.FinMap as map;
-ghost use Rattle.catalog.specs.CardMap.{AreKeyed, card_key_cmp};
+ghost use Rattle.std.specs.Prelude.{◌≡◌, ◌+◌, ◌≤◌, IfOk, List, filter, length, map as mapped, true};
+ghost use Rattle.catalog.specs.CardMap.{AreKeyed, card_key_cmp, cards_in};
 ghost use Rattle.catalog.specs.declared.card.CustomerCard.{CustomerCard};
 ghost use Rattle.catalog.specs.LastNames.{customer_cards, customers_among, is_holder, middle_of};
 ghost use Rattle.catalog.specs.NameOrder.{AreInOrder, StandsAt, name_cmp, name_of, named, named_cmp};
+ghost use Rattle.tpcc_rows.specs.Places.{are_in_order};
 
 use crate::card::{Card, CardKey, CustomerCard};
 use std::alloc::Global;
 use std::cmp::Ordering;
-use std::collections::BTreeMap;
 use std::marker::Model;
 use tpcc_rows::id::{CustomerId, DistrictId, WarehouseId};
 use tpcc_rows::memory::Memory;
@@ -60,15 +58,11 @@ impl NamedCustomer {
     }
 }
 
-fn named_customers(
-    alloc: Global,
-    cards: &BTreeMap<CardKey, Card>,
-) -> Result<Vec<NamedCustomer>, Memory>
-    ensures all { IfOk result (λ customers. customers.items ≡ mapped named (customers_among cards.now.entries)) }
-    ensures ordered { IsOrdered card_key_cmp cards.now }
+fn named_customers(alloc: Global, cards: &[(CardKey, Card)]) -> Result<Vec<NamedCustomer>, Memory>
+    ensures { IfOk result (λ customers. customers.items ≡ mapped named (customers_among cards.now)) }
 {
     let mut customers = Vec::new(alloc);
-    for (_, card) in cards.iter() {
+    for (_, card) in cards {
         if let Some(customer) = card.as_customer() {
             customers.push(NamedCustomer::new(customer))?;
         }
@@ -92,10 +86,11 @@ impl Model for LastNames {
 }
 
 impl LastNames {
-    /// Those of these cards.
-    pub(crate) fn new(alloc: Global, cards: &BTreeMap<CardKey, Card>) -> Result<LastNames, Memory>
-        requires { AreKeyed (map.from_entries cards.now.entries) }
-        ensures { IfOk result (AreInOrder (customer_cards (map.from_entries cards.now.entries))) }
+    /// Those of these cards, which stand in the order of their keys.
+    pub(crate) fn new(alloc: Global, cards: &[(CardKey, Card)]) -> Result<LastNames, Memory>
+        requires order { are_in_order card_key_cmp cards.now ≡ true }
+        requires keyed { AreKeyed (cards_in cards.now) }
+        ensures { IfOk result (AreInOrder (customer_cards (cards_in cards.now))) }
     {
         let mut customers = named_customers(alloc, cards)?;
         customers.sort_unstable_by(|a, b| a.cmp(b));

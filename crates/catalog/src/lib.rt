@@ -8,6 +8,7 @@ pub mod cards;
 mod digest;
 mod last_names;
 pub mod laws;
+mod rising;
 mod table;
 
 pub use builder::{CatalogBuilder, CatalogError};

@@ -1,6 +1,6 @@
 //! Cards in one piece of memory, in the order of their keys. Where the numbers of a kind have no gaps, as in a database of full
 //! scale, a card's place follows from its key, and is found at once.
-ghost use Rattle.std.specs.Prelude.{◌≡◌, IfOk, IsTrue, Ok, option_copied, true};
+ghost use Rattle.std.specs.Prelude.{◌≡◌, IfOk, IsTrue, Ok, is_some, option_copied, true};
 ghost use Rattle.std.specs.FinMap as map;
 ghost use Rattle.catalog.specs.CardMap.{card_key_cmp, cards_in};
 ghost use Rattle.tpcc_rows.specs.Places.{IsPlaceOf, are_in_order};
@@ -116,6 +116,14 @@ fn guessed(cards: &[(CardKey, Card)], key: &CardKey, guess: usize) -> bool
         Some((other, _)) => *other == *key,
         None => false,
     }
+}
+
+/// Whether one of the cards has the key.
+pub(crate) fn has(cards: &[(CardKey, Card)], key: &CardKey) -> bool
+    requires { are_in_order card_key_cmp cards.now ≡ true }
+    ensures { result ≡ is_some (map.get (cards_in cards.now) key.now) }
+{
+    place_of(cards, key).is_ok()
 }
 
 /// The cards of a tree in their order, each moved.

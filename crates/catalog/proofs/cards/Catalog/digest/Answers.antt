@@ -1,7 +1,7 @@
-use Rattle.std.proofs.Common.{◌∷◌, ◌++◌, ◌+◌, [], drop, refl, sym, ap, ◌∙◌, append-nil, append_assoc}
+use Rattle.std.proofs.Common.{◌∷◌, ◌++◌, ◌+◌, drop, sym, ap, ◌∙◌, append-nil, append_assoc}
 use Rattle.std.proofs.lemmas.List.{at_drop_more, drop_all}
 use Rattle.sha2.specs.Sha256.{sha256}
-use Rattle.catalog.specs.CardBytes.{card_bytes, cards_bytes, catalog_digest}
+use Rattle.catalog.specs.CardBytes.{cards_bytes, catalog_digest}
 use Rattle.catalog.proofs.cards.Catalog.digest.Goals as goal
 
 pub loop-key-preserved : goal.loop-key-preserved

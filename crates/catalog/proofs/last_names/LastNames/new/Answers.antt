@@ -9,5 +9,5 @@ use Rattle.catalog.proofs.last_names.LastNames.new.Goals as goal
 
 pub returns : goal.returns
 returns c =
-    in_order c.args.cards.now c.in_ok-customers.customers.items c.sort_unstable_by.new.self.items c.named_customers.ensures.ordered c.requires c.in_ok-customers.ensures.all c.sort_unstable_by.ensures.permutation
+    in_order c.args.cards.now c.in_ok-customers.customers.items c.sort_unstable_by.new.self.items c.requires.order c.requires.keyed c.in_ok-customers.ensures c.sort_unstable_by.ensures.permutation
     (c.sort_unstable_by.ensures.sorted (λ x y. is_lt (named_cmp x y)) (ranks_by named_cmp_total (λ x. x)) (always_returns_same _ _ _ (λ a r f k. search rules)))
