@@ -1,5 +1,5 @@
 -- The index of one district written back into those of all.
-use Rattle.std.proofs.Common.{◌≡◌, ◌<◌, ◌≤◌, ◌+◌, ◌*◌, ℕ, zero, suc, Bool, true, false, cond, ◌&&◌, eqb, List, [], ◌∷◌, ◌++◌, length, set, get_or, Option, Some, None, inl, inr, refl, sym, ap, ◌∙◌, nat_eq, nat_lt, arith}
+use Rattle.std.proofs.Common.{◌≡◌, ◌<◌, ◌≤◌, ◌+◌, ◌*◌, ◌/◌, ◌%◌, ◌==◌, ℕ, zero, suc, Bool, true, false, cond, ◌&&◌, eqb, List, [], ◌∷◌, ◌++◌, length, set, get_or, Option, Some, None, inl, inr, refl, sym, ap, ◌∙◌, nat_eq, nat_lt, arith}
 use Rattle.std.proofs.Math.Dec.{eqb-suc-suc, eqb-suc-zero, eqb-zero-suc}
 use Rattle.std.proofs.lemmas.Option.{slice_get_read}
 use Rattle.std.specs.List.{slice_get}
@@ -215,7 +215,7 @@ module _ (ds : List DistrictIndex) (n w d : ℕ) (old p : DistrictIndex) (h : Is
       let same = λ (f : Option DistrictIndex → Bool) (e : f (Some p) ≡ f (Some old)) (v e2 : ℕ). same-at ds (set ds n p) (w, d) p (page_of-set ds n (w, d) h p) f (e ∙ ap f (sym (page-here ds n (w, d) h old here))) (v, e2) in
       record { new_same = λ m v e. same (new_in m) (new m) v e; order_same = λ c m v e. same (order_in c m) (orders c m) v e }
 
--- ---- a page replaced
+-- ---- a part of an index replaced
 page-put : (ds : List DistrictIndex) (n : ℕ) (p : DistrictIndex) → n < length ds → (w d : ℕ) → page_of (set ds n p) (w, d) ≡ cond (is_place n w d) (Some p) (page_of ds (w, d))
 page-put ds n p h w d =
     let m = w * 10 + d in
@@ -228,15 +228,40 @@ there : (f : Option DistrictIndex → Bool) (b : Bool) (p : DistrictIndex) (x : 
 there f true p x = refl
 there f false p x = refl
 
-pub has-put : (ds : List DistrictIndex) (n : ℕ) (p : DistrictIndex) → n < length ds → (c : ℕ) (q : RowKey) → has_at (set ds n p) c q ≡ cond (is_of n q) (has_in p c q) (has_at ds c q)
-has-put ds n p h c (key.NewOrder w d o) = ap (new_in o) (page-put ds n p h w d) ∙ there (new_in o) (is_place n w d) p (page_of ds (w, d))
-has-put ds n p h c (key.Order w d o) = ap (order_in c o) (page-put ds n p h w d) ∙ there (order_in c o) (is_place n w d) p (page_of ds (w, d))
-has-put ds n p h c (key.Warehouse w) = refl
-has-put ds n p h c (key.District w d) = refl
-has-put ds n p h c (key.Customer w d b) = refl
-has-put ds n p h c (key.Stock w i) = refl
-has-put ds n p h c (key.OrderLine w d o l) = refl
-has-put ds n p h c (key.History i) = refl
+-- a test of whom one says at the place what the other says
+at-place : (f : Option DistrictIndex → Bool) (b : Bool) (p : DistrictIndex) (x : Option DistrictIndex) → (b ≡ true → f (Some p) ≡ f x) → f (cond b (Some p) x) ≡ f x
+at-place f true p x e = e refl
+at-place f false p x e = refl
+
+-- the index whose part is at place n replaced by one in which that part is another's
+module _ (ds : List DistrictIndex) (n : ℕ) (old p part : DistrictIndex) (small : n / 2 < length ds) (here : old ≡ get_or ds (n / 2) old) where
+  stays : (f : Option DistrictIndex → Bool) → f (Some p) ≡ f (Some old) → (w d : ℕ) → f (page_of (set ds (n / 2) p) (w, d)) ≡ f (page_of ds (w, d))
+  stays f e w d =
+      ap f (page-put ds (n / 2) p small w d)
+      ∙ at-place f (is_place (n / 2) w d) p (page_of ds (w, d)) (λ t. e ∙ ap f (sym (page-here ds (n / 2) (w, d) (record { place = t; small = small }) old here)))
+
+  comes : (f : Option DistrictIndex → Bool) → f (Some p) ≡ f (Some part) → (w d : ℕ) → f (page_of (set ds (n / 2) p) (w, d)) ≡ cond (is_place (n / 2) w d) (f (Some part)) (f (page_of ds (w, d)))
+  comes f e w d = ap f (page-put ds (n / 2) p small w d) ∙ there f (is_place (n / 2) w d) p (page_of ds (w, d)) ∙ ap (λ b. cond (is_place (n / 2) w d) b (f (page_of ds (w, d)))) e
+
+  pub has-put-new : n % 2 ≡ 0 → ((o : ℕ) → has_new p o ≡ has_new part o) → ((c o : ℕ) → has_order p c o ≡ has_order old c o) → (c : ℕ) (q : RowKey) → has_at (set ds (n / 2) p) c q ≡ cond (is_of n q) (has_in part c q) (has_at ds c q)
+  has-put-new even new orders c (key.NewOrder w d o) = comes (new_in o) (new o) w d ∙ sym (ap (λ r. cond (r == 0 && is_place (n / 2) w d) (has_new part o) (new_in o (page_of ds (w, d)))) even)
+  has-put-new even new orders c (key.Order w d o) = stays (order_in c o) (orders c o) w d ∙ sym (ap (λ r. cond (r == 1 && is_place (n / 2) w d) (has_order part c o) (order_in c o (page_of ds (w, d)))) even)
+  has-put-new even new orders c (key.Warehouse w) = refl
+  has-put-new even new orders c (key.District w d) = refl
+  has-put-new even new orders c (key.Customer w d b) = refl
+  has-put-new even new orders c (key.Stock w i) = refl
+  has-put-new even new orders c (key.OrderLine w d o l) = refl
+  has-put-new even new orders c (key.History i) = refl
+
+  pub has-put-orders : n % 2 ≡ 1 → ((o : ℕ) → has_new p o ≡ has_new old o) → ((c o : ℕ) → has_order p c o ≡ has_order part c o) → (c : ℕ) (q : RowKey) → has_at (set ds (n / 2) p) c q ≡ cond (is_of n q) (has_in part c q) (has_at ds c q)
+  has-put-orders odd new orders c (key.NewOrder w d o) = stays (new_in o) (new o) w d ∙ sym (ap (λ r. cond (r == 0 && is_place (n / 2) w d) (has_new part o) (new_in o (page_of ds (w, d)))) odd)
+  has-put-orders odd new orders c (key.Order w d o) = comes (order_in c o) (orders c o) w d ∙ sym (ap (λ r. cond (r == 1 && is_place (n / 2) w d) (has_order part c o) (order_in c o (page_of ds (w, d)))) odd)
+  has-put-orders odd new orders c (key.Warehouse w) = refl
+  has-put-orders odd new orders c (key.District w d) = refl
+  has-put-orders odd new orders c (key.Customer w d b) = refl
+  has-put-orders odd new orders c (key.Stock w i) = refl
+  has-put-orders odd new orders c (key.OrderLine w d o l) = refl
+  has-put-orders odd new orders c (key.History i) = refl
 
 -- ---- pages with no numbers
 pub record IsBlank (p : DistrictIndex) : Type 0 where

@@ -18,13 +18,13 @@ abbrev pub order_in : ℕ → ℕ → Option DistrictIndex → Bool
 order_in c o None = false
 order_in c o (Some index) = has_order index c o
 
--- whether the key's number is on the page of its district: that of an order, whether as one of customer c's
+-- whether the key's number is in the index of its district: that of an order, whether as one of customer c's
 abbrev pub has_in : DistrictIndex → ℕ → RowKey → Bool
-has_in page c (key.NewOrder w d o) = has_new page o
-has_in page c (key.Order w d o) = has_order page c o
-has_in page c _ = false
+has_in index c (key.NewOrder w d o) = has_new index o
+has_in index c (key.Order w d o) = has_order index c o
+has_in index c _ = false
 
--- whether the key's number is on one of the pages: that of an order, whether as one of customer c's
+-- whether the key's number is in one of the indexes: that of an order, whether as one of customer c's
 abbrev pub has_at : List DistrictIndex → ℕ → RowKey → Bool
 has_at pages c (key.NewOrder w d o) = new_in o (page_of pages (w, d))
 has_at pages c (key.Order w d o) = order_in c o (page_of pages (w, d))

@@ -31,18 +31,46 @@ impl DistrictIndex {
         }
     }
 
-    /// An index of the same numbers.
-    pub fn copied(&self) -> Result<DistrictIndex, Memory>
+    /// An index of the same new orders, and of no others.
+    pub fn new_copied(&self) -> Result<DistrictIndex, Memory>
         ensures open { IfOk result (λ copy. (o : ℕ) → has_new copy o ≡ has_new self.now o) }
-        ensures orders { IfOk result (λ copy. (c o : ℕ) → has_order copy c o ≡ has_order self.now c o) }
+        ensures orders { IfOk result (λ copy. (c o : ℕ) → has_order copy c o ≡ false) }
     {
         let open = self.open.clone()?;
-        let orders = self.orders.clone()?;
         Ok(DistrictIndex {
             alloc: self.alloc,
             open,
+            orders: BTreeMap::new(self.alloc),
+        })
+    }
+
+    /// An index of the same customers' orders, and of no new ones.
+    pub fn orders_copied(&self) -> Result<DistrictIndex, Memory>
+        ensures open { IfOk result (λ copy. (o : ℕ) → has_new copy o ≡ false) }
+        ensures orders { IfOk result (λ copy. (c o : ℕ) → has_order copy c o ≡ has_order self.now c o) }
+    {
+        let orders = self.orders.clone()?;
+        Ok(DistrictIndex {
+            alloc: self.alloc,
+            open: BTreeSet::new(self.alloc),
             orders,
         })
+    }
+
+    /// The new orders are those of the other index from now on.
+    pub fn put_new(&mut self, other: DistrictIndex)
+        ensures open { (o : ℕ) → has_new self.new o ≡ has_new other o }
+        ensures orders { (c o : ℕ) → has_order self.new c o ≡ has_order self.old c o }
+    {
+        self.open = other.open;
+    }
+
+    /// The customers' orders are those of the other index from now on.
+    pub fn put_orders(&mut self, other: DistrictIndex)
+        ensures open { (o : ℕ) → has_new self.new o ≡ has_new self.old o }
+        ensures orders { (c o : ℕ) → has_order self.new c o ≡ has_order other c o }
+    {
+        self.orders = other.orders;
     }
 
     /// The numbers of the new orders, where there are any.

@@ -1,4 +1,4 @@
-//! Where the index page of a district stands.
+//! Where the index of a district stands, and its two parts.
 ghost use Rattle.std.specs.Prelude.{◌≡◌, ◌<◌, ℕ, IfNone, IfSome, false, true};
 ghost use Rattle.indexes.specs.Owners.{owns};
 ghost use Rattle.indexes.specs.Places.{is_of, is_place};
@@ -7,18 +7,22 @@ ghost use Rattle.indexes.specs.declared.owner.Owner.{Owner};
 use tpcc_rows::id::{DistrictId, WarehouseId};
 use tpcc_rows::key::RowKey;
 
-/// So many places are there for index pages: one for each of the thousand districts. The first eleven are no district's.
-pub const PLACES: usize = 1_011;
+/// So many indexes are there: one for each of the thousand districts. The first eleven are no district's.
+pub(crate) const DISTRICTS: usize = 1_011;
 
-/// The place of the district.
+/// So many places are there for parts of indexes: the new orders of the district whose index is the nth stand at 2n, its
+/// customers' orders at 2n + 1.
+pub const PLACES: usize = 2 * DISTRICTS;
+
+/// Which index is the district's.
 pub(crate) fn place(warehouse: WarehouseId, district: DistrictId) -> usize
     ensures value { is_place result warehouse district ≡ true }
-    ensures small { result < PLACES }
+    ensures small { result < DISTRICTS }
 {
     usize::from(warehouse.number()) * 10 + usize::from(district.number())
 }
 
-/// The place of the index page that has the key's number: None where none has it.
+/// The place of the part that has the key's number: None where none has it.
 pub fn place_of(key: &RowKey) -> Option<usize>
     ensures some { IfSome result (λ n. is_of n key.now ≡ true) }
     ensures small { IfSome result (λ n. n < PLACES) }
@@ -29,12 +33,12 @@ pub fn place_of(key: &RowKey) -> Option<usize>
             warehouse,
             district,
             ..
-        }
-        | RowKey::Order {
+        } => Some(2 * place(*warehouse, *district)),
+        RowKey::Order {
             warehouse,
             district,
             ..
-        } => Some(place(*warehouse, *district)),
+        } => Some(2 * place(*warehouse, *district) + 1),
         _ => None,
     }
 }

@@ -8,11 +8,11 @@ ghost use Rattle.tpcc_rows.specs.RowMap.{row_key_cmp};
 ghost use Rattle.tpcc_rows.specs.declared.key.RowKey.{RowKey};
 ghost use Rattle.tpcc_rows.specs.declared.key.RowKey.TheVariants as key;
 ghost use Rattle.indexes.specs.declared.owner.Owner.TheVariants as owner;
-ghost use Rattle.indexes.specs.declared.place.TheConstants.{PLACES};
+ghost use Rattle.indexes.specs.declared.place.TheConstants.{DISTRICTS, PLACES};
 
 use crate::district::DistrictIndex;
 use crate::owner::{Owner, owner_of};
-use crate::place::{PLACES, place};
+use crate::place::{DISTRICTS, PLACES, place};
 use leaf_rows::LeafRows;
 use std::alloc::Global;
 use std::collections::BTreeSet;
@@ -20,11 +20,11 @@ use tpcc_rows::id::{CustomerId, DistrictId, OrderId, WarehouseId};
 use tpcc_rows::key::RowKey;
 use tpcc_rows::memory::Memory;
 
-/// An index page for each district, at its place.
+/// An index for each district, at its place. Each has two parts, which are copied and come back one by one.
 #[derive(Drop)]
 pub struct Indexes {
     districts: Vec<DistrictIndex>,
-    ghost full: { length districts.items ≡ PLACES },
+    ghost full: { length districts.items ≡ DISTRICTS },
 }
 
 impl Indexes {
@@ -32,31 +32,41 @@ impl Indexes {
     ghost use Rattle.indexes.specs.Owners.{owner_at, owns};
     ghost use Rattle.indexes.specs.Places.{is_of};
 
-    /// No numbers, and a page at each place.
+    /// No numbers, and an index at each place.
     pub fn new(alloc: Global) -> Result<Indexes, Memory>
         ensures { IfOk result (λ indexes. (c : ℕ) (q : RowKey) → has indexes c q ≡ false) }
     {
-        let mut districts = Vec::with_capacity(alloc, PLACES)?;
-        for _ in 0..PLACES {
+        let mut districts = Vec::with_capacity(alloc, DISTRICTS)?;
+        for _ in 0..DISTRICTS {
             districts.push(DistrictIndex::new(alloc))?;
         }
         Ok(Indexes { districts })
     }
 
-    /// The page at a place.
-    pub fn page(&self, place: usize) -> &DistrictIndex
+    /// An index of the part at the place.
+    pub fn copied(&self, place: usize) -> Result<DistrictIndex, Memory>
         requires { place < PLACES }
-        ensures { (c : ℕ) (q : RowKey) → is_of place q ≡ true → has_in result.now c q ≡ has self.now c q }
+        ensures { IfOk result (λ part. (c : ℕ) (q : RowKey) → is_of place q ≡ true → has_in part c q ≡ has self.now c q) }
     {
-        &self.districts[place]
+        let index = &self.districts[place / 2];
+        if place % 2 == 0 {
+            index.new_copied()
+        } else {
+            index.orders_copied()
+        }
     }
 
-    /// This is the page at the place from now on.
-    pub fn put_back(&mut self, place: usize, page: DistrictIndex)
+    /// The part at the place is this index's from now on.
+    pub fn put_back(&mut self, place: usize, part: DistrictIndex)
         requires { place < PLACES }
-        ensures { (c : ℕ) (q : RowKey) → has self.new c q ≡ cond (is_of place q) (has_in page c q) (has self.old c q) }
+        ensures { (c : ℕ) (q : RowKey) → has self.new c q ≡ cond (is_of place q) (has_in part c q) (has self.old c q) }
     {
-        self.districts[place] = page;
+        let index = &mut self.districts[place / 2];
+        if place % 2 == 0 {
+            index.put_new(part);
+        } else {
+            index.put_orders(part);
+        }
     }
 
     /// The numbers of the district's new orders, where there are any.

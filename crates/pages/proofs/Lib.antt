@@ -2,5 +2,6 @@ pub mod BitSets
 pub mod Indexing
 pub mod Listing
 pub mod Moving
+pub mod Numbering
 pub mod Paging
 pub mod Restoring

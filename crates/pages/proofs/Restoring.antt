@@ -1,5 +1,5 @@
 -- Rows and pages moved back, and rows that change while these are saved.
-use Rattle.std.proofs.Common.{◌≡◌, ◌<◌, ℕ, eqb, Bool, true, false, cond, not, is_some, ◌||◌, inl, inr, List, [], ◌∷◌, ◌++◌, length, set, Option, Some, None, IfSome, IfNone, refl, sym, ap, ap₂, subst, ◌∙◌, arith}
+use Rattle.std.proofs.Common.{◌≡◌, ◌<◌, ℕ, eqb, Bool, true, false, cond, not, is_some, ◌||◌, inl, inr, List, [], ◌∷◌, ◌++◌, length, set, Option, Some, None, refl, sym, ap, ap₂, subst, ◌∙◌, arith}
 use Rattle.std.proofs.lemmas.Bool.{cases_Bool, eqb-true, eq-eqb}
 use Rattle.std.proofs.lemmas.Cmp.{tied_itself}
 use Rattle.std.proofs.lemmas.List.{length-set}
@@ -15,15 +15,16 @@ use Rattle.tpcc_rows.specs.RowMap.{Rows, row_key_cmp}
 use Rattle.tpcc_rows.specs.Leaves.{leaf, page_rows}
 use Rattle.tpcc_rows.proofs.Keys.{row_key_cmp_total, exact_keys}
 use Rattle.tpcc_rows.proofs.Singles.{tied}
-use Rattle.indexes.specs.declared.owner.Owner.{Owner}
 use Rattle.indexes.specs.Indexed.{has_in}
 use Rattle.indexes.specs.Owners.{owner_at, owns}
 use Rattle.indexes.specs.Places.{is_of}
 use Rattle.pages.specs.declared.kept.LeafPage.{LeafPage}
 use Rattle.pages.specs.declared.kept.OldRow.{OldRow}
-use Rattle.pages.specs.declared.kept.IndexPage.{IndexPage}
+use Rattle.pages.specs.declared.kept.AddedNumber.{AddedNumber}
+use Rattle.pages.specs.declared.kept.IndexPart.{IndexPart}
 use Rattle.pages.specs.Paged.{AreOfLeaf, IsByLeaf, IsPaged, page_at, union}
-use Rattle.pages.specs.Saving.{AreThere, Before, HasBefore, HasNumbers, HasRow, has_leaf, has_of_leaf, has_old, has_place, IsLackingIndex, IsSavedOf, IsThere, Numbers, numbers_of, restored, restored_numbers, StandsForSame, undone, with_index, with_leaf, with_pages}
+use Rattle.pages.specs.Saving.{AreThere, Before, HasBefore, HasRow, has_leaf, has_of_leaf, has_old, has_place, IsSavedOf, IsThere, Numbers, numbers_of, restored, restored_numbers, StandsForSame, undone, with_leaf, with_pages}
+use Rattle.pages.proofs.Numbering.{any-push, number-more, numbers-alike, numbers-kept, numbers-same, or-first, or-left, or-right, part-more}
 use Rattle.pages.proofs.Paging.{or_else, or_none, find-two, get-page_rows, get-union, page-set, other_leaf}
 
 -- ---- one leaf's rows
@@ -88,45 +89,13 @@ pub undone-push : (olds : List OldRow) (old : OldRow) (rows : Rows) → undone (
 undone-push [] old rows = refl
 undone-push (o ∷ olds) old rows = ap (λ (r : Rows). changed r o.key o.row) (undone-push olds old rows)
 
--- numbers that agree at one key agree there after going back
-pub index-alike : (page : IndexPage) (a b : Numbers) (c : ℕ) (q : RowKey) → a c q ≡ b c q → with_index page a c q ≡ with_index page b c q
-index-alike page a b c q e = ap (cond (is_of page.place q) (has_in page.index c q)) e
-
-pub numbers-alike : (pages : List IndexPage) (a b : Numbers) (c : ℕ) (q : RowKey) → a c q ≡ b c q → restored_numbers pages a c q ≡ restored_numbers pages b c q
-numbers-alike [] a b c q e = e
-numbers-alike (p ∷ pages) a b c q e = index-alike p (restored_numbers pages a) (restored_numbers pages b) c q (numbers-alike pages a b c q e)
-
-pub numbers-push : (pages : List IndexPage) (page : IndexPage) (numbers : Numbers) (c : ℕ) (q : RowKey) → restored_numbers (pages ++ page ∷ []) numbers c q ≡ restored_numbers pages (with_index page numbers) c q
-numbers-push [] page numbers c q = refl
-numbers-push (p ∷ pages) page numbers c q = index-alike p (restored_numbers (pages ++ page ∷ []) numbers) (restored_numbers pages (with_index page numbers)) c q (numbers-push pages page numbers c q)
-
-swap : (a b c : Bool) → (a || (b || c)) ≡ (b || (a || c))
-swap true true c = refl
-swap true false c = refl
-swap false b c = refl
-
-any-push : {A : Type 0} (test : A → Bool) (xs : List A) (x : A) → list_any test (xs ++ x ∷ []) ≡ (test x || list_any test xs)
-any-push test [] x = refl
-any-push test (y ∷ xs) x = ap (λ b. test y || b) (any-push test xs x) ∙ swap (test y) (test x) (list_any test xs)
-
 pub leaf-push : (pages : List LeafPage) (page : LeafPage) (n : ℕ) → has_leaf (pages ++ page ∷ []) n ≡ (eqb n page.leaf || has_leaf pages n)
 leaf-push pages page n = any-push (λ p. eqb n p.leaf) pages page
-
-pub place-push : (pages : List IndexPage) (page : IndexPage) (n : ℕ) → has_place (pages ++ page ∷ []) n ≡ (eqb n page.place || has_place pages n)
-place-push pages page n = any-push (λ p. eqb n p.place) pages page
 
 pub old-push : (olds : List OldRow) (old : OldRow) (key : RowKey) → has_old (olds ++ old ∷ []) key ≡ (eq_by_cmp row_key_cmp key old.key || has_old olds key)
 old-push olds old key = any-push (λ o. eq_by_cmp row_key_cmp key o.key) olds old
 
 -- ---- leaves that aren't saved stay
-or-left : (a b : Bool) → (a || b) ≡ false → a ≡ false
-or-left true b e = e
-or-left false b e = refl
-
-or-right : (a b : Bool) → (a || b) ≡ false → b ≡ false
-or-right true b e = cc
-or-right false b e = e
-
 pub stays : (pages : List LeafPage) (rows : Rows) (q : RowKey) → has_leaf pages (leaf q) ≡ false → get (with_pages pages rows) q ≡ get rows q
 stays [] rows q none = refl
 stays (p ∷ pages) rows q none =
@@ -160,10 +129,6 @@ or-true : (a b : Bool) → b ≡ true → (a || b) ≡ true
 or-true true b h = refl
 or-true false b h = h
 
-or-first : (a b : Bool) → a ≡ true → (a || b) ≡ true
-or-first true b h = refl
-or-first false b h = let no : false ≡ true = h in cc
-
 changed-same : (rows : Rows) (key : RowKey) (row : Option Row) → row ≡ get rows key → changed rows key row ≡ rows
 changed-same rows key row e = same_map row_key_cmp_total exact_keys _ _ (λ q.
     get-changed row_key_cmp_total exact_keys rows key row q
@@ -182,20 +147,20 @@ there-push [] old rows e h = (there-row old.key old.row rows e, tt)
 there-push (o ∷ olds) old rows e h = (subst (λ (r : Rows). IsThere o.key o.row r) (sym (undone-push olds old rows ∙ ap (undone olds) (changed-same rows old.key old.row e))) h.0, there-push olds old rows e h.1)
 
 module _ (old new : Before) (rows : Rows) where
-  pub page-copied : (page : LeafPage) → page.rows ≡ page_rows rows page.leaf → new.pages ≡ old.pages ++ page ∷ [] → new.olds ≡ old.olds → new.indexes ≡ old.indexes → StandsForSame old new rows
-  page-copied page e pages olds indexes =
+  pub page-copied : (page : LeafPage) → page.rows ≡ page_rows rows page.leaf → new.pages ≡ old.pages ++ page ∷ [] → new.olds ≡ old.olds → new.indexes ≡ old.indexes → new.added ≡ old.added → StandsForSame old new rows
+  page-copied page e pages olds indexes added =
       let base : with_pages new.pages rows ≡ with_pages old.pages rows = ap (λ ps. with_pages ps rows) pages ∙ pages-push old.pages page rows ∙ ap (with_pages old.pages) (with_leaf-same rows page.leaf page.rows e) in
       let back : restored new rows ≡ restored old rows = ap₂ undone olds base in
       record {
         restored_same = back;
         saved_same = λ h. record {
-          same = λ c q. ap (λ ps. restored_numbers ps (numbers_of rows) c q) indexes ∙ h.same c q ∙ ap (λ (r : Rows). numbers_of r c q) (sym back);
+          same = λ c q. numbers-same old new (numbers_of rows) indexes added c q ∙ h.same c q ∙ ap (λ (r : Rows). numbers_of r c q) (sym back);
           there = subst (λ (r : Rows). AreThere new.olds r) (sym base) (subst (λ os. AreThere os (with_pages old.pages rows)) (sym olds) h.there);
         };
       }
 
-  pub row-copied : (row : OldRow) → row.row ≡ get rows row.key → has_leaf old.pages (leaf row.key) ≡ false → new.pages ≡ old.pages → new.olds ≡ old.olds ++ row ∷ [] → new.indexes ≡ old.indexes → StandsForSame old new rows
-  row-copied row e apart pages olds indexes =
+  pub row-copied : (row : OldRow) → row.row ≡ get rows row.key → has_leaf old.pages (leaf row.key) ≡ false → new.pages ≡ old.pages → new.olds ≡ old.olds ++ row ∷ [] → new.indexes ≡ old.indexes → new.added ≡ old.added → StandsForSame old new rows
+  row-copied row e apart pages olds indexes added =
       let base : with_pages new.pages rows ≡ with_pages old.pages rows = ap (λ ps. with_pages ps rows) pages in
       let here : row.row ≡ get (with_pages old.pages rows) row.key = e ∙ sym (stays old.pages rows row.key apart) in
       let back : restored new rows ≡ restored old rows =
@@ -203,43 +168,34 @@ module _ (old new : Before) (rows : Rows) where
       record {
         restored_same = back;
         saved_same = λ h. record {
-          same = λ c q. ap (λ ps. restored_numbers ps (numbers_of rows) c q) indexes ∙ h.same c q ∙ ap (λ (r : Rows). numbers_of r c q) (sym back);
+          same = λ c q. numbers-same old new (numbers_of rows) indexes added c q ∙ h.same c q ∙ ap (λ (r : Rows). numbers_of r c q) (sym back);
           there = subst (λ (r : Rows). AreThere new.olds r) (sym base) (subst (λ os. AreThere os (with_pages old.pages rows)) (sym olds) (there-push old.olds row (with_pages old.pages rows) here h.there));
         };
       }
 
-  -- an index page that has the numbers of the rows that are there
-  pub index-copied : (page : IndexPage) → ((c : ℕ) (q : RowKey) → is_of page.place q ≡ true → has_in page.index c q ≡ numbers_of rows c q) → new.pages ≡ old.pages → new.olds ≡ old.olds → new.indexes ≡ old.indexes ++ page ∷ [] → StandsForSame old new rows
-  index-copied page e pages olds indexes =
+  -- where the same rows are saved, and the same numbers come back
+  numbers-saved : new.pages ≡ old.pages → new.olds ≡ old.olds → ((c : ℕ) (q : RowKey) → restored_numbers new (numbers_of rows) c q ≡ restored_numbers old (numbers_of rows) c q) → StandsForSame old new rows
+  numbers-saved pages olds same =
       let base : with_pages new.pages rows ≡ with_pages old.pages rows = ap (λ ps. with_pages ps rows) pages in
       let back : restored new rows ≡ restored old rows = ap₂ undone olds base in
       record {
         restored_same = back;
         saved_same = λ h. record {
-          same = λ c q.
-              ap (λ ps. restored_numbers ps (numbers_of rows) c q) indexes ∙ numbers-push old.indexes page (numbers_of rows) c q
-              ∙ numbers-alike old.indexes (with_index page (numbers_of rows)) (numbers_of rows) c q (index-same c q) ∙ h.same c q ∙ ap (λ (r : Rows). numbers_of r c q) (sym back);
+          same = λ c q. same c q ∙ h.same c q ∙ ap (λ (r : Rows). numbers_of r c q) (sym back);
           there = subst (λ (r : Rows). AreThere new.olds r) (sym base) (subst (λ os. AreThere os (with_pages old.pages rows)) (sym olds) h.there);
         };
       }
-    where
-      index-same : (c : ℕ) (q : RowKey) → with_index page (numbers_of rows) c q ≡ numbers_of rows c q
-      index-same c q = elim (is_of page.place q) as (λ b. is_of page.place q ≡ b → cond b (has_in page.index c q) (numbers_of rows c q) ≡ numbers_of rows c q) [
-        | true ↦ λ t. e c q t
-        | false ↦ λ t. refl
-      ] refl
 
-pub nothing-copied : (old new : Before) (rows : Rows) → new.pages ≡ old.pages → new.olds ≡ old.olds → new.indexes ≡ old.indexes → StandsForSame old new rows
-nothing-copied old new rows pages olds indexes =
-    let base : with_pages new.pages rows ≡ with_pages old.pages rows = ap (λ ps. with_pages ps rows) pages in
-    let back : restored new rows ≡ restored old rows = ap₂ undone olds base in
-    record {
-      restored_same = back;
-      saved_same = λ h. record {
-        same = λ c q. ap (λ ps. restored_numbers ps (numbers_of rows) c q) indexes ∙ h.same c q ∙ ap (λ (r : Rows). numbers_of r c q) (sym back);
-        there = subst (λ (r : Rows). AreThere new.olds r) (sym base) (subst (λ os. AreThere os (with_pages old.pages rows)) (sym olds) h.there);
-      };
-    }
+  -- a part of an index that has the numbers of the rows that are there
+  pub part-copied : (part : IndexPart) → ((c : ℕ) (q : RowKey) → is_of part.place q ≡ true → has_in part.index c q ≡ numbers_of rows c q) → new.pages ≡ old.pages → new.olds ≡ old.olds → new.indexes ≡ old.indexes ++ part ∷ [] → new.added ≡ old.added → StandsForSame old new rows
+  part-copied part e pages olds indexes added = numbers-saved pages olds (λ c q. part-more old new part (numbers_of rows) e indexes added c q)
+
+  -- a number of a key that has none, of a part that isn't saved
+  pub number-noted : (number : AddedNumber) (n : ℕ) → ((c : ℕ) → numbers_of rows c number.key ≡ false) → is_of n number.key ≡ true → has_place old.indexes n ≡ false → new.pages ≡ old.pages → new.olds ≡ old.olds → new.indexes ≡ old.indexes → new.added ≡ old.added ++ number ∷ [] → StandsForSame old new rows
+  number-noted number n none part lacking pages olds indexes added = numbers-saved pages olds (λ c q. number-more old new number n (numbers_of rows) none part lacking indexes added c q)
+
+  pub nothing-copied : new.pages ≡ old.pages → new.olds ≡ old.olds → new.indexes ≡ old.indexes → new.added ≡ old.added → StandsForSame old new rows
+  nothing-copied pages olds indexes added = numbers-saved pages olds (λ c q. numbers-same old new (numbers_of rows) indexes added c q)
 
 pub stands-both : (a b c : Before) (rows : Rows) → StandsForSame a b rows → StandsForSame b c rows → StandsForSame a c rows
 stands-both a b c rows first second = record { restored_same = second.restored_same ∙ first.restored_same; saved_same = λ h. second.saved_same (first.saved_same h) }
@@ -258,30 +214,6 @@ row-there before new row key e is =
 
 pub page-instead : (before new : Before) (key : RowKey) → has_leaf before.pages (leaf key) ≡ true → new.pages ≡ before.pages → (has_leaf new.pages (leaf key) || has_old new.olds key) ≡ true
 page-instead before new key h e = or-first (has_leaf new.pages (leaf key)) (has_old new.olds key) (ap (λ ps. has_leaf ps (leaf key)) e ∙ h)
-
--- what is known of the place of a key's index page
-abbrev pub IsPlaceOf : RowKey → Option ℕ → Type 0
-IsPlaceOf key None = (c : ℕ) (o : Owner) → owns c key o ≡ false
-IsPlaceOf key (Some n) = is_of n key ≡ true
-
-pub place-of : (key : RowKey) (place : Option ℕ) → IfSome place (λ n. is_of n key ≡ true) → IfNone place ((c : ℕ) (o : Owner) → owns c key o ≡ false) → IsPlaceOf key place
-place-of key None some none = none
-place-of key (Some n) some none = some
-
--- the index page, copied now or before
-pub numbers-copied : (pages new : List IndexPage) (numbers : Numbers) (key : RowKey) (place : Option ℕ) (page : IndexPage) → IsPlaceOf key place → IsLackingIndex pages numbers place (Some page) → new ≡ pages ++ page ∷ [] → HasNumbers new key
-numbers-copied pages new numbers key None page at h is = inl at
-numbers-copied pages new numbers key (Some n) page at h is =
-    inr (n, at, ap (λ ps. has_place ps n) is ∙ place-push pages page n ∙ or-first (eqb n page.place) (has_place pages n) (eq-eqb n page.place (sym h.0)))
-
-pub numbers-there : (pages new : List IndexPage) (numbers : Numbers) (key : RowKey) (place : Option ℕ) → IsPlaceOf key place → IsLackingIndex pages numbers place None → new ≡ pages → HasNumbers new key
-numbers-there pages new numbers key None at h is = inl at
-numbers-there pages new numbers key (Some n) at h is = inr (n, at, ap (λ ps. has_place ps n) is ∙ h)
-
--- the numbers of a copy are those of the rows
-pub copy-has : (pages : List IndexPage) (numbers : Numbers) (rows : Rows) (place : Option ℕ) (page : IndexPage) → ((c : ℕ) (q : RowKey) → numbers c q ≡ numbers_of rows c q) → IsLackingIndex pages numbers place (Some page) → (c : ℕ) (q : RowKey) → is_of page.place q ≡ true → has_in page.index c q ≡ numbers_of rows c q
-copy-has pages numbers rows None page e h c q t = let no : Some page ≡ None = h in cc
-copy-has pages numbers rows (Some n) page e h c q t = h.1 c q (ap (λ m. is_of m q) (sym h.0) ∙ t) ∙ e c q
 
 -- ---- rows that change at a key, or on a leaf, that is saved
 abbrev AgreeOff : ℕ → Rows → Rows → Type 0
@@ -379,17 +311,8 @@ more-put rows key row q t = ap is_some (get-changed row_key_cmp_total exact_keys
     chosen true o e = refl
     chosen false o e = e
 
-numbers-kept : (pages : List IndexPage) (n : ℕ) (a b : Numbers) (c : ℕ) (q : RowKey) → has_place pages n ≡ true → is_of n q ≡ true → restored_numbers pages a c q ≡ restored_numbers pages b c q
-numbers-kept [] n a b c q has here = let no : false ≡ true = has in cc
-numbers-kept (p ∷ pages) n a b c q has here = elim (cases_Bool (eqb n p.place)) [
-  | inl t ↦
-      let e : is_of p.place q ≡ true = ap (λ m. is_of m q) (sym (eqb-true n p.place t)) ∙ here in
-      ap (λ x. cond x (has_in p.index c q) (restored_numbers pages a c q)) e ∙ sym (ap (λ x. cond x (has_in p.index c q) (restored_numbers pages b c q)) e)
-  | inr f ↦ ap (cond (is_of p.place q) (has_in p.index c q)) (numbers-kept pages n a b c q (sym (ap (λ x. x || has_place pages n) f) ∙ has) here)
-]
-
 -- a change at a key for which all is saved
-module _ (before : Before) (rows : Rows) (key : RowKey) (row : Option Row) (h : HasBefore before key row) where
+module _ (before : Before) (rows : Rows) (key : RowKey) (row : Option Row) (h : HasBefore before rows key row) where
   agree-leaf : AgreeOff (leaf key) (changed rows key row) rows
   agree-leaf q e = get-changed row_key_cmp_total exact_keys rows key row q ∙ ap (λ b. cond b row (get rows q)) (other_leaf q key e)
 
@@ -416,16 +339,18 @@ module _ (before : Before) (rows : Rows) (key : RowKey) (row : Option Row) (h : 
     | inr f ↦ row-back f (old-of row h.rows f)
   ]
 
-  at-key : (c : ℕ) → HasNumbers before.indexes key → restored_numbers before.indexes (numbers_of (changed rows key row)) c key ≡ restored_numbers before.indexes (numbers_of rows) c key
-  at-key c (inl none) = numbers-alike before.indexes (numbers_of (changed rows key row)) (numbers_of rows) c key (none c (owner_at (get (changed rows key row) key)) ∙ sym (none c (owner_at (get rows key))))
-  at-key c (inr there) = numbers-kept before.indexes there.0 (numbers_of (changed rows key row)) (numbers_of rows) c key there.2 there.1
+  -- whose the key's number is afterwards
+  now : owner_at (get (changed rows key row) key) ≡ owner_at row
+  now = ap owner_at (get-changed row_key_cmp_total exact_keys rows key row key ∙ ap (λ b. cond b row (get rows key)) (itself key))
 
-  numbers-changed : (c : ℕ) (q : RowKey) → restored_numbers before.indexes (numbers_of (changed rows key row)) c q ≡ restored_numbers before.indexes (numbers_of rows) c q
+  numbers-changed : (c : ℕ) (q : RowKey) → restored_numbers before (numbers_of (changed rows key row)) c q ≡ restored_numbers before (numbers_of rows) c q
   numbers-changed c q = elim (cases_Bool (eq_by_cmp row_key_cmp q key)) [
     | inl t ↦
         let e : q ≡ key = exact_keys q key (tied _ t) in
-        ap (λ k. restored_numbers before.indexes (numbers_of (changed rows key row)) c k) e ∙ at-key c h.numbers ∙ ap (λ k. restored_numbers before.indexes (numbers_of rows) c k) (sym e)
-    | inr f ↦ numbers-alike before.indexes (numbers_of (changed rows key row)) (numbers_of rows) c q (ap (λ o. owns c q (owner_at o)) (get-changed row_key_cmp_total exact_keys rows key row q ∙ ap (λ b. cond b row (get rows q)) f))
+        ap (λ k. restored_numbers before (numbers_of (changed rows key row)) c k) e
+        ∙ numbers-kept before (numbers_of (changed rows key row)) (numbers_of rows) key (owner_at (get rows key)) (owner_at row) (λ b. ap (owns b key) now) (λ b. refl) h.numbers c
+        ∙ ap (λ k. restored_numbers before (numbers_of rows) c k) (sym e)
+    | inr f ↦ numbers-alike before (numbers_of (changed rows key row)) (numbers_of rows) c q (ap (λ o. owns c q (owner_at o)) (get-changed row_key_cmp_total exact_keys rows key row q ∙ ap (λ b. cond b row (get rows q)) f))
   ]
 
   there-put : (r : Option Row) → r ≡ row → HasRow before key r → has_leaf before.pages (leaf key) ≡ false → AreThere before.olds (with_pages before.pages rows) → AreThere before.olds (with_pages before.pages (changed rows key row))
@@ -459,5 +384,5 @@ there-rest [] old rows h = tt
 there-rest (o ∷ olds) old rows h = (subst (λ (r : Rows). IsThere o.key o.row r) (undone-push olds old rows) h.0, there-rest olds old rows h.1)
 
 -- all of it moved back
-pub moved-back : (before : Before) (then rows : Rows) (old new : Numbers) → ((c : ℕ) (q : RowKey) → old c q ≡ numbers_of then c q) → IsSavedOf before then → rows ≡ restored before then → ((c : ℕ) (q : RowKey) → new c q ≡ restored_numbers before.indexes old c q) → (c : ℕ) (q : RowKey) → new c q ≡ numbers_of rows c q
-moved-back before then rows old new h kept is e c q = e c q ∙ numbers-alike before.indexes old (numbers_of then) c q (h c q) ∙ kept.same c q ∙ ap (λ (r : Rows). numbers_of r c q) (sym is)
+pub moved-back : (before : Before) (then rows : Rows) (old new : Numbers) → ((c : ℕ) (q : RowKey) → old c q ≡ numbers_of then c q) → IsSavedOf before then → rows ≡ restored before then → ((c : ℕ) (q : RowKey) → new c q ≡ restored_numbers before old c q) → (c : ℕ) (q : RowKey) → new c q ≡ numbers_of rows c q
+moved-back before then rows old new h kept is e c q = e c q ∙ numbers-alike before old (numbers_of then) c q (h c q) ∙ kept.same c q ∙ ap (λ (r : Rows). numbers_of r c q) (sym is)

@@ -1,5 +1,6 @@
 -- What is saved of rows and of indexes, and the rows and numbers as they are once it is moved back.
-use Rattle.std.specs.Prelude.{◌≡◌, ℕ, Bool, true, false, not, cond, eqb, is_some, ◌⊎◌, ◌||◌, ⊤, List, [], ◌∷◌, ◌++◌, Option, Some, None}
+use Rattle.std.specs.Prelude.{◌≡◌, ℕ, Bool, true, false, not, cond, eqb, is_some, ◌⊎◌, ◌&&◌, ◌||◌, ⊤, List, [], ◌∷◌, ◌++◌, Option, Some, None}
+use Rattle.std.specs.BTreeMap.{is_at}
 use Rattle.std.specs.FinMap as map
 use Rattle.std.specs.List.{list_any}
 use Rattle.std.specs.Ordering.{eq_by_cmp}
@@ -13,8 +14,9 @@ use Rattle.indexes.specs.Indexed.{has_in}
 use Rattle.indexes.specs.Owners.{owner_at, owns}
 use Rattle.indexes.specs.Places.{is_of}
 use Rattle.pages.specs.BitSets.{has_bit}
+use Rattle.pages.specs.declared.kept.AddedNumber.{AddedNumber}
 use Rattle.pages.specs.declared.kept.LeafPage.{LeafPage}
-use Rattle.pages.specs.declared.kept.IndexPage.{IndexPage}
+use Rattle.pages.specs.declared.kept.IndexPart.{IndexPart}
 use Rattle.pages.specs.declared.kept.OldRow.{OldRow}
 
 -- whether a key's number is in the indexes: that of an order, whether as one of customer c's
@@ -39,18 +41,32 @@ abbrev pub undone : List OldRow → Rows → Rows
 undone [] rows = rows
 undone (old ∷ olds) rows = changed (undone olds rows) old.key old.row
 
-abbrev pub with_index : IndexPage → Numbers → Numbers
-with_index page numbers c q = cond (is_of page.place q) (has_in page.index c q) (numbers c q)
+abbrev pub with_part : IndexPart → Numbers → Numbers
+with_part part numbers c q = cond (is_of part.place q) (has_in part.index c q) (numbers c q)
 
-abbrev pub restored_numbers : List IndexPage → Numbers → Numbers
-restored_numbers [] numbers c q = numbers c q
-restored_numbers (page ∷ pages) numbers c q = with_index page (restored_numbers pages numbers) c q
+-- the numbers once the parts of indexes are moved back, the one that was saved last first
+abbrev pub with_parts : List IndexPart → Numbers → Numbers
+with_parts [] numbers c q = numbers c q
+with_parts (part ∷ parts) numbers c q = with_part part (with_parts parts numbers) c q
 
--- what is saved: whole pages, rows of other leaves one by one, and index pages
+-- whether it is the key's number, as one of the owner's
+abbrev pub is_number : AddedNumber → ℕ → RowKey → Bool
+is_number added c q = owns c q added.owner && is_at (row_key_cmp added.key) q
+
+-- whether the key's number is among those that were added: that of an order, whether as one of customer c's
+abbrev pub is_added : List AddedNumber → ℕ → RowKey → Bool
+is_added added c q = list_any (λ a. is_number a c q) added
+
+-- what is saved: whole pages, rows of other leaves one by one, parts of indexes, and numbers that were added to other parts
 pub record Before : Type 0 where
   pub pages : List LeafPage
   pub olds : List OldRow
-  pub indexes : List IndexPage
+  pub indexes : List IndexPart
+  pub added : List AddedNumber
+
+-- the numbers as they were: the parts are moved back, and then what was added is taken out, in any order
+abbrev pub restored_numbers : Before → Numbers → Numbers
+restored_numbers before numbers c q = cond (is_added before.added c q) false (with_parts before.indexes numbers c q)
 
 -- the rows as they were: the pages are moved back, and then the rows
 abbrev pub restored : Before → Rows → Rows
@@ -65,9 +81,9 @@ abbrev pub AreThere : List OldRow → Rows → Type 0
 AreThere [] rows = ⊤
 AreThere (old ∷ olds) rows = IsThere old.key old.row (undone olds rows) × AreThere olds rows
 
--- the saved index pages have the numbers of the rows that come back, each of which has a place
+-- the numbers that come back are those of the rows that come back, each of which has a place
 pub record IsSavedOf (before : Before) (rows : Rows) : Type 0 where
-  pub same : (c : ℕ) (q : RowKey) → restored_numbers before.indexes (numbers_of rows) c q ≡ numbers_of (restored before rows) c q
+  pub same : (c : ℕ) (q : RowKey) → restored_numbers before (numbers_of rows) c q ≡ numbers_of (restored before rows) c q
   pub there : AreThere before.olds (with_pages before.pages rows)
 
 -- what is saved now stands for the rows that it stood for
@@ -82,32 +98,38 @@ has_leaf pages n = list_any (λ page. eqb n page.leaf) pages
 abbrev pub has_old : List OldRow → RowKey → Bool
 has_old olds key = list_any (λ old. eq_by_cmp row_key_cmp key old.key) olds
 
-abbrev pub has_place : List IndexPage → ℕ → Bool
-has_place pages n = list_any (λ page. eqb n page.place) pages
+abbrev pub has_place : List IndexPart → ℕ → Bool
+has_place parts n = list_any (λ part. eqb n part.place) parts
 
 -- whether the page of a leaf is saved, or a row of it
+abbrev pub is_touched : List LeafPage → List OldRow → ℕ → Bool
+is_touched pages olds n = has_leaf pages n || list_any (λ old. eqb n (leaf old.key)) olds
+
 abbrev pub has_of_leaf : Before → ℕ → Bool
-has_of_leaf before n = has_leaf before.pages n || list_any (λ old. eqb n (leaf old.key)) before.olds
+has_of_leaf before n = is_touched before.pages before.olds n
 
--- the leaves whose pages are saved, the places whose index pages are, and the leaves of which anything is: a bit each
-pub record AreMarks (before : Before) (leaves places touched : List ℕ) : Type 0 where
-  pub leaf_marks : (n : ℕ) → has_bit leaves n ≡ has_leaf before.pages n
-  pub place_marks : (n : ℕ) → has_bit places n ≡ has_place before.indexes n
-  pub touched_marks : (n : ℕ) → has_bit touched n ≡ has_of_leaf before n
+-- the leaves whose pages are saved, the places whose parts of indexes are, and the leaves of which anything is: a bit each
+pub record AreMarks (pages : List LeafPage) (olds : List OldRow) (indexes : List IndexPart) (leaves places touched : List ℕ) : Type 0 where
+  pub leaf_marks : (n : ℕ) → has_bit leaves n ≡ has_leaf pages n
+  pub place_marks : (n : ℕ) → has_bit places n ≡ has_place indexes n
+  pub touched_marks : (n : ℕ) → has_bit touched n ≡ is_touched pages olds n
 
--- the index page that has the key's number is saved, where there is one
-abbrev pub HasNumbers : List IndexPage → RowKey → Type 0
-HasNumbers pages key = ((c : ℕ) (o : Owner) → owns c key o ≡ false) ⊎ ((n : ℕ) × (is_of n key ≡ true) × (has_place pages n ≡ true))
+-- what changes where the key's number was the one owner's and is the other's is saved: the part of the index that has it, or
+-- each number that only one of them has, as one that was added
+abbrev pub HasNumbers : Before → RowKey → Owner → Owner → Type 0
+HasNumbers before key was owner =
+    ((n : ℕ) × (is_of n key ≡ true) × (has_place before.indexes n ≡ true))
+    ⊎ ((c : ℕ) → (owns c key was ≡ owns c key owner) ⊎ (is_added before.added c key ≡ true))
 
 -- what the key has is saved, with the whole page of its leaf where it has no row from then on
 abbrev pub HasRow : Before → RowKey → Option Row → Type 0
 HasRow before key None = has_leaf before.pages (leaf key) ≡ true
 HasRow before key (Some row) = (has_leaf before.pages (leaf key) || has_old before.olds key) ≡ true
 
--- what a change of the key to this row, or to none, alters is saved
-pub record HasBefore (before : Before) (key : RowKey) (row : Option Row) : Type 0 where
+-- what a change of the key of these rows to this row, or to none, alters is saved
+pub record HasBefore (before : Before) (present : Rows) (key : RowKey) (row : Option Row) : Type 0 where
   pub rows : HasRow before key row
-  pub numbers : HasNumbers before.indexes key
+  pub numbers : HasNumbers before key (owner_at (map.get present key)) (owner_at row)
 
 -- ---- copies
 -- a copy of what the key has, or none where the page of its leaf is saved
@@ -119,12 +141,3 @@ IsLackingRow before rows key (Some old) = (old.key ≡ key) × (old.row ≡ map.
 abbrev pub IsLacking : List LeafPage → Rows → ℕ → Option LeafPage → Type 0
 IsLacking pages rows n None = has_leaf pages n ≡ true
 IsLacking pages rows n (Some page) = (page.leaf ≡ n) × (page.rows ≡ page_rows rows n)
-
--- a copy of the index page at place n, or none where it is saved
-abbrev pub IsLackingAt : List IndexPage → Numbers → ℕ → Option IndexPage → Type 0
-IsLackingAt pages numbers n None = has_place pages n ≡ true
-IsLackingAt pages numbers n (Some page) = (page.place ≡ n) × ((c : ℕ) (q : RowKey) → is_of n q ≡ true → has_in page.index c q ≡ numbers c q)
-
-abbrev pub IsLackingIndex : List IndexPage → Numbers → Option ℕ → Option IndexPage → Type 0
-IsLackingIndex pages numbers None index = index ≡ None
-IsLackingIndex pages numbers (Some n) index = IsLackingAt pages numbers n index

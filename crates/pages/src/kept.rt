@@ -1,11 +1,11 @@
-//! Copies of pages and of rows.
+//! What is kept of pages, rows and indexes.
 ghost use Rattle.std.specs.Prelude.{◌≡◌, ◌<◌, true};
 ghost use Rattle.indexes.specs.declared.place.TheConstants.{PLACES};
 ghost use Rattle.pages.specs.Paged.{AreOfLeaf};
 ghost use Rattle.tpcc_rows.specs.Changing.{new_row_fits};
 ghost use Rattle.tpcc_rows.specs.declared.codes.TheConstants.{LEAVES};
 
-use indexes::DistrictIndex;
+use indexes::{DistrictIndex, Owner};
 use leaf_rows::LeafRows;
 use tpcc_rows::key::RowKey;
 use tpcc_rows::row::Row;
@@ -27,10 +27,17 @@ pub(crate) struct LeafPage {
     ghost fits: { AreOfLeaf leaf rows },
 }
 
-/// The index page at a place, as it was.
+/// The part of an index at a place, as it was.
 #[derive(Drop)]
-pub(crate) struct IndexPage {
+pub(crate) struct IndexPart {
     pub(crate) place: usize,
     pub(crate) index: DistrictIndex,
     ghost small: { place < PLACES },
+}
+
+/// A number that was added for a key that had none.
+#[derive(Drop)]
+pub(crate) struct AddedNumber {
+    pub(crate) key: RowKey,
+    pub(crate) owner: Owner,
 }

@@ -2,14 +2,16 @@
 ghost use Rattle.std.specs.Prelude.{◌≡◌, ◌<◌, ◌++◌, ◌∷◌, [], OnOk, OnErr};
 ghost use Rattle.indexes.specs.declared.place.TheConstants.{PLACES};
 ghost use Rattle.tpcc_rows.specs.declared.codes.TheConstants.{LEAVES};
-ghost use Rattle.pages.specs.Saving.{AreMarks, Before, has_leaf, has_of_leaf, has_place};
+ghost use Rattle.pages.specs.Saving.{AreMarks, has_leaf, has_place};
 
 use crate::bits::{Bits, WORD_BITS};
-use crate::kept::{IndexPage, LeafPage, OldRow};
+use crate::kept::{AddedNumber, IndexPart, LeafPage, OldRow};
+use indexes::Owner;
 use indexes::place::PLACES;
 use std::alloc::Global;
 use std::default::MadeWith;
 use tpcc_rows::codes::{LEAVES, leaf};
+use tpcc_rows::key::RowKey;
 use tpcc_rows::memory::Memory;
 
 /// A bit for each leaf.
@@ -20,29 +22,36 @@ const PLACE_WORDS: usize = PLACES / WORD_BITS + 1;
 
 /// What has changed since rows were as they are to be again: what each key had that was put, and where a row was removed, the
 /// whole page of its leaf, since a row that comes back to a page may need memory; then no row of that leaf is noted any more.
-/// Index pages are copied whole.
+/// A number that was added to an index for a key that had none is noted too; the part of the index that another change alters is
+/// copied whole, and then no number of that part is noted any more.
 #[derive(Drop)]
 pub struct Saved {
     pages: Vec<LeafPage>,
     olds: Vec<OldRow>,
-    indexes: Vec<IndexPage>,
+    indexes: Vec<IndexPart>,
+    added: Vec<AddedNumber>,
     leaves: Bits<LEAF_WORDS>,
     places: Bits<PLACE_WORDS>,
     touched: Bits<LEAF_WORDS>,
-    ghost marked: { AreMarks (record { pages = pages.items; olds = olds.items; indexes = indexes.items }) leaves.words places.words touched.words },
+    ghost marked: { AreMarks pages.items olds.items indexes.items leaves.words places.words touched.words },
 }
 
 impl Saved {
+    ghost use Rattle.pages.specs.Points.{before_of};
+    ghost use Rattle.pages.specs.Saving.{has_of_leaf};
+
     /// Nothing.
     pub fn new(alloc: Global) -> Saved
         ensures pages { result.pages.items ≡ [] }
         ensures olds { result.olds.items ≡ [] }
         ensures indexes { result.indexes.items ≡ [] }
+        ensures added { result.added.items ≡ [] }
     {
         Saved {
             pages: Vec::new(alloc),
             olds: Vec::new(alloc),
             indexes: Vec::new(alloc),
+            added: Vec::new(alloc),
             leaves: Bits::new(),
             places: Bits::new(),
             touched: Bits::new(),
@@ -57,7 +66,7 @@ impl Saved {
         self.leaves.has(leaf)
     }
 
-    /// Whether the index page at the place is here.
+    /// Whether the part of an index at the place is here.
     pub(crate) fn has_place(&self, place: usize) -> bool
         requires { place < PLACES }
         ensures { result ≡ has_place self.now.indexes.items place }
@@ -68,7 +77,7 @@ impl Saved {
     /// Whether the page of the leaf or a row of it is here.
     pub fn has_of_leaf(&self, leaf: usize) -> bool
         requires { leaf < LEAVES }
-        ensures { result ≡ has_of_leaf (record { pages = self.now.pages.items; olds = self.now.olds.items; indexes = self.now.indexes.items }) leaf }
+        ensures { result ≡ has_of_leaf (before_of self.now) leaf }
     {
         self.touched.has(leaf)
     }
@@ -79,6 +88,7 @@ impl Saved {
         ensures err { OnErr result (self.new.pages.items ≡ self.old.pages.items) }
         ensures olds { self.new.olds.items ≡ self.old.olds.items }
         ensures indexes { self.new.indexes.items ≡ self.old.indexes.items }
+        ensures added { self.new.added.items ≡ self.old.added.items }
     {
         let leaf = page.leaf;
         self.pages.push(page)?;
@@ -93,6 +103,7 @@ impl Saved {
         ensures err { OnErr result (self.new.olds.items ≡ self.old.olds.items) }
         ensures pages { self.new.pages.items ≡ self.old.pages.items }
         ensures indexes { self.new.indexes.items ≡ self.old.indexes.items }
+        ensures added { self.new.added.items ≡ self.old.added.items }
     {
         let leaf = leaf(&old.key);
         self.olds.push(old)?;
@@ -100,26 +111,40 @@ impl Saved {
         Ok(())
     }
 
-    /// This index page too is here from now on.
-    pub(crate) fn keep_index(&mut self, page: IndexPage) -> Result<(), Memory>
-        ensures ok { OnOk result (self.new.indexes.items ≡ self.old.indexes.items ++ page ∷ []) }
+    /// This part of an index too is here from now on.
+    pub(crate) fn keep_index(&mut self, part: IndexPart) -> Result<(), Memory>
+        ensures ok { OnOk result (self.new.indexes.items ≡ self.old.indexes.items ++ part ∷ []) }
         ensures err { OnErr result (self.new.indexes.items ≡ self.old.indexes.items) }
         ensures pages { self.new.pages.items ≡ self.old.pages.items }
         ensures olds { self.new.olds.items ≡ self.old.olds.items }
+        ensures added { self.new.added.items ≡ self.old.added.items }
     {
-        let place = page.place;
-        self.indexes.push(page)?;
+        let place = part.place;
+        self.indexes.push(part)?;
         self.places.add(place);
         Ok(())
     }
 
+    /// The key's number too is here from now on, as one of the owner's that was added.
+    pub(crate) fn keep_added(&mut self, key: RowKey, owner: Owner) -> Result<(), Memory>
+        ensures ok { OnOk result (self.new.added.items ≡ self.old.added.items ++ (record { key = key; owner = owner }) ∷ []) }
+        ensures err { OnErr result (self.new.added.items ≡ self.old.added.items) }
+        ensures pages { self.new.pages.items ≡ self.old.pages.items }
+        ensures olds { self.new.olds.items ≡ self.old.olds.items }
+        ensures indexes { self.new.indexes.items ≡ self.old.indexes.items }
+    {
+        self.added.push(AddedNumber { key, owner })?;
+        Ok(())
+    }
+
     /// All of it, given away.
-    pub(crate) fn into_parts(self) -> (Vec<LeafPage>, Vec<OldRow>, Vec<IndexPage>)
+    pub(crate) fn into_parts(self) -> (Vec<LeafPage>, Vec<OldRow>, Vec<IndexPart>, Vec<AddedNumber>)
         ensures pages { result.0.items ≡ self.pages.items }
         ensures olds { result.1.items ≡ self.olds.items }
         ensures indexes { result.2.items ≡ self.indexes.items }
+        ensures added { result.3.items ≡ self.added.items }
     {
-        (self.pages, self.olds, self.indexes)
+        (self.pages, self.olds, self.indexes, self.added)
     }
 }
 

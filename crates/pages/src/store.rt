@@ -1,5 +1,5 @@
 //! Rows by leaf, and the indexes of the orders' numbers.
-ghost use Rattle.std.specs.Prelude.{◌≡◌, ◌<◌, ◌||◌, ℕ, IfNone, IfOk, IfSome, OnOk, OnErr, false, length, option_copied, true};
+ghost use Rattle.std.specs.Prelude.{◌≡◌, ◌<◌, ◌||◌, ℕ, IfNone, IfOk, IfSome, OnOk, OnErr, cond, false, length, option_copied, true};
 ghost use Rattle.std.specs.BTreeSet.{contains};
 ghost use Rattle.std.specs.FinMap as map;
 ghost use Rattle.std.specs.Ordering.{nat_cmp};
@@ -7,9 +7,10 @@ ghost use Rattle.indexes.specs.declared.place.TheConstants.{PLACES};
 ghost use Rattle.indexes.specs.Indexed.{AreOf, has};
 ghost use Rattle.indexes.specs.Owners.{owner_at};
 ghost use Rattle.indexes.specs.Numbers.{is_customer_number, is_new_number};
+ghost use Rattle.indexes.specs.Places.{is_of};
 ghost use Rattle.pages.specs.Points.{before_of};
-ghost use Rattle.pages.specs.Saving.{AreThere, HasBefore, HasNumbers, IsLacking, IsLackingIndex, IsLackingRow, IsSavedOf, StandsForSame, has_leaf, has_old};
-ghost use Rattle.pages.specs.Saving.{restored, restored_numbers, undone, with_pages};
+ghost use Rattle.pages.specs.Saving.{AreThere, HasBefore, HasNumbers, IsLacking, IsLackingRow, IsSavedOf, StandsForSame, has_leaf, has_old, has_place};
+ghost use Rattle.pages.specs.Saving.{is_added, restored, undone, with_pages, with_parts};
 ghost use Rattle.tpcc_rows.specs.declared.key.RowKey.{RowKey};
 ghost use Rattle.tpcc_rows.specs.declared.codes.TheConstants.{LEAVES};
 ghost use Rattle.tpcc_rows.specs.Leaves.{leaf, page_rows};
@@ -17,7 +18,7 @@ ghost use Rattle.tpcc_rows.specs.Picks.{latest, oldest};
 ghost use Rattle.tpcc_rows.specs.RowKinds.{fits};
 ghost use Rattle.tpcc_rows.specs.Rows.{customer_row, district_row, warehouse_row};
 
-use crate::kept::{IndexPage, LeafPage, OldRow};
+use crate::kept::{AddedNumber, IndexPart, LeafPage, OldRow};
 use crate::leaf_pages::Pages;
 use crate::saved::Saved;
 use indexes::Indexes;
@@ -55,14 +56,21 @@ impl Model for RowStore {
     ghost invariant = { λ s. AreOf s.pages s.indexes };
 }
 
+/// Whose the number of the row is: nobody's where there is none.
+fn owner_of_any(row: Option<&Row>) -> Owner
+    ensures { result ≡ owner_at (option_copied row.entry) }
+{
+    match row {
+        Some(row) => owner_of(row),
+        None => Owner::Nobody,
+    }
+}
+
 /// Whose the number of the key's row is.
 fn owner_at(pages: &Pages, key: &RowKey) -> Owner
     ensures { result ≡ owner_at (map.get pages.now key.now) }
 {
-    match pages.get(key) {
-        Some(row) => owner_of(row),
-        None => Owner::Nobody,
-    }
+    owner_of_any(pages.get(key))
 }
 
 /// The indexes of the rows on the pages.
@@ -102,25 +110,6 @@ fn lacking_page(pages: &Pages, leaf: usize, saved: &Saved) -> Result<Option<Leaf
     Ok(Some(LeafPage { leaf, rows }))
 }
 
-/// A copy of the index page at the place, where it isn't saved.
-fn lacking_index(
-    indexes: &Indexes,
-    place: Option<usize>,
-    saved: &Saved,
-) -> Result<Option<IndexPage>, Memory>
-    requires { IfSome place (λ n. n < PLACES) }
-    ensures { IfOk result (IsLackingIndex saved.now.indexes.items (has indexes.now) place) }
-{
-    let Some(place) = place else {
-        return Ok(None);
-    };
-    if saved.has_place(place) {
-        return Ok(None);
-    }
-    let index = indexes.page(place).copied()?;
-    Ok(Some(IndexPage { place, index }))
-}
-
 /// The pages are their leaves' from now on, the one that was saved first in place of later ones.
 fn put_pages_back(pages: &mut Pages, mut saved: Vec<LeafPage>)
     ensures { pages.new ≡ with_pages saved.items pages.old }
@@ -140,12 +129,21 @@ fn undo_all(pages: &mut Pages, mut saved: Vec<OldRow>)
     }
 }
 
-/// The index pages are at their places from now on.
-fn put_indexes_back(indexes: &mut Indexes, mut saved: Vec<IndexPage>)
-    ensures { (c : ℕ) (q : RowKey) → has indexes.new c q ≡ restored_numbers saved.items (has indexes.old) c q }
+/// The parts of indexes are at their places from now on.
+fn put_indexes_back(indexes: &mut Indexes, mut saved: Vec<IndexPart>)
+    ensures { (c : ℕ) (q : RowKey) → has indexes.new c q ≡ with_parts saved.items (has indexes.old) c q }
 {
-    while let Some(page) = saved.pop() {
-        indexes.put_back(page.place, page.index);
+    while let Some(part) = saved.pop() {
+        indexes.put_back(part.place, part.index);
+    }
+}
+
+/// The numbers that were added are in no index from now on.
+fn take_added_out(indexes: &mut Indexes, mut saved: Vec<AddedNumber>)
+    ensures { (c : ℕ) (q : RowKey) → has indexes.new c q ≡ cond (is_added saved.items c q) false (has indexes.old c q) }
+{
+    while let Some(number) = saved.pop() {
+        indexes.take_out(&number.key, &number.owner);
     }
 }
 
@@ -221,15 +219,50 @@ impl RowStore {
         self.pages.remove(key)
     }
 
-    /// Copies the index page of the key's number, where it has one that isn't saved.
-    fn save_index(&self, key: &RowKey, saved: &mut Saved) -> Result<(), Memory>
-        ensures there { OnOk result (HasNumbers saved.new.indexes.items key.now) }
+    /// Notes the number that a change of the key to this row, or to none, adds where the key has none, or else copies the part of
+    /// the index at the place, which has the key's number and isn't saved.
+    fn save_part(
+        &self,
+        place: usize,
+        key: &RowKey,
+        new_row: Option<&Row>,
+        saved: &mut Saved,
+    ) -> Result<(), Memory>
+        requires small { place < PLACES }
+        requires part { is_of place key.now ≡ true }
+        requires lacking { has_place saved.old.indexes.items place ≡ false }
+        ensures there { OnOk result (HasNumbers (before_of saved.new) key.now (owner_at (map.get self.now key.now)) (owner_at (option_copied new_row.entry))) }
         ensures same { StandsForSame (before_of saved.old) (before_of saved.new) self.now }
     {
-        match lacking_index(&self.indexes, place_of(key), saved)? {
-            Some(page) => saved.keep_index(page),
-            None => Ok(()),
+        let was = owner_at(&self.pages, key);
+        let owner = owner_of_any(new_row);
+        if same_owner(&was, &owner) {
+            return Ok(());
         }
+        if is_nobody(&was) {
+            return saved.keep_added(*key, owner);
+        }
+        let index = self.indexes.copied(place)?;
+        saved.keep_index(IndexPart { place, index })
+    }
+
+    /// Saves what a change of the key to this row, or to none, alters of an index, where that is not saved.
+    fn save_numbers(
+        &self,
+        key: &RowKey,
+        new_row: Option<&Row>,
+        saved: &mut Saved,
+    ) -> Result<(), Memory>
+        ensures there { OnOk result (HasNumbers (before_of saved.new) key.now (owner_at (map.get self.now key.now)) (owner_at (option_copied new_row.entry))) }
+        ensures same { StandsForSame (before_of saved.old) (before_of saved.new) self.now }
+    {
+        let Some(place) = place_of(key) else {
+            return Ok(());
+        };
+        if saved.has_place(place) {
+            return Ok(());
+        }
+        self.save_part(place, key, new_row, saved)
     }
 
     /// Copies what the key has, where the page of its leaf isn't saved.
@@ -237,6 +270,7 @@ impl RowStore {
         ensures there { OnOk result ((has_leaf saved.new.pages.items (leaf key.now) || has_old saved.new.olds.items key.now) ≡ true) }
         ensures same { StandsForSame (before_of saved.old) (before_of saved.new) self.now }
         ensures indexes { saved.new.indexes.items ≡ saved.old.indexes.items }
+        ensures added { saved.new.added.items ≡ saved.old.added.items }
     {
         match lacking_row(&self.pages, key, saved)? {
             Some(old) => saved.keep_row(old),
@@ -250,6 +284,7 @@ impl RowStore {
         ensures there { OnOk result (has_leaf saved.new.pages.items leaf ≡ true) }
         ensures same { StandsForSame (before_of saved.old) (before_of saved.new) self.now }
         ensures indexes { saved.new.indexes.items ≡ saved.old.indexes.items }
+        ensures added { saved.new.added.items ≡ saved.old.added.items }
     {
         match lacking_page(&self.pages, leaf, saved)? {
             Some(page) => saved.keep_page(page),
@@ -259,10 +294,10 @@ impl RowStore {
 
     /// Copies what a change of the key to this row, or to none, alters into what is saved, where that lacks it.
     pub fn save(&self, key: &RowKey, new_row: Option<&Row>, saved: &mut Saved) -> Result<(), Memory>
-        ensures there { OnOk result (HasBefore (before_of saved.new) key.now (option_copied new_row.entry)) }
+        ensures there { OnOk result (HasBefore (before_of saved.new) self.now key.now (option_copied new_row.entry)) }
         ensures same { StandsForSame (before_of saved.old) (before_of saved.new) self.now }
     {
-        self.save_index(key, saved)?;
+        self.save_numbers(key, new_row, saved)?;
         match new_row {
             Some(_) => self.save_row(key, saved),
             None => self.save_page(leaf(key), saved),
@@ -274,10 +309,11 @@ impl RowStore {
         requires { IsSavedOf (before_of saved) self.old }
         ensures { self.new ≡ restored (before_of saved) self.old }
     {
-        let (pages, olds, indexes) = saved.into_parts();
+        let (pages, olds, indexes, added) = saved.into_parts();
         put_pages_back(&mut self.pages, pages);
         undo_all(&mut self.pages, olds);
         put_indexes_back(&mut self.indexes, indexes);
+        take_added_out(&mut self.indexes, added);
     }
 
     /// The rows of a leaf.

@@ -1,5 +1,5 @@
 -- What points stand for after a change, and after going back.
-use Rattle.std.proofs.Common.{◌≡◌, ℕ, zero, suc, ◌<◌, ◌≤◌, ◌+◌, Bool, true, false, ◌&&◌, ◌||◌, eqb, nat_lt, List, [], ◌∷◌, ◌++◌, length, get_or, set, take, drop, Option, Some, Result, Ok, Err, inl, inr, refl, sym, ap, subst, ◌∙◌, arith}
+use Rattle.std.proofs.Common.{◌≡◌, ℕ, zero, suc, ◌<◌, ◌≤◌, ◌+◌, Bool, true, false, ◌&&◌, ◌||◌, eqb, nat_lt, List, [], ◌∷◌, ◌++◌, length, get_or, set, take, drop, Option, Some, Result, Ok, Err, inl, inr, refl, sym, ap, ap₂, cond, subst, ◌∙◌, arith}
 use Rattle.std.proofs.lemmas.Bool.{cases_Bool, eqb-true, eq-eqb, lt-ltb, le-ltb, ltb-true, ltb-false}
 use Rattle.std.proofs.lemmas.List.{get_or-set_same, get_or-set_other, take-append-le, take_all}
 use Rattle.std.specs.List.{refill, slice_get}
@@ -11,19 +11,19 @@ use Rattle.tpcc_rows.specs.RowMap.{Rows}
 use Rattle.tpcc_rows.specs.Leaves.{page_rows}
 use Rattle.pages.specs.declared.saved.Saved.{Saved}
 use Rattle.pages.specs.Points.{before_of}
-use Rattle.pages.specs.Saving.{Before, AreThere, HasBefore, has_of_leaf, IsSavedOf, numbers_of, restored, restored_numbers, StandsForSame, undone, with_pages}
+use Rattle.pages.specs.Saving.{Before, AreThere, HasBefore, has_of_leaf, is_added, IsSavedOf, numbers_of, restored, StandsForSame, undone, with_pages, with_parts}
 use Rattle.pages.proofs.Restoring.{restored-changed, restored-page, saved-changed}
 use Rattle.rollback.specs.Marks.{is_dirty, HasAlsoSaved}
 use Rattle.rollback.specs.Pointed.{AreSaved, first_or, NewestHas, points_of}
 use Rattle.rollback.proofs.Marking.{or-left, or-right, page-past}
 
 -- ---- a change at a key for which the newest point has all
-pub points-changed : (ss : List Saved) (rows : Rows) (k : RowKey) (c : Option Row) → NewestHas ss k c → points_of ss (changed rows k c) ≡ points_of ss rows
+pub points-changed : (ss : List Saved) (rows : Rows) (k : RowKey) (c : Option Row) → NewestHas ss rows k c → points_of ss (changed rows k c) ≡ points_of ss rows
 points-changed [] rows k c h = refl
 points-changed (s ∷ []) rows k c h = ap (λ (r : Rows). r ∷ []) (restored-changed (before_of s) rows k c h)
 points-changed (s ∷ t ∷ ss) rows k c h = ap (λ (ps : List Rows). restored (before_of s) (first_or ps rows) ∷ ps) (points-changed (t ∷ ss) rows k c h)
 
-pub saved-points : (ss : List Saved) (rows : Rows) (k : RowKey) (c : Option Row) → NewestHas ss k c → AreSaved ss rows → AreSaved ss (changed rows k c)
+pub saved-points : (ss : List Saved) (rows : Rows) (k : RowKey) (c : Option Row) → NewestHas ss rows k c → AreSaved ss rows → AreSaved ss (changed rows k c)
 saved-points [] rows k c h a = a
 saved-points (s ∷ []) rows k c h a = (saved-changed (before_of s) rows k c h a.0, tt)
 saved-points (s ∷ t ∷ ss) rows k c h a = (subst (λ (ps : List Rows). IsSavedOf (before_of s) (first_or ps rows)) (sym (points-changed (t ∷ ss) rows k c h)) a.0, saved-points (t ∷ ss) rows k c h a.1)
@@ -43,15 +43,15 @@ saved-set (t ∷ u ∷ ss) s d rows zero e h a = absurd (omega arith)
 saved-set (t ∷ []) s d rows (suc n) e h a = absurd (omega arith)
 saved-set (t ∷ u ∷ ss) s d rows (suc n) e h a = (subst (λ (ps : List Rows). IsSavedOf (before_of t) (first_or ps rows)) (sym (points-set (u ∷ ss) s d rows n (omega arith) h)) a.0, saved-set (u ∷ ss) s d rows n (omega arith) h a.1)
 
-pub newest-set : (ss : List Saved) (s : Saved) (k : RowKey) (c : Option Row) (n : ℕ) → n + 1 ≡ length ss → HasBefore (before_of s) k c → NewestHas (set ss n s) k c
-newest-set [] s k c n e h = absurd (omega arith)
-newest-set (t ∷ []) s k c zero e h = h
-newest-set (t ∷ u ∷ ss) s k c zero e h = absurd (omega arith)
-newest-set (t ∷ []) s k c (suc n) e h = absurd (omega arith)
-newest-set (t ∷ u ∷ []) s k c (suc zero) e h = h
-newest-set (t ∷ u ∷ []) s k c (suc (suc n)) e h = absurd (omega arith)
-newest-set (t ∷ u ∷ v ∷ ss) s k c (suc zero) e h = absurd (omega arith)
-newest-set (t ∷ u ∷ v ∷ ss) s k c (suc (suc n)) e h = newest-set (u ∷ v ∷ ss) s k c (suc n) (omega arith) h
+pub newest-set : (ss : List Saved) (s : Saved) (rows : Rows) (k : RowKey) (c : Option Row) (n : ℕ) → n + 1 ≡ length ss → HasBefore (before_of s) rows k c → NewestHas (set ss n s) rows k c
+newest-set [] s rows k c n e h = absurd (omega arith)
+newest-set (t ∷ []) s rows k c zero e h = h
+newest-set (t ∷ u ∷ ss) s rows k c zero e h = absurd (omega arith)
+newest-set (t ∷ []) s rows k c (suc n) e h = absurd (omega arith)
+newest-set (t ∷ u ∷ []) s rows k c (suc zero) e h = h
+newest-set (t ∷ u ∷ []) s rows k c (suc (suc n)) e h = absurd (omega arith)
+newest-set (t ∷ u ∷ v ∷ ss) s rows k c (suc zero) e h = absurd (omega arith)
+newest-set (t ∷ u ∷ v ∷ ss) s rows k c (suc (suc n)) e h = newest-set (u ∷ v ∷ ss) s rows k c (suc n) (omega arith) h
 
 -- ---- one point more
 first-push : (ps : List Rows) (p rows : Rows) → first_or (ps ++ p ∷ []) rows ≡ first_or ps p
@@ -86,16 +86,16 @@ saved-pop (t ∷ ss) s rows a =
 nothing-back : (b : Before) (rows : Rows) → b.pages ≡ [] → b.olds ≡ [] → restored b rows ≡ rows
 nothing-back b rows pages olds = ap (λ os. undone os (with_pages b.pages rows)) olds ∙ ap (λ ps. with_pages ps rows) pages
 
-nothing-of : (b : Before) (rows : Rows) → b.pages ≡ [] → b.olds ≡ [] → b.indexes ≡ [] → IsSavedOf b rows
-nothing-of b rows pages olds indexes =
+nothing-of : (b : Before) (rows : Rows) → b.pages ≡ [] → b.olds ≡ [] → b.indexes ≡ [] → b.added ≡ [] → IsSavedOf b rows
+nothing-of b rows pages olds indexes added =
     let back : restored b rows ≡ rows = nothing-back b rows pages olds in
     record {
-      same = λ c q. ap (λ ps. restored_numbers ps (numbers_of rows) c q) indexes ∙ ap (λ (r : Rows). numbers_of r c q) (sym back);
+      same = λ c q. ap₂ (λ ps ns. cond (is_added ns c q) false (with_parts ps (numbers_of rows) c q)) indexes added ∙ ap (λ (r : Rows). numbers_of r c q) (sym back);
       there = subst (λ os. AreThere os (with_pages b.pages rows)) (sym olds) tt;
     }
 
-pub nothing-saved : (s : Saved) (rows : Rows) → s.pages.items ≡ [] → s.olds.items ≡ [] → s.indexes.items ≡ [] → IsSavedOf (before_of s) rows
-nothing-saved s rows pages olds indexes = nothing-of (before_of s) rows pages olds indexes
+pub nothing-saved : (s : Saved) (rows : Rows) → s.pages.items ≡ [] → s.olds.items ≡ [] → s.indexes.items ≡ [] → s.added.items ≡ [] → IsSavedOf (before_of s) rows
+nothing-saved s rows pages olds indexes added = nothing-of (before_of s) rows pages olds indexes added
 
 pub nothing-restored : (s : Saved) (rows : Rows) → s.pages.items ≡ [] → s.olds.items ≡ [] → restored (before_of s) rows ≡ rows
 nothing-restored s rows pages olds = nothing-back (before_of s) rows pages olds

@@ -34,13 +34,13 @@ abbrev pub points_of : List Saved → Rows → List Rows
 points_of [] rows = []
 points_of (s ∷ saved) rows = restored (before_of s) (first_or (points_of saved rows) rows) ∷ points_of saved rows
 
--- the index pages go with the rows, point by point
+-- the numbers in the indexes go with the rows, point by point
 abbrev pub AreSaved : List Saved → Rows → Type 0
 AreSaved [] rows = ⊤
 AreSaved (s ∷ saved) rows = IsSavedOf (before_of s) (first_or (points_of saved rows) rows) × AreSaved saved rows
 
--- the newest point, if there is one, has what a change of the key to this row, or to none, alters
-abbrev pub NewestHas : List Saved → RowKey → Option Row → Type 0
-NewestHas [] key row = ⊤
-NewestHas (s ∷ []) key row = HasBefore (before_of s) key row
-NewestHas (s ∷ t ∷ saved) key row = NewestHas (t ∷ saved) key row
+-- the newest point, if there is one, has what a change of the key of these rows to this row, or to none, alters
+abbrev pub NewestHas : List Saved → Rows → RowKey → Option Row → Type 0
+NewestHas [] rows key row = ⊤
+NewestHas (s ∷ []) rows key row = HasBefore (before_of s) rows key row
+NewestHas (s ∷ t ∷ saved) rows key row = NewestHas (t ∷ saved) rows key row

@@ -61,7 +61,7 @@ fn save_newest(
 ) -> Result<(), Memory>
     ensures points { points_of points.new store.now ≡ points_of points.old store.now }
     ensures saved { AreSaved points.old store.now → AreSaved points.new store.now }
-    ensures there { OnOk result (NewestHas points.new key.now (option_copied new_row.entry)) }
+    ensures there { OnOk result (NewestHas points.new store.now key.now (option_copied new_row.entry)) }
 {
     let len = points.len();
     if len == 0 {

@@ -10,4 +10,4 @@ pub returns-clause-saved : goal.returns-clause-saved
 returns-clause-saved c = let e : length c.args.points.now - 1 + 1 ≡ length c.args.points.now = omega arith in saved-set c.args.points.now c.save.new.saved c.index-points-len.result c.args.store.now _ e c.save.ensures.same
 
 pub returns-clause-there : goal.returns-clause-there
-returns-clause-there c = let e : length c.args.points.now - 1 + 1 ≡ length c.args.points.now = omega arith in on_ok_weaker c.save.result (λ h. newest-set c.args.points.now c.save.new.saved c.args.key.now _ _ e h) c.save.ensures.there
+returns-clause-there c = let e : length c.args.points.now - 1 + 1 ≡ length c.args.points.now = omega arith in on_ok_weaker c.save.result (λ h. newest-set c.args.points.now c.save.new.saved c.args.store.now c.args.key.now _ _ e h) c.save.ensures.there

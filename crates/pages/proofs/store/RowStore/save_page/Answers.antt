@@ -18,5 +18,5 @@ returns-in-Some-clause-same c =
     let new = before_of c.keep_page.new.self in
     let rows = c.args.self.now in
     either c.keep_page.result
-    (on_ok_weaker c.keep_page.result (λ e. page-copied old new rows c.in-Some.page ((lacking c).1 ∙ ap (page_rows rows) (sym (lacking c).0)) e c.keep_page.ensures.olds c.keep_page.ensures.indexes) c.keep_page.ensures.ok)
-    (on_err_weaker c.keep_page.result (λ e. nothing-copied old new rows e c.keep_page.ensures.olds c.keep_page.ensures.indexes) c.keep_page.ensures.err)
+    (on_ok_weaker c.keep_page.result (λ e. page-copied old new rows c.in-Some.page ((lacking c).1 ∙ ap (page_rows rows) (sym (lacking c).0)) e c.keep_page.ensures.olds c.keep_page.ensures.indexes c.keep_page.ensures.added) c.keep_page.ensures.ok)
+    (on_err_weaker c.keep_page.result (λ e. nothing-copied old new rows e c.keep_page.ensures.olds c.keep_page.ensures.indexes c.keep_page.ensures.added) c.keep_page.ensures.err)

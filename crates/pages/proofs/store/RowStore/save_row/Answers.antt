@@ -22,5 +22,5 @@ returns-in-Some-clause-same c =
     let new = before_of c.keep_row.new.self in
     let rows = c.args.self.now in
     either c.keep_row.result
-    (on_ok_weaker c.keep_row.result (λ e. row-copied old new rows c.in-Some.old ((lacking c).1 ∙ ap (map.get rows) (sym (lacking c).0)) (ap (λ k. has_leaf old.pages (leaf k)) (lacking c).0 ∙ (lacking c).2) c.keep_row.ensures.pages e c.keep_row.ensures.indexes) c.keep_row.ensures.ok)
-    (on_err_weaker c.keep_row.result (λ e. nothing-copied old new rows c.keep_row.ensures.pages e c.keep_row.ensures.indexes) c.keep_row.ensures.err)
+    (on_ok_weaker c.keep_row.result (λ e. row-copied old new rows c.in-Some.old ((lacking c).1 ∙ ap (map.get rows) (sym (lacking c).0)) (ap (λ k. has_leaf old.pages (leaf k)) (lacking c).0 ∙ (lacking c).2) c.keep_row.ensures.pages e c.keep_row.ensures.indexes c.keep_row.ensures.added) c.keep_row.ensures.ok)
+    (on_err_weaker c.keep_row.result (λ e. nothing-copied old new rows c.keep_row.ensures.pages e c.keep_row.ensures.indexes c.keep_row.ensures.added) c.keep_row.ensures.err)

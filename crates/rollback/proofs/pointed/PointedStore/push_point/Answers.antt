@@ -15,7 +15,7 @@ pub invariant_of-self : goal.invariant_of-self
 invariant_of-self c =
     let saved = c.self.inside.points.items in
     let store = c.self.inside.store in
-    subst (λ ss. AreSaved ss store) (sym c.push.ensures.items) (saved-push saved c.new.result store (nothing-saved c.new.result store c.new.ensures.pages c.new.ensures.olds c.new.ensures.indexes)
+    subst (λ ss. AreSaved ss store) (sym c.push.ensures.items) (saved-push saved c.new.result store (nothing-saved c.new.result store c.new.ensures.pages c.new.ensures.olds c.new.ensures.indexes c.new.ensures.added)
     (subst (λ (rows : Rows). AreSaved saved rows) (sym (nothing-restored c.new.result store c.new.ensures.pages c.new.ensures.olds)) c.self.invariant))
 
 pub returns-clause-points : goal.returns-clause-points
