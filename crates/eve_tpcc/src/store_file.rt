@@ -6,7 +6,7 @@ use std::io::Write;
 use std::rt::Files;
 
 /// A file that keeps what it holds until the first write, which empties it. So it may be the file of the image that the run
-/// began with, and a run that ends early leaves it as it was.
+/// began with, and a run that stores nothing leaves it as it was.
 #[derive(Drop)]
 pub struct StoreFile<F> {
     file: F,

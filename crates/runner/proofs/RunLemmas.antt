@@ -20,8 +20,9 @@ use Rattle.requests.specs.declared.request.Request.{Request}
 use Rattle.records.specs.Io.{AppendsFront}
 use Rattle.requests.specs.declared.request.Batch.{Batch}
 use Rattle.records.proofs.IoLemmas.{appends_twice}
-use Rattle.runner.specs.Runs.{AllFit, AreCompleted, Began, Completes, IsOfRecords, LeavesBatch, Left, NumbersFit, Taken, TookFront, TookSome, line_on}
+use Rattle.runner.specs.Runs.{AllFit, AreCompleted, Began, Completes, IsOfRecords, LeavesBatch, NumbersFit, Taken, TookFirst, TookFront, line_on}
 use Rattle.runner.specs.Text.{batch_text, text}
+use Rattle.runner.specs.WholeRuns.{LeavesBehind, LeavesLine}
 use Rattle.runner.specs.declared.fault.RunFault.{RunFault}
 use Rattle.runner.specs.declared.fault.RunFault.TheVariants as run_fault
 use Rattle.tpcc_model.specs.Serial.{State, after_batch, serial}
@@ -122,8 +123,8 @@ pub nothing_taken : (t : Taken) → Appends t t []
 nothing_taken None = tt
 nothing_taken (Some xs) = sym (append-nil xs)
 
-pub took_none : (cards : Cards) (state : State) (all : List Batch) (t : Taken) → IsSoundState cards state → TookSome cards state all t t
-took_none cards state all t sound = ([], all, record { parts = refl; completed = completed-none cards state sound; written = nothing_taken t })
+pub took_none : (cards : Cards) (state : State) (all : List Batch) (t : Taken) → IsSoundState cards state → TookFirst cards state all [] t t
+took_none cards state all t sound = (all, record { parts = refl; completed = completed-none cards state sound; written = nothing_taken t })
 
 -- one batch more was read
 pub reading-more : (all left new : Reading) (done : List Batch) (batch : Batch) → all ≡ (done ++ left.0, left.1) → left ≡ with_front batch new → all ≡ ((done ++ batch ∷ []) ++ new.0, new.1)
@@ -135,30 +136,40 @@ pub next_in : (all left new : Reading) (done : List Batch) (batch : Batch) → a
 next_in all left new done batch e split = ap (λ (r : Reading). r.0) e ∙ ap (λ (r : Reading). done ++ r.0) split
 
 -- ---- a run that ends in the midst of a batch
-module _ (cards : Cards) (state : State) (all : Reading) (done : List Batch) (batch : Batch) (rest : List Batch) (old mid new : Taken) (parts : all.0 ≡ done ++ batch ∷ rest) (completed : AreCompleted cards state done) (written : Appends old mid (text cards state done)) where
-  began : Keeps mid new → Began cards state all.0 old new done (batch ∷ rest)
+module _ (cards : Cards) (state : State) (bytes : List ℕ) (done : List Batch) (batch : Batch) (rest : List Batch) (old mid new : Taken) (parts : (batches bytes).0 ≡ done ++ batch ∷ rest) (completed : AreCompleted cards state done) (written : Appends old mid (text cards state done)) where
+  began : Keeps mid new → Began cards state (batches bytes).0 old new done (batch ∷ rest)
   began k = record { parts = parts; completed = completed; written = then_kept old mid new (text cards state done) written k }
 
   -- it was completed, and a beginning of its text was written
-  front_written : Completes cards (serial cards state done) batch → AppendsFront mid new (batch_text cards (serial cards state done) batch) → TookFront cards state all.0 old new
+  front_written : Completes cards (serial cards state done) batch → AppendsFront mid new (batch_text cards (serial cards state done) batch) → TookFront cards state (batches bytes).0 (done ++ batch ∷ []) old new
   front_written completes b =
       let (front, back, cut, took) = b in
       let now = serial cards state done in
       let first = text cards state done in
       let whole : text cards state (done ++ batch ∷ []) ≡ (first ++ front) ++ back =
       text-both cards state done (batch ∷ []) ∙ ap (λ (t : List ℕ). first ++ t) (append-nil (batch_text cards now batch) ∙ cut) ∙ sym (append_assoc first front back) in
-      (done ++ batch ∷ [], rest, parts ∙ sym (append_assoc done (batch ∷ []) rest), completed-more cards state done batch completed completes, (first ++ front, back, whole, appends_twice old mid new first front written took))
+      (rest, parts ∙ sym (append_assoc done (batch ∷ []) rest), completed-more cards state done batch completed completes, (first ++ front, back, whole, appends_twice old mid new first front written took))
 
-  pub left_in_batch : (e : RunFault) → LeavesBatch e cards (serial cards state done) batch mid new → Left e cards state all old new
-  left_in_batch (run_fault.Exec refusal.NumbersExhausted) h = (done, batch, rest, began h.1, h.0)
-  left_in_batch (run_fault.Exec refusal.Memory) h = (done, batch ∷ rest, began h)
-  left_in_batch (run_fault.Exec refusal.BatchTooLong) h = absurd h
-  left_in_batch (run_fault.Exec refusal.PointsFull) h = absurd h
-  left_in_batch (run_fault.Exec refusal.NoSuchPoint) h = absurd h
-  left_in_batch run_fault.Memory h = (done, batch ∷ rest, began h)
-  left_in_batch run_fault.Write h = front_written h.0 h.1
-  left_in_batch (run_fault.Read e) h = absurd h
-  left_in_batch (run_fault.Load e) h = absurd h
+  pub left_in_batch : (e : RunFault) (last : Line) → LeavesBatch e (line_on cards state done) last batch mid new → LeavesLine e cards state bytes old new last
+  left_in_batch (run_fault.Exec refusal.NumbersExhausted) last h = (done, (batch, rest, began h.2, h.0), h.1)
+  left_in_batch (run_fault.Exec refusal.Memory) last h = (done, (batch ∷ rest, began h.1), h.0)
+  left_in_batch (run_fault.Exec refusal.BatchTooLong) last h = absurd h
+  left_in_batch (run_fault.Exec refusal.PointsFull) last h = absurd h
+  left_in_batch (run_fault.Exec refusal.NoSuchPoint) last h = absurd h
+  left_in_batch run_fault.Memory last h = (done, (batch ∷ rest, began h.1), h.0)
+  left_in_batch run_fault.Write last h = (done ++ batch ∷ [], front_written h.0 h.2, h.1 ∙ line-more cards state done batch)
+  left_in_batch (run_fault.Read e) last h = absurd h
+  left_in_batch (run_fault.Load e) last h = absurd h
+
+-- ---- a run that can't read on
+pub stopped_behind : (cards : Cards) (state : State) (bytes : List ℕ) (left : Reading) (done : List Batch) (e : ReadError) (old new : Taken) → batches bytes ≡ (done ++ left.0, left.1)
+    → AreCompleted cards state done → Appends old new (text cards state done) → StopsBy e left → LeavesBehind (run_fault.Read e) cards state bytes done old new
+stopped_behind cards state bytes left done e old new read completed written (inl memory) =
+    inr (inr (memory, (left.0, record { parts = ap (λ (r : Reading). r.0) read; completed = completed; written = written })))
+stopped_behind cards state bytes left done e old new read completed written (inr stopped) =
+    let end : (batches bytes).1 ≡ fault e = ap (λ (r : Reading). r.1) read ∙ ap (λ (r : Reading). r.1) stopped in
+    let parts : (batches bytes).0 ≡ done ++ [] = ap (λ (r : Reading). r.0) read ∙ ap (λ (r : Reading). done ++ r.0) stopped in
+    inr (inl (end, record { parts = parts; completed = completed; written = written }))
 
 -- ---- a run that read all batches
 pub all_read : (all left : Reading) (done : List Batch) → all ≡ (done ++ left.0, left.1) → left ≡ ([], clean) → all.0 ≡ done

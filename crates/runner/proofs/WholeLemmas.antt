@@ -1,25 +1,85 @@
 -- A run on the database of an image.
-use Rattle.std.proofs.Common.{arith, ◌≡◌, ◌+◌, ℕ, List, [], sym, append-nil, refl, true, false, if◌then◌else◌, Bool, Option, Some, None, Result, Ok, Err, IfOk, IfErr, IfSome, OnErr, OnOk, is_err}
+use Rattle.std.proofs.Common.{arith, ◌≡◌, ◌+◌, ◌<◌, ℕ, List, [], length, inl, inr, sym, subst, append-nil, refl, true, false, if◌then◌else◌, Bool, Option, Some, None, Result, Ok, Err, IfOk, IfErr, IfSome, OnErr, OnOk, is_err}
 use Rattle.std.specs.Io.KnownBytes.{Appends, Keeps}
+use Rattle.catalog.specs.CardMap.{Cards}
+use Rattle.executor.specs.Lines.{Line, opening_line}
 use Rattle.executor.specs.States.{IsSoundState}
 use Rattle.executor.specs.declared.refusal.Refusal.TheVariants as refusal
 use Rattle.loader.specs.Image.{image}
-use Rattle.records.specs.Io.{AppendsFront}
+use Rattle.records.specs.Io.{AppendsFront, IsOfWholeInput}
 use Rattle.requests.specs.Batches.{batches}
 use Rattle.runner.proofs.RunLemmas.{then_kept, took_none}
 use Rattle.runner.specs.CheckTexts.{ChecksImage, LeavesCheck, opening_text}
+use Rattle.runner.specs.Openings.{IsOpened, IsUnopened}
+use Rattle.records.specs.declared.fault.ReadError.{ReadError}
 use Rattle.records.specs.declared.fault.ReadError.TheVariants as read_error
-use Rattle.runner.specs.Runs.{IsOfBatches, Taken}
-use Rattle.runner.specs.WholeRuns.{IsOfDatabase, LeavesDatabase, LeavesRun, RanOn, RanWhole, is_batches_read}
+use Rattle.runner.specs.Runs.{IsOfBatches, Taken, line_on}
+use Rattle.runner.specs.WholeRuns.{IsInputFault, IsOfDatabase, LeavesBehind, LeavesDatabase, LeavesLine, LeavesRun, RanFrom, RanWhole, is_batches_read, is_image_read}
 use Rattle.runner.specs.declared.fault.RunFault.{RunFault}
 use Rattle.runner.specs.declared.fault.RunFault.TheVariants as run_fault
 use Rattle.tpcc_model.specs.Database.{Database}
-use Rattle.tpcc_model.specs.Serial.{opening}
+use Rattle.tpcc_model.specs.Serial.{State, opening}
+
+-- ---- before the first batch
+pub opened_on : (images : Option (List ℕ)) (db : Database) (line : Line) → IfSome images (λ image_bytes. image image_bytes ≡ Ok db) → line ≡ opening_line db.cards db.rows
+    → IfSome images (λ image_bytes. IsOpened image_bytes line)
+opened_on None db line is same = tt
+opened_on (Some image_bytes) db line is same = (db, is, same)
+
+pub refused_on : (images : Option (List ℕ)) (db : Database) → IfSome images (λ image_bytes. image image_bytes ≡ Ok db) → IsSoundState db.cards (opening db.cards db.rows)
+    → IfSome images (λ image_bytes. IsUnopened (run_fault.Exec refusal.Memory) image_bytes)
+refused_on None db is sound = tt
+refused_on (Some image_bytes) db is sound = (db, is, sound)
 
 -- ---- a run that ends before its first batch
-pub refused_at_once : (db : Database) (left : Option (List ℕ)) (t : Taken) → IsSoundState db.cards (opening db.cards db.rows) → IfSome left (λ batch_bytes. LeavesDatabase (run_fault.Exec refusal.Memory) db batch_bytes t t)
-refused_at_once db None t sound = tt
-refused_at_once db (Some batch_bytes) t sound = took_none db.cards (opening db.cards db.rows) (batches batch_bytes).0 t sound
+pub same_kept : (t : Taken) → Keeps t t
+same_kept None = tt
+same_kept (Some xs) = refl
+
+unopened_by : (e : RunFault) (image_bytes batch_bytes : List ℕ) (t : Taken) → IsUnopened e image_bytes → LeavesRun e image_bytes batch_bytes t t
+unopened_by (run_fault.Load e) image_bytes batch_bytes t why = (why, same_kept t)
+unopened_by (run_fault.Exec refusal.Memory) image_bytes batch_bytes t why =
+    let (db, is, sound) = why in
+    (db, is, ([], took_none db.cards (opening db.cards db.rows) (batches batch_bytes).0 t sound))
+unopened_by (run_fault.Exec refusal.BatchTooLong) image_bytes batch_bytes t why = absurd why
+unopened_by (run_fault.Exec refusal.PointsFull) image_bytes batch_bytes t why = absurd why
+unopened_by (run_fault.Exec refusal.NoSuchPoint) image_bytes batch_bytes t why = absurd why
+unopened_by (run_fault.Exec refusal.NumbersExhausted) image_bytes batch_bytes t why = absurd why
+unopened_by (run_fault.Read e) image_bytes batch_bytes t why = absurd why
+unopened_by run_fault.Write image_bytes batch_bytes t why = absurd why
+unopened_by run_fault.Memory image_bytes batch_bytes t why = absurd why
+
+pub unopened_run : (images left : Option (List ℕ)) (e : RunFault) (t : Taken) → IfSome images (λ image_bytes. IsUnopened e image_bytes)
+    → IfSome images (λ image_bytes. IfSome left (λ batch_bytes. LeavesRun e image_bytes batch_bytes t t))
+unopened_run None left e t why = tt
+unopened_run (Some image_bytes) None e t why = tt
+unopened_run (Some image_bytes) (Some batch_bytes) e t why = unopened_by e image_bytes batch_bytes t why
+
+-- the batches couldn't be read
+pub input_fault : (left : Option (List ℕ)) (e : ReadError) → IsOfWholeInput e → (e ≡ read_error.InputTooLong → IfSome left (λ batch_bytes. 1073741824 < length batch_bytes)) → IfSome left (λ batch_bytes. IsInputFault e batch_bytes)
+input_fault None e kind long = tt
+input_fault (Some batch_bytes) read_error.Memory kind long = inl refl
+input_fault (Some batch_bytes) read_error.Read kind long = inr (inl refl)
+input_fault (Some batch_bytes) read_error.InputTooLong kind long = inr (inr (refl, long refl))
+input_fault (Some batch_bytes) (read_error.BadField n) kind long = absurd kind
+input_fault (Some batch_bytes) (read_error.WrongCount n) kind long = absurd kind
+input_fault (Some batch_bytes) (read_error.OutOfRange n) kind long = absurd kind
+input_fault (Some batch_bytes) (read_error.UnknownKind n) kind long = absurd kind
+input_fault (Some batch_bytes) (read_error.BatchTooLong n) kind long = absurd kind
+
+pub unread : (left : Option (List ℕ)) (e : ReadError) (cards : Cards) (state : State) (line : Line) (t : Taken) → IfSome left (λ batch_bytes. IsInputFault e batch_bytes) → line ≡ line_on cards state []
+    → IfSome left (λ batch_bytes. LeavesLine (run_fault.Read e) cards state batch_bytes t t line)
+unread None e cards state line t why same = tt
+unread (Some batch_bytes) e cards state line t why same = ([], inl (why, refl, same_kept t), same)
+
+-- ---- an image that was read before
+pub no_image_read : (r : Result ℕ RunFault) → IfErr r IsOfDatabase → is_image_read r ≡ false
+no_image_read (Ok count) kind = refl
+no_image_read (Err (run_fault.Load e)) kind = absurd kind
+no_image_read (Err (run_fault.Read e)) kind = refl
+no_image_read (Err (run_fault.Exec r)) kind = refl
+no_image_read (Err run_fault.Write) kind = refl
+no_image_read (Err run_fault.Memory) kind = refl
 
 -- ---- batches that are in memory, which aren't read again
 pub no_batches_read : (r : Result ℕ RunFault) → IfErr r IsOfBatches → is_batches_read r ≡ false
@@ -42,28 +102,33 @@ counted_none old new true off same = cc
 counted_none old new false off same = omega (arith, same)
 
 -- ---- a run on the database of an image
-pub ran_whole : (r : Result ℕ RunFault) (images batches : Option (List ℕ)) (db : Database) (old new : Taken) → IfSome images (λ image_bytes. image image_bytes ≡ Ok db)
-    → IfOk r (λ count. IfSome batches (λ batch_bytes. RanOn db batch_bytes old new count))
-    → IfOk r (λ count. IfSome images (λ image_bytes. IfSome batches (λ batch_bytes. RanWhole image_bytes batch_bytes old new count)))
-ran_whole (Err e) images batches db old new is ran = tt
-ran_whole (Ok count) None batches db old new is ran = tt
-ran_whole (Ok count) (Some bytes) None db old new is ran = tt
-ran_whole (Ok count) (Some bytes) (Some batch_bytes) db old new is ran = (db, is, ran)
+pub ran_whole : (r : Result ℕ RunFault) (images left : Option (List ℕ)) (line : Line) (old new : Taken) → IfSome images (λ image_bytes. IsOpened image_bytes line)
+    → IfOk r (λ count. IfSome left (λ batch_bytes. RanFrom line.cards line.present batch_bytes old new count))
+    → IfOk r (λ count. IfSome images (λ image_bytes. IfSome left (λ batch_bytes. RanWhole image_bytes batch_bytes old new count)))
+ran_whole (Err e) images left line old new opened ran = tt
+ran_whole (Ok count) None left line old new opened ran = tt
+ran_whole (Ok count) (Some image_bytes) None line old new opened ran = tt
+ran_whole (Ok count) (Some image_bytes) (Some batch_bytes) line old new opened ran =
+    let (db, is, same) = opened in
+    (db, is, subst (λ (l : Line). RanFrom l.cards l.present batch_bytes old new count) same ran)
 
-pub left_by : (e : RunFault) (image_bytes batch_bytes : List ℕ) (db : Database) (old new : Taken) → image image_bytes ≡ Ok db → IsOfDatabase e → LeavesDatabase e db batch_bytes old new → LeavesRun e image_bytes batch_bytes old new
+left_by : (e : RunFault) (image_bytes batch_bytes : List ℕ) (db : Database) (old new : Taken) → image image_bytes ≡ Ok db → IsOfDatabase e → LeavesDatabase e db batch_bytes old new → LeavesRun e image_bytes batch_bytes old new
 left_by (run_fault.Load e) image_bytes batch_bytes db old new is kind left = absurd kind
 left_by (run_fault.Read e) image_bytes batch_bytes db old new is kind left = (db, is, left)
 left_by (run_fault.Exec r) image_bytes batch_bytes db old new is kind left = (db, is, left)
 left_by run_fault.Write image_bytes batch_bytes db old new is kind left = (db, is, left)
 left_by run_fault.Memory image_bytes batch_bytes db old new is kind left = (db, is, left)
 
-pub left_run : (r : Result ℕ RunFault) (images batches : Option (List ℕ)) (db : Database) (old new : Taken) → IfSome images (λ image_bytes. image image_bytes ≡ Ok db) → IfErr r IsOfDatabase
-    → IfErr r (λ e. IfSome batches (λ batch_bytes. LeavesDatabase e db batch_bytes old new))
-    → IfErr r (λ e. IfSome images (λ image_bytes. IfSome batches (λ batch_bytes. LeavesRun e image_bytes batch_bytes old new)))
-left_run (Ok count) images batches db old new is kind left = tt
-left_run (Err e) None batches db old new is kind left = tt
-left_run (Err e) (Some bytes) None db old new is kind left = tt
-left_run (Err e) (Some bytes) (Some batch_bytes) db old new is kind left = left_by e bytes batch_bytes db old new is kind left
+pub left_run : (r : Result ℕ RunFault) (images left : Option (List ℕ)) (line last : Line) (old new : Taken) → IfSome images (λ image_bytes. IsOpened image_bytes line) → IfErr r IsOfDatabase
+    → IfErr r (λ e. IfSome left (λ batch_bytes. LeavesLine e line.cards line.present batch_bytes old new last))
+    → IfErr r (λ e. IfSome images (λ image_bytes. IfSome left (λ batch_bytes. LeavesRun e image_bytes batch_bytes old new)))
+left_run (Ok count) images left line last old new opened kind leaves = tt
+left_run (Err e) None left line last old new opened kind leaves = tt
+left_run (Err e) (Some image_bytes) None line last old new opened kind leaves = tt
+left_run (Err e) (Some image_bytes) (Some batch_bytes) line last old new opened kind leaves =
+    let (db, is, same) = opened in
+    let (done, behind, _) = leaves in
+    left_by e image_bytes batch_bytes db old new is kind (done, subst (λ (l : Line). LeavesBehind e l.cards l.present batch_bytes done old new) same behind)
 
 -- ---- the line of an image
 pub where_failed : {A E P : Type 0} (r : Result A E) → OnErr r P → is_err r ≡ true → P

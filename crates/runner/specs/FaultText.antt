@@ -74,7 +74,8 @@ store_name_of store_fault.Memory = codes "Memory"
 unfoldable pub store_fault_text : StoreFault → List ℕ
 store_fault_text f = line_text (codes "store") (store_code_of f) (store_name_of f) None None
 
--- the line of a fault of such a run, or of the image that wasn't written
+-- the line of a fault of such a run, and that of the image that wasn't written
 abbrev pub stored_fault_text : StoredRunFault → List ℕ
 stored_fault_text (stored_fault.Run f) = fault_text f
 stored_fault_text (stored_fault.Store f) = store_fault_text f
+stored_fault_text (stored_fault.Both f store) = fault_text f ++ store_fault_text store

@@ -3,7 +3,7 @@ use Rattle.std.specs.Prelude.{◌≡◌, ◌⊎◌, ℕ, ◌+◌, ◌<◌, ◌�
 use Rattle.std.specs.Io.KnownBytes.{Appends, Keeps}
 use Rattle.catalog.specs.CardMap.{Cards}
 use Rattle.executor.specs.Headline.{Headline, all_serially}
-use Rattle.executor.specs.Lines.{Line}
+use Rattle.executor.specs.Lines.{Line, committed, extended}
 use Rattle.executor.specs.States.{IsSoundState}
 use Rattle.executor.specs.declared.next_batch.TheConstants.{LAST_NUMBER}
 use Rattle.executor.specs.declared.refusal.Refusal.TheVariants as refusal
@@ -58,39 +58,41 @@ pub record Began (cards : Cards) (state : State) (batches : List Batch) (old new
   pub completed : AreCompleted cards state done
   pub written : Appends old new (text cards state done)
 
-abbrev pub TookSome : Cards → State → List Batch → Taken → Taken → Type 0
-TookSome cards state batches old new = (done rest : List Batch) × Began cards state batches old new done rest
+-- so of these batches, whichever stand behind them
+abbrev pub TookFirst : Cards → State → List Batch → List Batch → Taken → Taken → Type 0
+TookFirst cards state batches done old new = (rest : List Batch) × Began cards state batches old new done rest
 
 -- the same, and the next batch would pass the limit of numbers
-abbrev pub TookUntilExhausted : Cards → State → List Batch → Taken → Taken → Type 0
-TookUntilExhausted cards state batches old new =
-    (done : List Batch) × (batch : Batch) × (rest : List Batch) × Began cards state batches old new done (batch ∷ rest)
-    × NumbersExhaust (serial cards state done) batch
+abbrev pub TookUntilExhausted : Cards → State → List Batch → List Batch → Taken → Taken → Type 0
+TookUntilExhausted cards state batches done old new =
+    (batch : Batch) × (rest : List Batch) × Began cards state batches old new done (batch ∷ rest) × NumbersExhaust (serial cards state done) batch
 
 -- a beginning of the text of the first batches, which were completed: so a beginning of the text of all
-abbrev pub TookFront : Cards → State → List Batch → Taken → Taken → Type 0
-TookFront cards state batches old new =
-    (done rest : List Batch) × (batches ≡ done ++ rest) × AreCompleted cards state done × AppendsFront old new (text cards state done)
+abbrev pub TookFront : Cards → State → List Batch → List Batch → Taken → Taken → Type 0
+TookFront cards state batches done old new =
+    (rest : List Batch) × (batches ≡ done ++ rest) × AreCompleted cards state done × AppendsFront old new (text cards state done)
 
--- what a fault in one batch leaves that isn't too long and has none before it uncommitted; there is no other fault
-abbrev pub LeavesBatch : RunFault → Cards → State → Batch → Taken → Taken → Type 0
-LeavesBatch (run_fault.Exec refusal.NumbersExhausted) cards state batch old new = NumbersExhaust state batch × Keeps old new
-LeavesBatch (run_fault.Exec refusal.Memory) cards state batch old new = Keeps old new
-LeavesBatch run_fault.Memory cards state batch old new = Keeps old new
-LeavesBatch run_fault.Write cards state batch old new = Completes cards state batch × AppendsFront old new (batch_text cards state batch)
-LeavesBatch _ cards state batch old new = ⊥
+-- what a fault in one batch leaves that isn't too long and has none before it uncommitted; there is no other fault. The line after it
+-- is the one before it, but where the batch was completed and the output failed
+abbrev pub LeavesBatch : RunFault → Line → Line → Batch → Taken → Taken → Type 0
+LeavesBatch (run_fault.Exec refusal.NumbersExhausted) line last batch old new = NumbersExhaust line.present batch × (last ≡ line) × Keeps old new
+LeavesBatch (run_fault.Exec refusal.Memory) line last batch old new = (last ≡ line) × Keeps old new
+LeavesBatch run_fault.Memory line last batch old new = (last ≡ line) × Keeps old new
+LeavesBatch run_fault.Write line last batch old new =
+    Completes line.cards line.present batch × (last ≡ committed (extended line batch)) × AppendsFront old new (batch_text line.cards line.present batch)
+LeavesBatch _ line last batch old new = ⊥
 
--- what a run leaves that ended early; no batch that was read is too long, and none before it is left uncommitted, so that
--- there is no other fault
-abbrev pub Left : RunFault → Cards → State → Reading → Taken → Taken → Type 0
-Left (run_fault.Read e) cards state reading old new =
-    ((reading.1 ≡ fault e) × AreCompleted cards state reading.0 × Appends old new (text cards state reading.0))
-    ⊎ ((e ≡ read_error.Memory) × TookSome cards state reading.0 old new)
-Left (run_fault.Exec refusal.NumbersExhausted) cards state reading old new = TookUntilExhausted cards state reading.0 old new
-Left (run_fault.Exec refusal.Memory) cards state reading old new = TookSome cards state reading.0 old new
-Left run_fault.Memory cards state reading old new = TookSome cards state reading.0 old new
-Left run_fault.Write cards state reading old new = TookFront cards state reading.0 old new
-Left _ cards state reading old new = ⊥
+-- what a run leaves that ended early behind these batches, which were completed; no batch that was read is too long, and none before it
+-- is left uncommitted, so that there is no other fault
+abbrev pub Left : RunFault → Cards → State → Reading → List Batch → Taken → Taken → Type 0
+Left (run_fault.Read e) cards state reading done old new =
+    ((reading.1 ≡ fault e) × Began cards state reading.0 old new done [])
+    ⊎ ((e ≡ read_error.Memory) × TookFirst cards state reading.0 done old new)
+Left (run_fault.Exec refusal.NumbersExhausted) cards state reading done old new = TookUntilExhausted cards state reading.0 done old new
+Left (run_fault.Exec refusal.Memory) cards state reading done old new = TookFirst cards state reading.0 done old new
+Left run_fault.Memory cards state reading done old new = TookFirst cards state reading.0 done old new
+Left run_fault.Write cards state reading done old new = TookFront cards state reading.0 done old new
+Left _ cards state reading done old new = ⊥
 
 abbrev pub is_write : {A : Type 0} → Result A RunFault → Bool
 is_write (Err run_fault.Write) = true

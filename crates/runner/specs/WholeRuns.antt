@@ -1,10 +1,11 @@
 -- What a run leaves behind, from the bytes of an image and of batches.
-use Rattle.std.specs.Prelude.{◌≡◌, ◌⊎◌, ℕ, ◌<◌, Bool, true, false, List, length, Result, Ok, Err}
+use Rattle.std.specs.Prelude.{◌≡◌, ◌⊎◌, ℕ, ◌<◌, Bool, true, false, List, [], length, Result, Ok, Err}
 use Rattle.std.specs.Io.KnownBytes.{Keeps}
 use Rattle.loader.specs.Image.{image}
 use Rattle.loader.specs.declared.fault.LoadError.{LoadError}
 use Rattle.loader.specs.declared.fault.LoadError.TheVariants as load_error
 use Rattle.requests.specs.Batches.{batches}
+use Rattle.requests.specs.declared.request.Batch.{Batch}
 use Rattle.records.specs.declared.fault.ReadError.{ReadError}
 use Rattle.records.specs.declared.fault.ReadError.TheVariants as read_error
 use Rattle.runner.specs.Runs.{Left, Ran, Taken, line_on}
@@ -40,12 +41,21 @@ IsImageFault e image_bytes =
 abbrev pub IsInputFault : ReadError → List ℕ → Type 0
 IsInputFault e batch_bytes = (e ≡ read_error.Memory) ⊎ (e ≡ read_error.Read) ⊎ ((e ≡ read_error.InputTooLong) × (1073741824 < length batch_bytes))
 
+-- what a run from a state leaves that ended early behind these batches
+abbrev pub LeavesBehind : RunFault → Cards → State → List ℕ → List Batch → Taken → Taken → Type 0
+LeavesBehind (run_fault.Read e) cards state batch_bytes done old new =
+    (IsInputFault e batch_bytes × (done ≡ []) × Keeps old new)
+    ⊎ Left (run_fault.Read e) cards state (batches batch_bytes) done old new
+LeavesBehind fault cards state batch_bytes done old new = Left fault cards state (batches batch_bytes) done old new
+
 -- what a run from a state leaves that ended early
 abbrev pub LeavesState : RunFault → Cards → State → List ℕ → Taken → Taken → Type 0
-LeavesState (run_fault.Read e) cards state batch_bytes old new =
-    (IsInputFault e batch_bytes × Keeps old new)
-    ⊎ Left (run_fault.Read e) cards state (batches batch_bytes) old new
-LeavesState fault cards state batch_bytes old new = Left fault cards state (batches batch_bytes) old new
+LeavesState fault cards state batch_bytes old new = (done : List Batch) × LeavesBehind fault cards state batch_bytes done old new
+
+-- the same, and the line with which its executor is left, on which each of those batches was committed
+abbrev pub LeavesLine : RunFault → Cards → State → List ℕ → Taken → Taken → Line → Type 0
+LeavesLine fault cards state batch_bytes old new line =
+    (done : List Batch) × LeavesBehind fault cards state batch_bytes done old new × (line ≡ line_on cards state done)
 
 -- what a run on a database leaves that ended early
 abbrev pub LeavesDatabase : RunFault → Database → List ℕ → Taken → Taken → Type 0

@@ -138,7 +138,8 @@ pub(crate) fn line_of(
     Ok(line)
 }
 
-fn run_line(alloc: Global, fault: RunFault) -> Result<Vec<u8>, Memory>
+/// The line of a fault of a run.
+pub(crate) fn run_line(alloc: Global, fault: RunFault) -> Result<Vec<u8>, Memory>
     ensures { IfOk result (λ line. line.items ≡ fault_text fault) }
 {
     let (part, code, name) = (fault.part(), fault.code(), fault.name());

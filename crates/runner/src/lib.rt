@@ -2,8 +2,10 @@
 #![tactic(auto)]
 
 mod check;
+mod crew;
 pub mod fault;
 mod make;
+mod opening;
 mod run;
 mod serving;
 pub mod store_fault;
@@ -13,6 +15,7 @@ pub mod text;
 pub use check::check_text;
 pub use fault::{RunFault, fault_line};
 pub use make::make_text;
+pub use opening::load_executor;
 pub use run::run_text;
 pub use store_fault::{StoreFault, StoredRunFault, stored_fault_line};
 pub use stored_run::run_and_store;

@@ -1,20 +1,16 @@
 //! From the bytes of an image and of batches to the bytes of the replies.
 ghost use Rattle.std.specs.Prelude.{◌≡◌, ◌+◌, ◌<◌, ◌≤◌, ◌^◌, [], IfErr, IfOk, IfSome, OnOk, if◌then◌else◌};
-ghost use Rattle.runner.specs.WholeRuns.{IsOfDatabase, LeavesDatabase, LeavesRun, LeavesState, RanFrom, RanOn, RanWhole};
-ghost use Rattle.runner.specs.WholeRuns.{is_batches_read, is_image_read, line_after};
-ghost use Rattle.runner.specs.Runs.{is_write};
 ghost use Rattle.executor.specs.States.{IsSoundState};
-ghost use Rattle.tpcc_model.specs.Soundness.{IsSound};
+ghost use Rattle.runner.specs.Runs.{is_write};
+ghost use Rattle.runner.specs.WholeRuns.{IsOfDatabase, LeavesLine, LeavesRun, RanFrom, RanWhole, is_batches_read, is_image_read, line_after};
 
+use crate::crew::Crew;
 use crate::fault::RunFault;
+use crate::opening::load_executor;
 use crate::serving::run_batches;
-use catalog::Catalog;
-use executor::laws::sound_states;
-use executor::{Executor, Refusal};
-use loader::load;
+use executor::Executor;
 use records::io::{Sink, Source};
 use records::slurp::slurp;
-use rollback::PointedStore;
 use std::alloc::Global;
 use std::thread::Threads;
 use workers::{Gate, Workers};
@@ -24,13 +20,10 @@ const MOST_BATCH_BYTES: usize = 1_073_741_824;
 
 /// Reads all bytes of batches, and runs them on the state that an executor has.
 pub(crate) fn run_read<R: Threads + Sync, B: Source, S: Sink, G: Gate>(
-    rt: &R,
-    alloc: Global,
+    crew: &Crew<'_, R, G>,
     executor: &mut Executor,
     batches: &mut B,
     sink: &mut S,
-    workers: Workers,
-    gate: &G,
 ) -> Result<u64, RunFault>
     requires alone { executor.old.earlier ≡ [] }
     requires sound { IsSoundState executor.old.cards executor.old.present }
@@ -39,49 +32,19 @@ pub(crate) fn run_read<R: Threads + Sync, B: Source, S: Sink, G: Gate>(
     requires sink { S.failed sink.old < 2 ^ 63 }
     ensures ok { IfOk result (λ count. IfSome (B.left batches.old) (λ batch_bytes.
         RanFrom executor.old.cards executor.old.present batch_bytes (S.taken sink.old) (S.taken sink.new) count)) }
-    ensures err { IfErr result (λ e. IfSome (B.left batches.old) (λ batch_bytes.
-        LeavesState e executor.old.cards executor.old.present batch_bytes (S.taken sink.old) (S.taken sink.new))) }
     ensures line { OnOk result (IfSome (B.left batches.old) (λ batch_bytes.
         executor.new ≡ line_after executor.old.cards executor.old.present batch_bytes)) }
+    ensures err { IfErr result (λ e. IfSome (B.left batches.old) (λ batch_bytes.
+        LeavesLine e executor.old.cards executor.old.present batch_bytes (S.taken sink.old) (S.taken sink.new) executor.new)) }
     ensures kinds { IfErr result IsOfDatabase }
     ensures batches_failures { B.failed batches.new ≡ B.failed batches.old + (if is_batches_read result then 1 else 0) }
     ensures sink_failures { S.failed sink.new ≡ S.failed sink.old + (if is_write result then 1 else 0) }
 {
-    let text = match slurp(alloc, batches, MOST_BATCH_BYTES) {
+    let text = match slurp(crew.alloc, batches, MOST_BATCH_BYTES) {
         Ok(text) => text,
         Err(error) => return Err(RunFault::Read(error)),
     };
-    run_batches(rt, alloc, executor, text.as_slice(), sink, workers, gate)
-}
-
-/// Reads all bytes of batches, and runs them on a database.
-fn run_database<R: Threads + Sync, B: Source, S: Sink, G: Gate>(
-    rt: &R,
-    alloc: Global,
-    catalog: Catalog,
-    store: PointedStore,
-    batches: &mut B,
-    sink: &mut S,
-    workers: Workers,
-    gate: &G,
-) -> Result<u64, RunFault>
-    requires sound { IsSound (record { cards = catalog; rows = store.rows }) }
-    requires points { store.points ≡ [] }
-    requires batches { B.failed batches.old < 2 ^ 63 }
-    requires sink { S.failed sink.old < 2 ^ 63 }
-    ensures ok { IfOk result (λ count. IfSome (B.left batches.old) (λ batch_bytes.
-        RanOn (record { cards = catalog; rows = store.rows }) batch_bytes (S.taken sink.old) (S.taken sink.new) count)) }
-    ensures err { IfErr result (λ e. IfSome (B.left batches.old) (λ batch_bytes.
-        LeavesDatabase e (record { cards = catalog; rows = store.rows }) batch_bytes (S.taken sink.old) (S.taken sink.new))) }
-    ensures kinds { IfErr result IsOfDatabase }
-    ensures batches_failures { B.failed batches.new ≡ B.failed batches.old + (if is_batches_read result then 1 else 0) }
-    ensures sink_failures { S.failed sink.new ≡ S.failed sink.old + (if is_write result then 1 else 0) }
-{
-    sound_states();
-    let Ok(mut executor) = Executor::new(rt, alloc, catalog, store) else {
-        return Err(RunFault::Exec(Refusal::Memory));
-    };
-    run_read(rt, alloc, &mut executor, batches, sink, workers, gate)
+    run_batches(crew, executor, text.as_slice(), sink)
 }
 
 /// Loads an image, reads all bytes of batches, and then reads, executes, commits and writes batch after batch. The answer is
@@ -108,9 +71,15 @@ pub fn run_text<R: Threads + Sync, I: Source, B: Source, S: Sink, G: Gate>(
     ensures batches_failures { B.failed batches.new ≡ B.failed batches.old + (if is_batches_read result then 1 else 0) }
     ensures sink_failures { S.failed sink.new ≡ S.failed sink.old + (if is_write result then 1 else 0) }
 {
-    let (catalog, store) = match load(alloc, image) {
-        Ok(database) => database,
-        Err(error) => return Err(RunFault::Load(error)),
+    let mut executor = match load_executor(rt, alloc, image) {
+        Ok(executor) => executor,
+        Err(fault) => return Err(fault),
     };
-    run_database(rt, alloc, catalog, store, batches, sink, workers, gate)
+    let crew = Crew {
+        rt,
+        alloc,
+        workers,
+        gate,
+    };
+    run_read(&crew, &mut executor, batches, sink)
 }

@@ -4,9 +4,11 @@ ghost use Rattle.std.specs.Io.KnownBytes.{Appends};
 ghost use Rattle.executor.specs.Lines.{committed, extended};
 ghost use Rattle.executor.specs.States.{IsSoundState};
 ghost use Rattle.requests.specs.Batches.{batches};
-ghost use Rattle.runner.specs.Runs.{Completes, IsOfBatches, LeavesBatch, Left, Ran, is_write, line_on};
+ghost use Rattle.runner.specs.Runs.{Completes, IsOfBatches, LeavesBatch, Ran, is_write, line_on};
 ghost use Rattle.runner.specs.Text.{batch_text};
+ghost use Rattle.runner.specs.WholeRuns.{LeavesLine};
 
+use crate::crew::Crew;
 use crate::fault::RunFault;
 use crate::text::batch_text;
 use executor::{Executor, MOST_REQUESTS};
@@ -14,19 +16,16 @@ use records::io::Sink;
 use records::slurp::push_all;
 use requests::batch_reader::BatchReader;
 use requests::request::Batch;
-use std::alloc::Global;
 use std::thread::Threads;
-use workers::{Gate, Workers};
+use workers::Gate;
 
-/// Executes a batch where all before it are committed, commits it, and writes its replies and its own record.
+/// Executes a batch where all before it are committed, commits it, and writes its replies and its own record. Where memory is refused
+/// for their text, the batch is taken back.
 fn serve_batch<R: Threads + Sync, S: Sink, G: Gate>(
-    rt: &R,
-    alloc: Global,
+    crew: &Crew<'_, R, G>,
     executor: &mut Executor,
     batch: &Batch,
     sink: &mut S,
-    workers: Workers,
-    gate: &G,
 ) -> Result<(), RunFault>
     requires alone { executor.old.earlier ≡ [] }
     requires low { 1 ≤ executor.old.present.next }
@@ -35,17 +34,19 @@ fn serve_batch<R: Threads + Sync, S: Sink, G: Gate>(
     ensures completed { OnOk result (Completes executor.old.cards executor.old.present batch.now) }
     ensures line { OnOk result (executor.new ≡ committed (extended executor.old batch.now)) }
     ensures text { OnOk result (Appends (S.taken sink.old) (S.taken sink.new) (batch_text executor.old.cards executor.old.present batch.now)) }
-    ensures err { IfErr result (λ e. LeavesBatch e executor.old.cards executor.old.present batch.now (S.taken sink.old) (S.taken sink.new)) }
+    ensures err { IfErr result (λ e. LeavesBatch e executor.old executor.new batch.now (S.taken sink.old) (S.taken sink.new)) }
     ensures failures { S.failed sink.new ≡ S.failed sink.old + (if is_write result then 1 else 0) }
 {
-    let record = match executor.execute(rt, alloc, batch, workers, gate) {
+    let before = executor.sequence();
+    let record = match executor.execute(crew.rt, crew.alloc, batch, crew.workers, crew.gate) {
         Ok(record) => record,
         Err(refusal) => return Err(RunFault::Exec(refusal)),
     };
-    executor.commit().unwrap();
-    let Ok(text) = batch_text(alloc, &record) else {
+    let Ok(text) = batch_text(crew.alloc, &record) else {
+        executor.rollback_to(before).unwrap();
         return Err(RunFault::Memory);
     };
+    executor.commit().unwrap();
     if push_all(sink, text.as_slice()).is_err() {
         return Err(RunFault::Write);
     }
@@ -55,36 +56,33 @@ fn serve_batch<R: Threads + Sync, S: Sink, G: Gate>(
 /// Reads the batches of a text in turn, executes each on what the ones before it left, commits it, and writes its replies and
 /// its record before the next is read. The answer is the number of batches.
 pub(crate) fn run_batches<R: Threads + Sync, S: Sink, G: Gate>(
-    rt: &R,
-    alloc: Global,
+    crew: &Crew<'_, R, G>,
     executor: &mut Executor,
     text: &[u8],
     sink: &mut S,
-    workers: Workers,
-    gate: &G,
 ) -> Result<u64, RunFault>
     requires alone { executor.old.earlier ≡ [] }
     requires sound { IsSoundState executor.old.cards executor.old.present }
     requires low { 1 ≤ executor.old.present.next }
     requires count { S.failed sink.old < 2 ^ 63 }
     ensures ok { IfOk result (Ran executor.old.cards executor.old.present (batches text.now) (S.taken sink.old) (S.taken sink.new)) }
-    ensures err { IfErr result (λ e. Left e executor.old.cards executor.old.present (batches text.now) (S.taken sink.old) (S.taken sink.new)) }
     ensures line { OnOk result (executor.new ≡ line_on executor.old.cards executor.old.present (batches text.now).0) }
+    ensures err { IfErr result (λ e. LeavesLine e executor.old.cards executor.old.present text.now (S.taken sink.old) (S.taken sink.new) executor.new) }
     ensures kinds { IfErr result IsOfBatches }
     ensures failures { S.failed sink.new ≡ S.failed sink.old + (if is_write result then 1 else 0) }
 {
-    let mut reader = match BatchReader::new(alloc, text) {
+    let mut reader = match BatchReader::new(crew.alloc, text) {
         Ok(reader) => reader,
         Err(error) => return Err(RunFault::Read(error)),
     };
     let mut done: u64 = 0;
     'batches: loop {
-        let batch = match reader.next_batch(alloc) {
+        let batch = match reader.next_batch(crew.alloc) {
             Ok(Some(batch)) => batch,
             Ok(None) => break,
             Err(error) => return Err(RunFault::Read(error)),
         };
-        if let Err(fault) = serve_batch(rt, alloc, executor, &batch, sink, workers, gate) {
+        if let Err(fault) = serve_batch(crew, executor, &batch, sink) {
             return Err(fault);
         }
         done += 1;

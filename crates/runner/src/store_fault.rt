@@ -2,7 +2,7 @@
 ghost use Rattle.std.specs.Prelude.{◌≡◌, ◌++◌, IfOk, OnErr, OnOk};
 ghost use Rattle.runner.specs.FaultText.{store_code_of, store_fault_text, store_name_of, stored_fault_text};
 
-use crate::fault::{RunFault, fault_line, line_of};
+use crate::fault::{RunFault, line_of, run_line};
 use std::alloc::Global;
 use thiserror::Error;
 use tpcc_rows::memory::Memory;
@@ -43,12 +43,16 @@ impl StoreFault {
 /// Why a run that stores its last state ends early.
 #[derive(Clone, Copy, Debug, PartialEq, Eq, Error)]
 pub enum StoredRunFault {
-    /// The run itself ended early, and no image was written.
+    /// The run itself ended early. The image of its last state was written, unless the run's output failed or it ended before it had
+    /// a state.
     #[error("{0}")]
     Run(RunFault),
     /// The run ended well, and the image of its last state wasn't written whole.
     #[error("the stored state: {0}")]
     Store(StoreFault),
+    /// The run itself ended early, and the image of its last state wasn't written whole either.
+    #[error("{0}; the stored state: {1}")]
+    Both(RunFault, StoreFault),
 }
 
 fn store_line(alloc: Global, fault: StoreFault) -> Result<Vec<u8>, Memory>
@@ -57,8 +61,23 @@ fn store_line(alloc: Global, fault: StoreFault) -> Result<Vec<u8>, Memory>
     line_of(alloc, "store", fault.code(), fault.name(), None, None)
 }
 
-/// Appends the line that reports a fault, as `fault_line` does; the part of an image that isn't written is `store`. A refusal
-/// changes nothing.
+fn stored_line(alloc: Global, fault: StoredRunFault) -> Result<Vec<u8>, Memory>
+    ensures { IfOk result (λ line. line.items ≡ stored_fault_text fault) }
+{
+    match fault {
+        StoredRunFault::Run(fault) => run_line(alloc, fault),
+        StoredRunFault::Store(fault) => store_line(alloc, fault),
+        StoredRunFault::Both(fault, store) => {
+            let mut line = run_line(alloc, fault)?;
+            let store = store_line(alloc, store)?;
+            line.extend_from_slice(store.as_slice())?;
+            Ok(line)
+        }
+    }
+}
+
+/// Appends the line that reports a fault, as `fault_line` does; the part of an image that isn't written is `store`, and where the run
+/// itself ended early, its line stands behind the run's. A refusal changes nothing.
 pub fn stored_fault_line(
     alloc: Global,
     fault: &StoredRunFault,
@@ -67,11 +86,7 @@ pub fn stored_fault_line(
     ensures ok { OnOk result (out.new.items ≡ out.old.items ++ stored_fault_text fault.now) }
     ensures err { OnErr result (out.new.items ≡ out.old.items) }
 {
-    let fault = match fault {
-        StoredRunFault::Run(fault) => return fault_line(alloc, fault, out),
-        StoredRunFault::Store(fault) => fault,
-    };
-    let line = store_line(alloc, *fault)?;
+    let line = stored_line(alloc, *fault)?;
     out.extend_from_slice(line.as_slice())?;
     Ok(())
 }

@@ -3,21 +3,19 @@ ghost use Rattle.std.specs.Prelude.{◌≡◌, ◌+◌, ◌<◌, ◌≤◌, ◌^
 ghost use Rattle.std.specs.Io.KnownBytes.{Appends};
 ghost use Rattle.executor.specs.States.{IsSoundState};
 ghost use Rattle.runner.specs.Runs.{is_write};
-ghost use Rattle.runner.specs.StoredRuns.{IsOfStoredDatabase, LeavesStore, LeavesStoredDatabase, LeavesStoredRun, LeavesStoredState};
-ghost use Rattle.runner.specs.StoredRuns.{StoredFrom, StoredOn, StoredWhole, in_run, in_store, is_store_write, state_image};
-ghost use Rattle.runner.specs.WholeRuns.{is_batches_read, is_image_read};
-ghost use Rattle.tpcc_model.specs.Soundness.{IsSound};
+ghost use Rattle.runner.specs.StoredRuns.{IsOfStoredDatabase, LeavesStore, LeavesStoredRun, LeavesStoredState, StoredBehind, StoredFrom, StoredWhole};
+ghost use Rattle.runner.specs.StoredRuns.{in_run, in_store, is_of_tables, is_store_write, state_image};
+ghost use Rattle.runner.specs.WholeRuns.{IsOfDatabase, is_batches_read, is_image_read};
 
+use crate::crew::Crew;
 use crate::fault::RunFault;
+use crate::opening::load_executor;
 use crate::run::run_read;
 use crate::store_fault::{StoreFault, StoredRunFault};
-use catalog::Catalog;
-use executor::laws::sound_states;
-use executor::{Executor, Refusal};
-use loader::{load, store_image};
+use executor::Executor;
+use loader::store_image;
 use records::io::{Sink, Source};
 use records::slurp::push_all;
-use rollback::PointedStore;
 use std::alloc::Global;
 use std::thread::Threads;
 use tpcc_rows::memory::Memory;
@@ -57,16 +55,38 @@ fn store_state<K: Sink>(
     Ok(())
 }
 
-/// Reads all bytes of batches, runs them on the state that an executor has, and then writes the image of the state after them.
-fn store_read<R: Threads + Sync, B: Source, S: Sink, K: Sink, G: Gate>(
-    rt: &R,
+/// Writes the image of the state that an executor has behind which a run ended early. None is written where the output failed: nobody
+/// knows then what of the text came through.
+fn store_behind<K: Sink>(
     alloc: Global,
+    executor: &Executor,
+    fault: RunFault,
+    tables: &mut K,
+) -> StoredRunFault
+    requires kind { IsOfDatabase fault }
+    requires tables { K.failed tables.old < 2 ^ 63 }
+    ensures kind { IsOfStoredDatabase result }
+    ensures stored { StoredBehind fault result
+        (state_image executor.now.cards executor.now.present) (K.taken tables.old) (K.taken tables.new) }
+    ensures failures { K.failed tables.new ≡ K.failed tables.old + (if is_of_tables result then 1 else 0) }
+{
+    if let RunFault::Write = fault {
+        return StoredRunFault::Run(fault);
+    }
+    match store_state(alloc, executor, tables) {
+        Ok(()) => StoredRunFault::Run(fault),
+        Err(store) => StoredRunFault::Both(fault, store),
+    }
+}
+
+/// Reads all bytes of batches, runs them on the state that an executor has, and then writes the image of the state behind the last
+/// one whose text was written.
+fn store_read<R: Threads + Sync, B: Source, S: Sink, K: Sink, G: Gate>(
+    crew: &Crew<'_, R, G>,
     executor: &mut Executor,
     batches: &mut B,
     sink: &mut S,
     tables: &mut K,
-    workers: Workers,
-    gate: &G,
 ) -> Result<u64, StoredRunFault>
     requires alone { executor.old.earlier ≡ [] }
     requires sound { IsSoundState executor.old.cards executor.old.present }
@@ -85,62 +105,18 @@ fn store_read<R: Threads + Sync, B: Source, S: Sink, K: Sink, G: Gate>(
     ensures sink_failures { S.failed sink.new ≡ S.failed sink.old + (if in_run is_write result then 1 else 0) }
     ensures tables_failures { K.failed tables.new ≡ K.failed tables.old + (if in_store result then 1 else 0) }
 {
-    let count = match run_read(rt, alloc, executor, batches, sink, workers, gate) {
-        Ok(count) => count,
-        Err(fault) => return Err(StoredRunFault::Run(fault)),
-    };
-    match store_state(alloc, executor, tables) {
-        Ok(()) => Ok(count),
-        Err(fault) => Err(StoredRunFault::Store(fault)),
+    match run_read(crew, executor, batches, sink) {
+        Ok(count) => match store_state(crew.alloc, executor, tables) {
+            Ok(()) => Ok(count),
+            Err(fault) => Err(StoredRunFault::Store(fault)),
+        },
+        Err(fault) => Err(store_behind(crew.alloc, executor, fault, tables)),
     }
 }
 
-/// Reads all bytes of batches, runs them on a database, and then writes the image of the state after them.
-fn store_database<R: Threads + Sync, B: Source, S: Sink, K: Sink, G: Gate>(
-    rt: &R,
-    alloc: Global,
-    catalog: Catalog,
-    store: PointedStore,
-    batches: &mut B,
-    sink: &mut S,
-    tables: &mut K,
-    workers: Workers,
-    gate: &G,
-) -> Result<u64, StoredRunFault>
-    requires sound { IsSound (record { cards = catalog; rows = store.rows }) }
-    requires points { store.points ≡ [] }
-    requires batches { B.failed batches.old < 2 ^ 63 }
-    requires sink { S.failed sink.old < 2 ^ 63 }
-    requires tables { K.failed tables.old < 2 ^ 63 }
-    ensures ok { IfOk result (λ count. IfSome (B.left batches.old) (λ batch_bytes.
-        StoredOn (record { cards = catalog; rows = store.rows }) batch_bytes
-        (S.taken sink.old) (S.taken sink.new) (K.taken tables.old) (K.taken tables.new) count)) }
-    ensures err { IfErr result (λ e. IfSome (B.left batches.old) (λ batch_bytes.
-        LeavesStoredDatabase e (record { cards = catalog; rows = store.rows }) batch_bytes
-        (S.taken sink.old) (S.taken sink.new) (K.taken tables.old) (K.taken tables.new))) }
-    ensures kinds { IfErr result IsOfStoredDatabase }
-    ensures batches_failures { B.failed batches.new ≡ B.failed batches.old + (if in_run is_batches_read result then 1 else 0) }
-    ensures sink_failures { S.failed sink.new ≡ S.failed sink.old + (if in_run is_write result then 1 else 0) }
-    ensures tables_failures { K.failed tables.new ≡ K.failed tables.old + (if in_store result then 1 else 0) }
-{
-    sound_states();
-    let Ok(mut executor) = Executor::new(rt, alloc, catalog, store) else {
-        return Err(StoredRunFault::Run(RunFault::Exec(Refusal::Memory)));
-    };
-    store_read(
-        rt,
-        alloc,
-        &mut executor,
-        batches,
-        sink,
-        tables,
-        workers,
-        gate,
-    )
-}
-
-/// Runs batches on the database of an image as `run_text` does, and then writes the image of the state that the last of them left,
-/// so that a later run can go on from it. A run that ends early writes no image.
+/// Runs batches on the database of an image as `run_text` does, and then writes the image of the state whose token was written last,
+/// so that a later run can go on from it: after a run that ended early, too, but not where its output failed, or where it ended
+/// before there was a state.
 pub fn run_and_store<R: Threads + Sync, I: Source, B: Source, S: Sink, K: Sink, G: Gate>(
     rt: &R,
     alloc: Global,
@@ -166,11 +142,15 @@ pub fn run_and_store<R: Threads + Sync, I: Source, B: Source, S: Sink, K: Sink, 
     ensures sink_failures { S.failed sink.new ≡ S.failed sink.old + (if in_run is_write result then 1 else 0) }
     ensures tables_failures { K.failed tables.new ≡ K.failed tables.old + (if in_store result then 1 else 0) }
 {
-    let (catalog, store) = match load(alloc, image) {
-        Ok(database) => database,
-        Err(error) => return Err(StoredRunFault::Run(RunFault::Load(error))),
+    let mut executor = match load_executor(rt, alloc, image) {
+        Ok(executor) => executor,
+        Err(fault) => return Err(StoredRunFault::Run(fault)),
     };
-    store_database(
-        rt, alloc, catalog, store, batches, sink, tables, workers, gate,
-    )
+    let crew = Crew {
+        rt,
+        alloc,
+        workers,
+        gate,
+    };
+    store_read(&crew, &mut executor, batches, sink, tables)
 }

@@ -4,7 +4,7 @@ use Rattle.executor.specs.Lines.{Line, committed, extended}
 use Rattle.requests.specs.Batches.{StopsBy, batches, clean}
 use Rattle.runner.specs.Runs.{Completes, LeavesBatch, line_on}
 use Rattle.runner.specs.Text.{batch_text, text}
-use Rattle.runner.proofs.RunLemmas.{all_read, completed-more, completed-none, left_in_batch, line-more, next_in, next-serial, nothing_taken, reading-more, stops_by_records, text-more, then_kept, took_none}
+use Rattle.runner.proofs.RunLemmas.{all_read, completed-more, completed-none, left_in_batch, line-more, next_in, next-serial, nothing_taken, reading-more, stopped_behind, stops_by_records, text-more, then_kept, took_none}
 use Rattle.runner.proofs.ShortBatches.{short_batch}
 use Rattle.runner.proofs.serving.run_batches.Goals as goal
 
@@ -30,8 +30,14 @@ returns-in-Err-serve_batch-clause-err g c =
     let cards = c.args.executor.now.cards in
     let state = c.args.executor.now.present in
     let parts = next_in _ c.batches.reader.left c.next_batch.new.self.left done c.in-Ok-Some.batch read (search rules) in
-    let left = subst (λ (l : Line). LeavesBatch c.in-Err-serve_batch.fault l.cards l.present c.in-Ok-Some.batch (g.S.Sink.taken c.batches.sink) (g.S.Sink.taken c.serve_batch.new.sink)) line c.in-Err-serve_batch.ensures.err in
-    left_in_batch cards state _ done c.in-Ok-Some.batch c.next_batch.new.self.left.0 _ _ _ parts completed written c.in-Err-serve_batch.fault left
+    let left = subst (λ (l : Line). LeavesBatch c.in-Err-serve_batch.fault l c.serve_batch.new.executor c.in-Ok-Some.batch (g.S.Sink.taken c.batches.sink) (g.S.Sink.taken c.serve_batch.new.sink)) line c.in-Err-serve_batch.ensures.err in
+    left_in_batch cards state c.args.text.now done c.in-Ok-Some.batch c.next_batch.new.self.left.0 _ _ _ parts completed written c.in-Err-serve_batch.fault c.serve_batch.new.executor left
+
+pub returns-in-Err-next_batch-clause-err : goal.returns-in-Err-next_batch-clause-err
+returns-in-Err-next_batch-clause-err g c =
+    let (same, done, read, count, line, completed, written) = c.batches.invariant in
+    let stops : StopsBy c.in-Err-next_batch.error c.batches.reader.left = search rules in
+    (done, stopped_behind c.args.executor.now.cards c.args.executor.now.present c.args.text.now c.batches.reader.left done c.in-Err-next_batch.error _ _ read completed written stops, line)
 
 pub batches-preserved : goal.batches-preserved
 batches-preserved g c =
@@ -57,7 +63,7 @@ returns-then-is_err-clause-err g c =
     let state = c.args.executor.now.present in
     let end : c.batches.reader.left ≡ ([], clean) = search rules in
     let all = all_read _ c.batches.reader.left done read end in
-    (done, [], all ∙ sym (append-nil done), completed, (text cards state done, [], sym (append-nil (text cards state done)), then_kept _ _ _ _ written c.flush.ensures.bytes))
+    (done, ([], all ∙ sym (append-nil done), completed, (text cards state done, [], sym (append-nil (text cards state done)), then_kept _ _ _ _ written c.flush.ensures.bytes)), line)
 
 pub returns-clause-line : goal.returns-clause-line
 returns-clause-line g c =
@@ -74,7 +80,7 @@ returns-in-Err-next_batch-clause-kinds g c =
 
 pub returns-in-Err-clause-err : goal.returns-in-Err-clause-err
 returns-in-Err-clause-err g c =
-    inr (search rules, took_none c.args.executor.now.cards c.args.executor.now.present (batches c.args.text.now).0 (g.S.Sink.taken c.args.sink.now) c.requires.sound)
+    ([], inr (inr (search rules, took_none c.args.executor.now.cards c.args.executor.now.present (batches c.args.text.now).0 (g.S.Sink.taken c.args.sink.now) c.requires.sound)), search rules)
 
 pub batches-init : goal.batches-init
 batches-init g c =

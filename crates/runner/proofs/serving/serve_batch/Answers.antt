@@ -22,7 +22,7 @@ returns-then-is_err-clause-err g c =
     let batch = c.args.batch.now in
     let text : c.as_slice.result.now ≡ batch_text line.cards line.present batch = c.as_slice.ensures.value ∙ c.in-Ok-batch_text.ensures ∙ recorded_text line.cards line.present batch c.in-Ok.record c.in-Ok.ensures.record in
     let front : AppendsFront (g.S.Sink.taken c.args.sink.now) (g.S.Sink.taken c.push_all.new.sink) c.as_slice.result.now = search rules in
-    (completes line c.execute.new.self batch c.in-Ok.ensures.admitted c.in-Ok.ensures.line c.in-Ok.ensures.sound, subst (AppendsFront (g.S.Sink.taken c.args.sink.now) (g.S.Sink.taken c.push_all.new.sink)) text front)
+    (completes line c.execute.new.self batch c.in-Ok.ensures.admitted c.in-Ok.ensures.line c.in-Ok.ensures.sound, search rules, subst (AppendsFront (g.S.Sink.taken c.args.sink.now) (g.S.Sink.taken c.push_all.new.sink)) text front)
 
 pub returns-clause-completed : goal.returns-clause-completed
 returns-clause-completed g c = completes c.args.executor.now c.execute.new.self c.args.batch.now c.in-Ok.ensures.admitted c.in-Ok.ensures.line c.in-Ok.ensures.sound

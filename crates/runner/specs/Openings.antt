@@ -1,0 +1,27 @@
+-- What an image gives before any batch.
+use Rattle.std.specs.Prelude.{◌≡◌, ℕ, List, Ok}
+use Rattle.executor.specs.Lines.{Line, opening_line}
+use Rattle.executor.specs.States.{IsSoundState}
+use Rattle.executor.specs.declared.refusal.Refusal.TheVariants as refusal
+use Rattle.loader.specs.Image.{image}
+use Rattle.runner.specs.WholeRuns.{IsImageFault}
+use Rattle.runner.specs.declared.fault.RunFault.{RunFault}
+use Rattle.runner.specs.declared.fault.RunFault.TheVariants as run_fault
+use Rattle.tpcc_model.specs.Database.{Database}
+use Rattle.tpcc_model.specs.Serial.{opening}
+
+-- the image gives a database, and the line is that of it
+abbrev pub IsOpened : List ℕ → Line → Type 0
+IsOpened bytes line = (db : Database) × (image bytes ≡ Ok db) × (line ≡ opening_line db.cards db.rows)
+
+-- the image gives none, or it couldn't be read; or memory was refused for what executes batches on it
+abbrev pub IsUnopened : RunFault → List ℕ → Type 0
+IsUnopened (run_fault.Load e) bytes = IsImageFault e bytes
+IsUnopened (run_fault.Exec refusal.Memory) bytes = (db : Database) × (image bytes ≡ Ok db) × IsSoundState db.cards (opening db.cards db.rows)
+IsUnopened _ bytes = ⊥
+
+-- the faults that are met before any batch
+abbrev pub IsOfOpening : RunFault → Type 0
+IsOfOpening (run_fault.Load e) = Unit {0}
+IsOfOpening (run_fault.Exec refusal.Memory) = Unit {0}
+IsOfOpening _ = ⊥
