@@ -1,6 +1,7 @@
 //! Runs that store the image of their last state. A run goes on from the image that the one before it stored, and leaves what one run
 //! of all batches does. Then each call of the sink of the image fails in turn: the text is to be whole, and a beginning of the image
-//! written. Where the run itself ends early, no byte of an image is to be written.
+//! written. Where the sink of the text fails, no byte of an image is to be written; where the run ends early for another reason, the
+//! image is to be that of the batches before, and a run goes on from it, too.
 #![tactic(auto)]
 
 ghost use Rattle.std.specs.Prelude.{◌<◌, ◌^◌};
@@ -39,6 +40,16 @@ N,1,1,1,1,1,1,2,1,1,3,1,1,4,1,1,5,1,1
 P,1,1,1,1,L,NAME1,1000
 commit
 ";
+
+/// A batch that ends too early, and none before it.
+const CUT: &[u8] = b"B,100,commit,2
+D,1,5
+";
+
+/// The history record that the first batch leaves, up to its number, and one behind which there are two numbers left.
+const HISTORY: &str = "\nH,2,";
+
+const LATE_HISTORY: &str = "\nH,999999999999997,";
 
 /// How many bytes ends take a call.
 const STEP: usize = 400;
@@ -119,6 +130,17 @@ fn print_failed<R: Print + AllocGlobal>(rt: &R, outcome: &Outcome, whole: &Outco
     let _ = println!(rt; "    {count} bytes of the image, a beginning: {image_begins}");
 }
 
+/// Prints how a run ended early, and whether it left what the batches before leave.
+fn print_ended<R: Print + AllocGlobal>(rt: &R, name: &str, outcome: &Outcome, before: &Outcome) {
+    let _ = println!(rt; "{name}");
+    print_fault(rt, outcome.fault);
+    let same_text = outcome.text.as_slice() == before.text.as_slice();
+    let same_image = outcome.image.as_slice() == before.image.as_slice();
+    let _ = println!(rt;
+        "    the text is that of the batches before: {same_text}, the image: {same_image}"
+    );
+}
+
 /// Prints what comes where the calls of the sink of the image fail in turn, the flush too.
 fn fail_image<R: Threads + Sync + Print + AllocGlobal>(
     rt: &R,
@@ -130,6 +152,21 @@ fn fail_image<R: Threads + Sync + Print + AllocGlobal>(
         let _ = println!(rt; "call {call} of the sink of the image fails");
         if let Some(outcome) = run_of(rt, image, BOTH, 2, NEVER, call) {
             print_failed(rt, &outcome, whole);
+        }
+    }
+}
+
+/// Prints what comes where a record is none, and the calls of the sink of the image fail in turn, the flush too.
+fn fail_both<R: Threads + Sync + Print + AllocGlobal>(
+    rt: &R,
+    image: &[u8],
+    first: &Outcome,
+    count: u64,
+) {
+    for call in 0..count {
+        let _ = println!(rt; "a record is none, and call {call} of the sink of the image fails");
+        if let Some(outcome) = run_of(rt, image, SPOILT, 2, NEVER, call) {
+            print_failed(rt, &outcome, first);
         }
     }
 }
@@ -192,6 +229,39 @@ fn go_on<R: Threads + Sync + Print + AllocGlobal>(
     Some(())
 }
 
+/// The image that the first batch leaves, with two numbers left.
+fn late_image(alloc: Global, first: &[u8]) -> Option<String> {
+    let (before, behind) = str::from_utf8(first).ok()?.split_once(HISTORY)?;
+    format!(in alloc; "{before}{LATE_HISTORY}{behind}").ok()
+}
+
+/// Prints what runs store that end early behind a batch, or before the first.
+fn end_early<R: Threads + Sync + Print + AllocGlobal>(
+    rt: &R,
+    image: &[u8],
+    first: &Outcome,
+    whole: &Outcome,
+) -> Option<()> {
+    let spoilt = run_of(rt, image, SPOILT, 1, NEVER, NEVER)?;
+    print_ended(
+        rt,
+        "a record behind the first batch is none",
+        &spoilt,
+        first,
+    );
+    go_on(rt, &spoilt, whole)?;
+    let none = run_of(rt, image, b"", 1, NEVER, NEVER)?;
+    let cut = run_of(rt, image, CUT, 1, NEVER, NEVER)?;
+    print_ended(rt, "the first batch is cut off", &cut, &none);
+    let late = late_image(rt.alloc(), first.image.as_slice())?;
+    let fitting = run_of(rt, late.as_bytes(), FIRST, 1, NEVER, NEVER)?;
+    let _ = println!(rt; "a batch with the last numbers");
+    print_fault(rt, fitting.fault);
+    let spent = run_of(rt, late.as_bytes(), BOTH, 1, NEVER, NEVER)?;
+    print_ended(rt, "and one behind it", &spent, &fitting);
+    Some(())
+}
+
 fn try_all<R: Threads + Sync + Print + AllocGlobal>(rt: &R, image: &[u8]) -> Option<()> {
     let first = run_of(rt, image, FIRST, 1, NEVER, NEVER)?;
     print_run(rt, "the first batch", &first);
@@ -204,9 +274,8 @@ fn try_all<R: Threads + Sync + Print + AllocGlobal>(rt: &R, image: &[u8]) -> Opt
     compare_workers(rt, image, &whole, &[2, 8]);
     fail_image(rt, image, &whole, 6);
     fail_text(rt, image, &whole, 3);
-    let spoilt = run_of(rt, image, SPOILT, 1, NEVER, NEVER)?;
-    let _ = println!(rt; "a record behind the first batch is none");
-    print_failed(rt, &spoilt, &whole);
+    end_early(rt, image, &first, &whole)?;
+    fail_both(rt, image, &first, 6);
     Some(())
 }
 
