@@ -64,6 +64,7 @@ fn point_among(stamps: &[Stamp], sequence: u64) -> Option<usize>
 
 impl Executor {
     /// A database before any batch. The number of its first request is one more than the greatest of HISTORY.
+    #[inline(never)]
     pub fn new<R: Threads + Sync>(
         rt: &R,
         alloc: Global,

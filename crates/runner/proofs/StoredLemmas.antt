@@ -2,7 +2,6 @@
 use Rattle.std.proofs.Common.{◌≡◌, ◌≢◌, ℕ, List, Option, Some, None, Result, Ok, Err, false, IfOk, IfErr, IfSome, inl, inr, refl, subst, sym}
 use Rattle.std.specs.Io.KnownBytes.{Appends}
 use Rattle.executor.specs.Lines.{Line}
-use Rattle.requests.specs.declared.request.Batch.{Batch}
 use Rattle.runner.proofs.WholeLemmas.{no_image_read, same_kept}
 use Rattle.runner.specs.Openings.{IsOpened, IsUnopened}
 use Rattle.runner.specs.Runs.{Taken}

@@ -9,7 +9,7 @@ use Rattle.loader.specs.Image.{image}
 use Rattle.records.specs.Io.{AppendsFront, IsOfWholeInput}
 use Rattle.requests.specs.Batches.{batches}
 use Rattle.runner.proofs.RunLemmas.{then_kept, took_none}
-use Rattle.runner.specs.CheckTexts.{ChecksImage, LeavesCheck, opening_text}
+use Rattle.runner.specs.CheckTexts.{ChecksImage, LeavesCheck, check_text}
 use Rattle.runner.specs.Openings.{IsOpened, IsUnopened}
 use Rattle.records.specs.declared.fault.ReadError.{ReadError}
 use Rattle.records.specs.declared.fault.ReadError.TheVariants as read_error
@@ -144,15 +144,34 @@ leaves_all None taken = tt
 leaves_all (Some bytes) None = tt
 leaves_all (Some bytes) (Some taken) = refl
 
-pub checks_image : (images : Option (List ℕ)) (db : Database) (old new : Taken) → IfSome images (λ image_bytes. image image_bytes ≡ Ok db) → Appends old new (opening_text db)
+pub checks_image : (images : Option (List ℕ)) (line : Line) (old new : Taken) → IfSome images (λ image_bytes. IsOpened image_bytes line) → Appends old new (check_text line.cards line.present)
     → IfSome images (λ image_bytes. ChecksImage image_bytes old new)
-checks_image None db old new is written = tt
-checks_image (Some bytes) db old new is written = (db, is, written)
+checks_image None line old new opened written = tt
+checks_image (Some bytes) line old new opened written =
+    let (db, is, same) = opened in
+    (db, is, subst (λ (l : Line). Appends old new (check_text l.cards l.present)) same written)
 
-pub leaves_check : (images : Option (List ℕ)) (db : Database) (old new : Taken) → IfSome images (λ image_bytes. image image_bytes ≡ Ok db) → AppendsFront old new (opening_text db)
+pub leaves_check : (images : Option (List ℕ)) (line : Line) (old new : Taken) → IfSome images (λ image_bytes. IsOpened image_bytes line) → AppendsFront old new (check_text line.cards line.present)
     → IfSome images (λ image_bytes. LeavesCheck run_fault.Write image_bytes old new)
-leaves_check None db old new is written = tt
-leaves_check (Some bytes) db old new is written = (db, is, written)
+leaves_check None line old new opened written = tt
+leaves_check (Some bytes) line old new opened written =
+    let (db, is, same) = opened in
+    (db, is, subst (λ (l : Line). AppendsFront old new (check_text l.cards l.present)) same written)
+
+unchecked_by : (e : RunFault) (image_bytes : List ℕ) (t : Taken) → IsUnopened e image_bytes → LeavesCheck e image_bytes t t
+unchecked_by (run_fault.Load e) image_bytes t why = (why, same_kept t)
+unchecked_by (run_fault.Exec refusal.Memory) image_bytes t why = same_kept t
+unchecked_by (run_fault.Exec refusal.BatchTooLong) image_bytes t why = absurd why
+unchecked_by (run_fault.Exec refusal.PointsFull) image_bytes t why = absurd why
+unchecked_by (run_fault.Exec refusal.NoSuchPoint) image_bytes t why = absurd why
+unchecked_by (run_fault.Exec refusal.NumbersExhausted) image_bytes t why = absurd why
+unchecked_by (run_fault.Read e) image_bytes t why = absurd why
+unchecked_by run_fault.Write image_bytes t why = absurd why
+unchecked_by run_fault.Memory image_bytes t why = absurd why
+
+pub unchecked : (images : Option (List ℕ)) (e : RunFault) (t : Taken) → IfSome images (λ image_bytes. IsUnopened e image_bytes) → IfSome images (λ image_bytes. LeavesCheck e image_bytes t t)
+unchecked None e t why = tt
+unchecked (Some image_bytes) e t why = unchecked_by e image_bytes t why
 
 pub appends_front : (old mid new : Taken) (text : List ℕ) → Appends old mid text → Keeps mid new → AppendsFront old new text
 appends_front old mid new text written kept = (text, [], sym (append-nil text), then_kept old mid new text written kept)

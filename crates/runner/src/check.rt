@@ -6,12 +6,12 @@ ghost use Rattle.runner.specs.Runs.{is_write};
 ghost use Rattle.runner.specs.WholeRuns.{is_image_read};
 
 use crate::fault::RunFault;
+use crate::opening::load_executor;
 use crate::text::digits_of;
 use catalog::Catalog;
 use catalog::card::CardKey;
-use executor::{Executor, Refusal};
+use executor::Executor;
 use itoa::Buffer;
-use loader::load;
 use records::io::{Sink, Source};
 use records::slurp::push_all;
 use std::alloc::Global;
@@ -66,12 +66,9 @@ pub fn check_text<R: Threads + Sync, I: Source, S: Sink>(
     ensures image_failures { I.failed image.new ≡ I.failed image.old + (if is_image_read result then 1 else 0) }
     ensures sink_failures { S.failed sink.new ≡ S.failed sink.old + (if is_write result then 1 else 0) }
 {
-    let (catalog, store) = match load(alloc, image) {
-        Ok(database) => database,
-        Err(error) => return Err(RunFault::Load(error)),
-    };
-    let Ok(executor) = Executor::new(rt, alloc, catalog, store) else {
-        return Err(RunFault::Exec(Refusal::Memory));
+    let executor = match load_executor(rt, alloc, image) {
+        Ok(executor) => executor,
+        Err(fault) => return Err(fault),
     };
     let Ok(line) = line_of(alloc, &executor) else {
         return Err(RunFault::Memory);

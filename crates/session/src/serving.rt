@@ -10,11 +10,10 @@ ghost use Rattle.session.specs.Sessions.{IsAnswered, IsOfSession, LeavesAnswer, 
 
 use crate::answering::answer;
 use commands::{Command, CommandReader};
-use executor::{Executor, Refusal};
-use loader::load;
+use executor::Executor;
 use records::io::{Failed, Sink, Source};
 use records::slurp::push_all;
-use runner::RunFault;
+use runner::{RunFault, load_executor};
 use std::alloc::Global;
 use std::io::Read;
 use std::thread::Threads;
@@ -134,12 +133,9 @@ pub fn serve<R: Threads + Sync, I: Source, C: Read + Drop, S: Sink, G: Gate>(
     ensures image_failures { I.failed image.new ≡ I.failed image.old + (if is_image_read result then 1 else 0) }
     ensures sink_failures { S.failed sink.new ≡ S.failed sink.old + (if is_write result then 1 else 0) }
 {
-    let (catalog, store) = match load(alloc, image) {
-        Ok(database) => database,
-        Err(error) => return Err(RunFault::Load(error)),
-    };
-    let Ok(mut executor) = Executor::new(rt, alloc, catalog, store) else {
-        return Err(RunFault::Exec(Refusal::Memory));
+    let mut executor = match load_executor(rt, alloc, image) {
+        Ok(executor) => executor,
+        Err(fault) => return Err(fault),
     };
     serve_input(rt, alloc, &mut executor, input, sink, workers, gate)
 }

@@ -1,6 +1,5 @@
-use Rattle.std.proofs.Common.{rules, ◌≡◌}
+use Rattle.std.proofs.Common.{rules}
 use Rattle.runner.proofs.WholeLemmas.{counted_none, input_fault, no_batches_read, unread}
-use Rattle.runner.specs.Runs.{line_on}
 use Rattle.runner.proofs.run.run_read.Goals as goal
 
 pub returns-in-Err-clause-err : goal.returns-in-Err-clause-err
