@@ -1,4 +1,3 @@
-pub mod Chunks
 pub mod Joins
 pub mod Placing
 pub mod Refreshing

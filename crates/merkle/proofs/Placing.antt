@@ -1,5 +1,5 @@
 -- Jobs at the same places, and hashes put at their places.
-use Rattle.std.proofs.Common.{◌≡◌, ◌≢◌, ℕ, zero, suc, ◌+◌, ◌-◌, ◌*◌, ◌<◌, ◌≤◌, Bool, true, false, cond, eqb, ◌||◌, List, [], ◌∷◌, ◌++◌, All, length, get_or, set, take, drop, inl, inr, refl, sym, ap, subst, ◌∙◌, arith}
+use Rattle.std.proofs.Common.{◌≡◌, ◌≢◌, ℕ, zero, suc, ◌+◌, ◌-◌, ◌*◌, ◌<◌, ◌≤◌, Bool, true, false, cond, eqb, ◌||◌, List, [], ◌∷◌, ◌++◌, All, length, get_or, set, take, drop, inl, inr, refl, sym, ap, subst, ◌∙◌, arith, length-append}
 use Rattle.std.specs.List.{list_any}
 use Rattle.std.specs.List.Sorted.{IsPermutation}
 use Rattle.std.proofs.lemmas.List.{get_or-drop, get_or-set_same, get_or-set_other, get_or-take, length-set, length-take, length-take-le, length-drop, take_all, take_at, take_more_set}
@@ -73,6 +73,16 @@ part-done value old now mid s k e low sum high before part = record {
       let wide : length (mid_of s k now) ≡ k = length-take k (drop s now) ∙ omega (arith, length-drop s now) in
       subst (AreHashed value) (sym (take-put_mid s k now mid e (omega (arith, part.len, wide)) low))
       (all-append (λ job. job.hash ≡ value job.place) (take s now) mid before.hashed part.hashed);
+}
+
+-- two parts that are done
+pub both-done : (value : ℕ → List ℕ) (a b x y : List Job) → IsDone value a b → IsDone value x y → IsDone value (a ++ x) (b ++ y)
+both-done value a b x y front back = record {
+  len = length-append b y ∙ omega (arith, front.len, back.len, length-append a x);
+  places = λ n.
+      let test : Job → Bool = λ job. eqb job.place n in
+      list_any-append test b y ∙ ap (λ t. t || list_any test y) (front.places n) ∙ ap (λ t. list_any test a || t) (back.places n) ∙ sym (list_any-append test a x);
+  hashed = all-append (λ job. job.hash ≡ value job.place) b y front.hashed back.hashed;
 }
 
 pub none-done : (value : ℕ → List ℕ) (jobs : List Job) → IsDoneTo value 0 jobs jobs

@@ -1,5 +1,6 @@
 //! The hashes of leaves.
 ghost use Rattle.std.specs.Prelude.{◌≡◌, ◌<◌, ◌≤◌, ◌∷◌, [], ℕ, All, length};
+ghost use denote.Param.Send.{IsSync};
 ghost use Rattle.merkle.specs.Jobs.{IsDone, KeepsPlaces};
 ghost use Rattle.merkle.specs.Nodes.{at, rehashed};
 ghost use Rattle.tpcc_model.specs.Roots.{leaf_hash};
@@ -7,7 +8,7 @@ ghost use Rattle.tpcc_model.specs.Roots.{leaf_hash};
 use crate::hashing::{hash_four_leaves, hash_leaf, prefetch_rows};
 use crate::jobs::{Job, gather_leaves, give_hashes, put_hashes};
 use rollback::PointedStore;
-use std::thread::{self, Threads};
+use std::thread::{Threads, join_mut};
 use tpcc_rows::codes::LEAVES;
 
 /// How many leaves have their rows prefetched together, and are then hashed in the order of their lengths: four neighbours
@@ -139,23 +140,56 @@ fn share(leaves: usize, rows: usize, threads: usize) -> usize
     leaves.div_ceil(WINDOW).div_ceil(useful).clamp(1, LEAVES) * WINDOW
 }
 
+/// Hashes two parts of leaves, the first on a thread of its own, where one can be made.
+#[cycle(shares)]
+fn hash_parts<R: Threads + Sync>(
+    rt: &R,
+    store: &PointedStore,
+    size: usize,
+    first: &mut [Job],
+    rest: &mut [Job],
+)
+    requires size { 0 < size }
+    requires first { All (λ job. job.place < LEAVES) first.old }
+    requires rest { All (λ job. job.place < LEAVES) rest.old }
+    ensures first { IsDone (leaf_hash store.now.rows) first.old first.new }
+    ensures rest { IsDone (leaf_hash store.now.rows) rest.old rest.new }
+{
+    let mut front = ||
+        requires { All (λ job. job.place < LEAVES) first.now }
+        ensures { IsDone (leaf_hash store.entry.now.rows) first.entry.now first.exit.now }
+    { hash_leaves(first, store) };
+    let mut back = ||
+        requires { IsSync R.row × (0 < size) × All (λ job. job.place < LEAVES) rest.now }
+        ensures { IsDone (leaf_hash store.entry.now.rows) rest.entry.now rest.exit.now }
+    { hash_shares(rt, store, size, rest) };
+    join_mut(rt, &mut front, &mut back);
+}
+
+/// Hashes leaves, so many on each thread. All threads are started by this one: those that start each other at once are often given
+/// the same processor.
+#[cycle(shares)]
+fn hash_shares<R: Threads + Sync>(rt: &R, store: &PointedStore, size: usize, jobs: &mut [Job])
+    requires size { 0 < size }
+    requires leaves { All (λ job. job.place < LEAVES) jobs.old }
+    ensures { IsDone (leaf_hash store.now.rows) jobs.old jobs.new }
+{
+    if jobs.len() <= size {
+        hash_leaves(jobs, store);
+        return;
+    }
+    let (first, rest) = jobs.split_at_mut(size);
+    hash_parts(rt, store, size, first, rest);
+}
+
 /// Hashes leaves on so many threads at most.
 fn hash_leaves_on<R: Threads + Sync>(rt: &R, jobs: &mut [Job], store: &PointedStore, threads: usize)
     requires { All (λ job. job.place < LEAVES) jobs.old }
     ensures { IsDone (leaf_hash store.now.rows) jobs.old jobs.new }
 {
     let rows = rows_of(jobs, store);
-    thread::for_each_chunk_mut(
-        rt,
-        jobs,
-        share(jobs.len(), rows, threads),
-        &|_: usize, part: &mut [Job]|
-            requires { All (λ job. job.place < LEAVES) part.old }
-            ensures { IsDone (leaf_hash store.entry.now.rows) part.old part.new }
-        {
-            hash_leaves(part, store);
-        },
-    );
+    let size = share(jobs.len(), rows, threads);
+    hash_shares(rt, store, size, jobs);
 }
 
 /// Hashes again each dirty leaf, on so many threads at most.

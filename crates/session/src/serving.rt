@@ -87,8 +87,8 @@ fn serve_commands<R: Threads + Sync, C: Read + Drop, S: Sink, G: Gate>(
     }
 }
 
-/// Reads the commands of a text in turn, and answers each before the next is read. Its frame has the reader's room, and that of
-/// `serve` the executor's.
+/// Reads the commands of a text in turn, and answers each before the next is read. Its frame has the reader's room, that of `serve`
+/// the executor's.
 #[inline(never)]
 fn serve_input<R: Threads + Sync, C: Read + Drop, S: Sink, G: Gate>(
     rt: &R,
@@ -115,6 +115,7 @@ fn serve_input<R: Threads + Sync, C: Read + Drop, S: Sink, G: Gate>(
 
 /// Loads an image, and then reads commands in turn, each of which is answered before the next is read. What is written is the same
 /// for every number of workers, whoever is told of the executions, and however the bytes of the commands come in pieces.
+#[inline(never)]
 pub fn serve<R: Threads + Sync, I: Source, C: Read + Drop, S: Sink, G: Gate>(
     rt: &R,
     alloc: Global,
