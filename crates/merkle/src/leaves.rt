@@ -109,7 +109,8 @@ fn hash_window(jobs: &mut [Job], store: &PointedStore)
     hash_neighbours(jobs, store);
 }
 
-/// Hashes leaves, window by window.
+/// Hashes leaves, window by window. Its frame has the room of four leaves, so it isn't part of one that calls itself.
+#[inline(never)]
 fn hash_leaves(jobs: &mut [Job], store: &PointedStore)
     requires { All (λ job. job.place < LEAVES) jobs.old }
     ensures { IsDone (leaf_hash store.now.rows) jobs.old jobs.new }
