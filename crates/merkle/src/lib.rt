@@ -5,6 +5,8 @@ pub mod hashing;
 mod jobs;
 mod leaves;
 mod levels;
+mod places;
+mod shares;
 pub mod tree;
 
 pub use tree::Tree;

@@ -5,8 +5,9 @@ ghost use Rattle.tpcc_model.specs.Roots.{leaf_hash, root};
 ghost use Rattle.tpcc_rows.specs.RowMap.{Rows};
 
 use crate::jobs::Job;
-use crate::leaves::rehash_on;
+use crate::leaves::rehash;
 use crate::levels::rejoin;
+use crate::shares::Crew;
 use rollback::{Dirty, PointedStore};
 use std::alloc::Global;
 use std::marker::Model;
@@ -17,11 +18,10 @@ use tpcc_rows::memory::Memory;
 
 /// Hashes all leaves, and each node above them.
 fn build_nodes<R: Threads + Sync>(
-    rt: &R,
+    crew: &Crew<'_, R>,
     nodes: &mut [[u8; 32]],
     jobs: &mut [Job],
     store: &PointedStore,
-    threads: usize,
 )
     requires full { length nodes.old ≡ 2 * LEAVES }
     requires room { length jobs.old ≡ LEAVES }
@@ -30,18 +30,17 @@ fn build_nodes<R: Threads + Sync>(
     ensures room { length jobs.new ≡ LEAVES }
 {
     let (_, leaves) = nodes.split_at_mut(LEAVES);
-    rehash_on(rt, leaves, jobs, store, &[true; LEAVES], threads);
-    rejoin(nodes, &mut [true; 2 * LEAVES], jobs);
+    rehash(crew, leaves, jobs, store, &[true; LEAVES]);
+    rejoin(crew, nodes, &mut [true; 2 * LEAVES], jobs);
 }
 
 /// Hashes the dirty leaves again, and each node above one.
 fn refresh_nodes<R: Threads + Sync>(
-    rt: &R,
+    crew: &Crew<'_, R>,
     nodes: &mut [[u8; 32]],
     jobs: &mut [Job],
     store: &PointedStore,
     dirty: &[bool],
-    threads: usize,
 )
     requires marks { length dirty.now ≡ LEAVES }
     requires tree { IsTree nodes.old }
@@ -51,11 +50,11 @@ fn refresh_nodes<R: Threads + Sync>(
     ensures room { length jobs.new ≡ LEAVES }
 {
     let (_, leaves) = nodes.split_at_mut(LEAVES);
-    rehash_on(rt, leaves, jobs, store, dirty, threads);
+    rehash(crew, leaves, jobs, store, dirty);
     let mut marks = [false; 2 * LEAVES];
     let (_, below) = marks.split_at_mut(LEAVES);
     below.copy_from_slice(dirty);
-    rejoin(nodes, &mut marks, jobs);
+    rejoin(crew, nodes, &mut marks, jobs);
 }
 
 /// The hashes of all leaves and of all nodes above them, in heap order: the root at 1, the children of the node at i
@@ -97,8 +96,8 @@ impl Tree {
     {
         let mut nodes = vec![in alloc; [0u8; 32]; 2 * LEAVES]?;
         let mut jobs = vec![in alloc; Job::NONE; LEAVES]?;
-        let processors = thread::available_parallelism(rt).map_or(1, NonZeroUsize::get);
-        build_nodes(rt, &mut nodes, &mut jobs, store, processors);
+        let threads = thread::available_parallelism(rt).map_or(1, NonZeroUsize::get);
+        build_nodes(&Crew { rt, threads }, &mut nodes, &mut jobs, store);
         Ok(Tree { nodes, jobs })
     }
 
@@ -113,13 +112,7 @@ impl Tree {
         ensures leaves { (n : ℕ) → n < LEAVES → at self.new n ≡ rehashed dirty.now store.now.rows (at self.old n) n }
         ensures rows { IsOfClean self.old dirty.now store.now.rows → IsOf self.new store.now.rows }
     {
-        refresh_nodes(
-            rt,
-            &mut self.nodes,
-            &mut self.jobs,
-            store,
-            dirty.marks(),
-            threads,
-        );
+        let crew = Crew { rt, threads };
+        refresh_nodes(&crew, &mut self.nodes, &mut self.jobs, store, dirty.marks());
     }
 }

@@ -2,7 +2,7 @@ use Rattle.std.proofs.Common.{arith, refl, ◌∙◌}
 use Rattle.merkle.proofs.levels.rejoin.Goals as goal
 
 pub loop-high-init : goal.loop-high-init
-loop-high-init c = record {
+loop-high-init g c = record {
   low = omega arith;
   inside = omega arith;
   room = c.requires.room;
@@ -11,7 +11,7 @@ loop-high-init c = record {
 }
 
 pub loop-high-preserved : goal.loop-high-preserved
-loop-high-preserved c = record {
+loop-high-preserved g c = record {
   low = omega arith;
   inside = omega arith;
   room = c.rejoin_level.ensures.room;
@@ -20,4 +20,4 @@ loop-high-preserved c = record {
 }
 
 pub returns-clause-tree : goal.returns-clause-tree
-returns-clause-tree c = record { full = c.loop-high.invariant.joined.full; joins = λ i l h. c.loop-high.invariant.joined.done i (omega arith) h }
+returns-clause-tree g c = record { full = c.loop-high.invariant.joined.full; joins = λ i l h. c.loop-high.invariant.joined.done i (omega arith) h }

@@ -4,7 +4,7 @@ use Rattle.merkle.proofs.levels.rejoin.Given as goal
 
 -- the levels from high on are joined
 abbrev pub invariant-loop-high : goal.invariant-loop-high
-invariant-loop-high l = record {
+invariant-loop-high g l = record {
   low : 1 ≤ l.high;
   inside : l.high ≤ 4096;
   room : length l.jobs ≡ 4096;
@@ -13,4 +13,4 @@ invariant-loop-high l = record {
 }
 
 abbrev pub decreases-loop-high : goal.decreases-loop-high
-decreases-loop-high l = l.high
+decreases-loop-high g l = l.high

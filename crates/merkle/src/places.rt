@@ -1,0 +1,111 @@
+//! Places of a tree that have hashes: leaves, and inner nodes.
+ghost use Rattle.std.specs.Prelude.{◌≡◌, ◌∷◌, [], ℕ, List, All, length};
+ghost use Rattle.merkle.specs.Jobs.{IsDone, KeepsPlaces};
+
+use crate::jobs::{Job, give_hashes};
+
+/// How many places are measured together, and are then hashed in the order of their lengths: four neighbours take the time of the
+/// longest of them.
+pub(crate) const WINDOW: usize = 16;
+
+/// What has places, each with its hash.
+pub(crate) trait Places {
+    // Which places it has.
+    ghost has: { Self → ℕ → Type 0 };
+
+    // The hash of a place.
+    ghost hash: { Self → ℕ → List ℕ };
+
+    /// How many bytes suffice for what the hash is of, which is prefetched where it lies far apart.
+    fn measure(&self, place: usize) -> usize
+        requires { has self.now place };
+
+    fn hash_one(&self, place: usize) -> [u8; 32]
+        requires { has self.now place }
+        ensures { result ≡ hash self.now place };
+
+    /// Hashes four places at once.
+    fn hash_four(&self, a: usize, b: usize, c: usize, d: usize) -> [[u8; 32]; 4]
+        requires first { has self.now a }
+        requires second { has self.now b }
+        requires third { has self.now c }
+        requires fourth { has self.now d }
+        ensures { result ≡ hash self.now a ∷ hash self.now b ∷ hash self.now c ∷ hash self.now d ∷ [] };
+}
+
+/// Measures what the jobs hash.
+fn measure<P: Places>(jobs: &mut [Job], places: &P)
+    requires { All (λ job. P.has places.now job.place) jobs.old }
+    ensures { KeepsPlaces jobs.old jobs.new }
+{
+    for k in 0..jobs.len() {
+        jobs[k].bytes = places.measure(jobs[k].place);
+    }
+}
+
+/// Does a few jobs one after the other.
+fn do_few<P: Places>(jobs: &mut [Job], places: &P)
+    requires { All (λ job. P.has places.now job.place) jobs.old }
+    ensures { IsDone (P.hash places.now) jobs.old jobs.new }
+{
+    for k in 0..jobs.len() {
+        jobs[k].hash = places.hash_one(jobs[k].place);
+    }
+}
+
+/// Does four jobs at once.
+fn do_four<P: Places>(jobs: &mut [Job], places: &P)
+    requires four { length jobs.old ≡ 4 }
+    requires there { All (λ job. P.has places.now job.place) jobs.old }
+    ensures { IsDone (P.hash places.now) jobs.old jobs.new }
+{
+    let hashes = places.hash_four(jobs[0].place, jobs[1].place, jobs[2].place, jobs[3].place);
+    give_hashes(jobs, &hashes);
+}
+
+/// Does four jobs, or the few that are left.
+fn do_group<P: Places>(jobs: &mut [Job], places: &P)
+    requires { All (λ job. P.has places.now job.place) jobs.old }
+    ensures { IsDone (P.hash places.now) jobs.old jobs.new }
+{
+    if jobs.len() == 4 {
+        do_four(jobs, places);
+    } else {
+        do_few(jobs, places);
+    }
+}
+
+/// Does jobs, each four neighbours at once.
+fn do_neighbours<P: Places>(jobs: &mut [Job], places: &P)
+    requires { All (λ job. P.has places.now job.place) jobs.old }
+    ensures { IsDone (P.hash places.now) jobs.old jobs.new }
+{
+    for group in 0..jobs.len().div_ceil(4) {
+        let start = 4 * group;
+        let end = (start + 4).min(jobs.len());
+        do_group(&mut jobs[start..end], places);
+    }
+}
+
+/// Does the jobs of a window.
+fn do_window<P: Places>(jobs: &mut [Job], places: &P)
+    requires { All (λ job. P.has places.now job.place) jobs.old }
+    ensures { IsDone (P.hash places.now) jobs.old jobs.new }
+{
+    measure(jobs, places);
+    jobs.sort_unstable_by_key(|job: &Job| -> usize { job.bytes });
+    do_neighbours(jobs, places);
+}
+
+/// Does jobs, window by window. Its frame has the room of four leaves, so it isn't part of one that calls itself.
+#[inline(never)]
+pub(crate) fn do_jobs<P: Places>(jobs: &mut [Job], places: &P)
+    requires { All (λ job. P.has places.now job.place) jobs.old }
+    ensures { IsDone (P.hash places.now) jobs.old jobs.new }
+{
+    for window in 0..jobs.len().div_ceil(WINDOW) {
+        let start = WINDOW * window;
+        let end = (start + WINDOW).min(jobs.len());
+        do_window(&mut jobs[start..end], places);
+    }
+}

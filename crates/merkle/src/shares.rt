@@ -1,0 +1,80 @@
+//! Jobs shared out to threads.
+ghost use Rattle.std.specs.Prelude.{◌<◌, All};
+ghost use denote.Param.Send.{IsSync};
+ghost use Rattle.merkle.specs.Jobs.{IsDone};
+
+use crate::jobs::Job;
+use crate::places::{Places, WINDOW, do_jobs};
+use std::thread::{Threads, join_mut};
+use tpcc_rows::codes::LEAVES;
+
+/// Threads that are started where they pay, so many at most.
+#[derive(Clone, Copy)]
+pub(crate) struct Crew<'a, R> {
+    pub(crate) rt: &'a R,
+    pub(crate) threads: usize,
+}
+
+/// How many jobs each thread takes where so many threads pay, so that they are shared out evenly, in whole windows.
+fn share(jobs: usize, paying: usize, threads: usize) -> usize
+    ensures { 0 < result }
+{
+    let useful = paying.clamp(1, threads.max(1));
+    jobs.div_ceil(WINDOW).div_ceil(useful).clamp(1, LEAVES) * WINDOW
+}
+
+/// Does two parts of jobs, the first on a thread of its own, where one can be made.
+#[cycle(shares)]
+fn do_parts<R: Threads + Sync, P: Places + Sync>(
+    rt: &R,
+    places: &P,
+    size: usize,
+    first: &mut [Job],
+    rest: &mut [Job],
+)
+    requires size { 0 < size }
+    requires first { All (λ job. P.has places.now job.place) first.old }
+    requires rest { All (λ job. P.has places.now job.place) rest.old }
+    ensures first { IsDone (P.hash places.now) first.old first.new }
+    ensures rest { IsDone (P.hash places.now) rest.old rest.new }
+{
+    let mut front = ||
+        requires { All (λ job. P.has places.now job.place) first.now }
+        ensures { IsDone (P.hash places.entry.now) first.entry.now first.exit.now }
+    { do_jobs(first, places) };
+    let mut back = ||
+        requires { IsSync R.row × IsSync P.row × (0 < size) × All (λ job. P.has places.now job.place) rest.now }
+        ensures { IsDone (P.hash places.entry.now) rest.entry.now rest.exit.now }
+    { do_shares(rt, places, size, rest) };
+    join_mut(rt, &mut front, &mut back);
+}
+
+/// Does jobs, so many on each thread. All threads are started by this one: those that start each other at once are often given the
+/// same processor.
+#[cycle(shares)]
+fn do_shares<R: Threads + Sync, P: Places + Sync>(rt: &R, places: &P, size: usize, jobs: &mut [Job])
+    requires size { 0 < size }
+    requires there { All (λ job. P.has places.now job.place) jobs.old }
+    ensures { IsDone (P.hash places.now) jobs.old jobs.new }
+{
+    if jobs.len() <= size {
+        do_jobs(jobs, places);
+        return;
+    }
+    let (first, rest) = jobs.split_at_mut(size);
+    do_parts(rt, places, size, first, rest);
+}
+
+/// Does jobs on as many threads as pay.
+pub(crate) fn do_jobs_on<R: Threads + Sync, P: Places + Sync>(
+    crew: &Crew<'_, R>,
+    jobs: &mut [Job],
+    places: &P,
+    paying: usize,
+)
+    requires { All (λ job. P.has places.now job.place) jobs.old }
+    ensures { IsDone (P.hash places.now) jobs.old jobs.new }
+{
+    let size = share(jobs.len(), paying, crew.threads);
+    do_shares(crew.rt, places, size, jobs);
+}
