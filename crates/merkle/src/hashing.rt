@@ -28,7 +28,7 @@ const ROW_BYTES: usize = 536;
 const WAITING_BYTES: usize = 4096;
 
 /// How many bytes there is room for where a leaf is hashed beside three others.
-const LEAF_BYTES: usize = 15_000;
+const LEAF_BYTES: usize = 30_000;
 
 /// How many bytes the hash of a node is of.
 pub(crate) const NODE_BYTES: usize = 65;
@@ -131,7 +131,24 @@ fn hash_from(page: &LeafRows, is_whole: bool, hash: [u8; 32]) -> [u8; 32]
     if is_whole { hash } else { hash_leaf(page) }
 }
 
-/// The hashes of four leaves, at once. One for whose text there is no room is hashed alone.
+/// The hashes of two texts and of two leaves, at once. A leaf for whose text there is no room is hashed alone.
+#[inline(never)]
+fn hash_beside(first: &[u8], second: &[u8], third: &LeafRows, fourth: &LeafRows) -> [[u8; 32]; 4]
+    ensures { result ≡ sha256 first.now ∷ sha256 second.now ∷ sha256 (leaf_text third.now) ∷ sha256 (leaf_text fourth.now) ∷ [] }
+{
+    let mut texts = (ByteBuf::new(), ByteBuf::new());
+    let third_is_whole = encode_leaf(third, &mut texts.0);
+    let fourth_is_whole = encode_leaf(fourth, &mut texts.1);
+    let hashes = digests_of_four(first, second, texts.0.as_slice(), texts.1.as_slice());
+    [
+        hashes[0],
+        hashes[1],
+        hash_from(third, third_is_whole, hashes[2]),
+        hash_from(fourth, fourth_is_whole, hashes[3]),
+    ]
+}
+
+/// The hashes of four leaves, at once. The room of their texts is shared by two frames, so that none has more than 64 KB.
 pub(crate) fn hash_four_leaves(
     first: &LeafRows,
     second: &LeafRows,
@@ -140,27 +157,15 @@ pub(crate) fn hash_four_leaves(
 ) -> [[u8; 32]; 4]
     ensures { result ≡ sha256 (leaf_text first.now) ∷ sha256 (leaf_text second.now) ∷ sha256 (leaf_text third.now) ∷ sha256 (leaf_text fourth.now) ∷ [] }
 {
-    let mut texts = (
-        ByteBuf::new(),
-        ByteBuf::new(),
-        ByteBuf::new(),
-        ByteBuf::new(),
-    );
+    let mut texts = (ByteBuf::new(), ByteBuf::new());
     let first_is_whole = encode_leaf(first, &mut texts.0);
     let second_is_whole = encode_leaf(second, &mut texts.1);
-    let third_is_whole = encode_leaf(third, &mut texts.2);
-    let fourth_is_whole = encode_leaf(fourth, &mut texts.3);
-    let hashes = digests_of_four(
-        texts.0.as_slice(),
-        texts.1.as_slice(),
-        texts.2.as_slice(),
-        texts.3.as_slice(),
-    );
+    let hashes = hash_beside(texts.0.as_slice(), texts.1.as_slice(), third, fourth);
     [
         hash_from(first, first_is_whole, hashes[0]),
         hash_from(second, second_is_whole, hashes[1]),
-        hash_from(third, third_is_whole, hashes[2]),
-        hash_from(fourth, fourth_is_whole, hashes[3]),
+        hashes[2],
+        hashes[3],
     ]
 }
 

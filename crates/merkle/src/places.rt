@@ -97,7 +97,7 @@ fn do_window<P: Places>(jobs: &mut [Job], places: &P)
     do_neighbours(jobs, places);
 }
 
-/// Does jobs, window by window. Its frame has the room of four leaves, so it isn't part of one that calls itself.
+/// Does jobs, window by window. Its frame has the room of two leaves, so it isn't part of one that calls itself.
 #[inline(never)]
 pub(crate) fn do_jobs<P: Places>(jobs: &mut [Job], places: &P)
     requires { All (λ job. P.has places.now job.place) jobs.old }
