@@ -85,10 +85,10 @@ fn on_leaf_7(alloc: Global, place: Place, number: u16) -> Option<Option<Pair>> {
     Some(Some(pair?))
 }
 
-/// Appends the customers of six warehouses that stand on leaf 7, each with a text of 500 characters: several times what
-/// is hashed in one piece.
+/// Appends the customers of eleven warehouses that stand on leaf 7, each with a text of 500 characters: more than there is room
+/// for beside other leaves.
 pub fn push_long_leaf(alloc: Global, pairs: &mut Pairs) -> Option<()> {
-    for warehouse in 1..7 {
+    for warehouse in 1..12 {
         for district in 1..11 {
             for number in 1..3001 {
                 if let Some(pair) = on_leaf_7(alloc, (warehouse, district), number)? {

@@ -82,11 +82,11 @@ fn show_chosen<R: Threads + Sync + Print>(
     show_root(rt, alloc, name, &pairs)
 }
 
-/// Of more than 30 rows of one leaf, of all but seven, of all but fourteen, and so on.
+/// Of more than 60 rows of one leaf, of all but seven, of all but fourteen, and so on.
 fn show_long_leaf<R: Threads + Sync + Print>(rt: &R, alloc: Global) -> Option<()> {
     let mut pairs = Vec::new(alloc);
     push_long_leaf(alloc, &mut pairs)?;
-    let is_long = 30 < pairs.len();
+    let is_long = 60 < pairs.len();
     let count = (pairs.len() / 7) as u64;
     let mut agreeing = 0u64;
     for _ in 0..count {
