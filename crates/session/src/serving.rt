@@ -134,9 +134,10 @@ pub fn serve<R: Threads + Sync, I: Source, C: Read + Drop, S: Sink, G: Gate>(
     ensures image_failures { I.failed image.new ≡ I.failed image.old + (if is_image_read result then 1 else 0) }
     ensures sink_failures { S.failed sink.new ≡ S.failed sink.old + (if is_write result then 1 else 0) }
 {
-    let mut executor = match load_executor(rt, alloc, image) {
-        Ok(executor) => executor,
-        Err(fault) => return Err(fault),
-    };
-    serve_input(rt, alloc, &mut executor, input, sink, workers, gate)
+    // The executor is used where it was made: moved, it would take its room on the stack twice.
+    let mut loaded = load_executor(rt, alloc, image);
+    match &mut loaded {
+        Ok(executor) => serve_input(rt, alloc, executor, input, sink, workers, gate),
+        Err(fault) => Err(*fault),
+    }
 }
