@@ -1,21 +1,23 @@
 use Rattle.commands.specs.Commands.{commands}
-use Rattle.runner.proofs.WholeLemmas.{counted_none}
-use Rattle.session.proofs.WholeSessions.{left_whole, no_image_read, served_whole, unopened_session}
-use Rattle.std.proofs.Common.{arith, option_map, refl}
+use Rattle.session.proofs.WholeSessions.{left_whole, served_whole, unopened_session}
+use Rattle.std.proofs.Common.{Result, option_map, refl, subst}
+use Rattle.std.specs.Prelude.{IfErr, IfOk, IfSome}
+use Rattle.runner.specs.Openings.{IsOpened, IsUnopened}
 use Rattle.session.proofs.serving.serve.Goals as goal
 
 pub returns-in-Err-clause-err : goal.returns-in-Err-clause-err
-returns-in-Err-clause-err g c = unopened_session (g.I.Source.left c.args.image.now) (g.C.Read.remaining c.args.input) c.in-Err.fault (g.S.Sink.taken c.args.sink.now) c.in-Err.ensures.err
+returns-in-Err-clause-err g c =
+    unopened_session (g.I.Source.left c.args.image.now) (g.C.Read.remaining c.args.input) c.in-Err.fault (g.S.Sink.taken c.args.sink.now)
+    (subst (λ r. IfErr r (λ e. IfSome (g.I.Source.left c.args.image.now) (λ bytes. IsUnopened e bytes))) c.in-Err.is c.load_executor-loaded.ensures.err)
 
-pub returns-clause-ok : goal.returns-clause-ok
-returns-clause-ok g c =
+pub returns-in-Ok-clause-ok : goal.returns-in-Ok-clause-ok
+returns-in-Ok-clause-ok g c =
     served_whole (g.I.Source.left c.args.image.now) (g.C.Read.remaining c.args.input) c.in-Ok.executor (option_map commands (g.C.Read.remaining c.args.input))
-    (g.S.Sink.taken c.args.sink.now) (g.S.Sink.taken c.serve_input.new.sink) c.in-Ok.ensures.ok refl c.serve_input.result c.serve_input.ensures.ok
+    (g.S.Sink.taken c.args.sink.now) (g.S.Sink.taken c.serve_input.new.sink)
+    (subst (λ r. IfOk r (λ line. IfSome (g.I.Source.left c.args.image.now) (λ bytes. IsOpened bytes line))) c.in-Ok.is c.load_executor-loaded.ensures.ok) refl c.serve_input.result c.serve_input.ensures.ok
 
-pub returns-clause-err : goal.returns-clause-err
-returns-clause-err g c =
+pub returns-in-Ok-clause-err : goal.returns-in-Ok-clause-err
+returns-in-Ok-clause-err g c =
     left_whole (g.I.Source.left c.args.image.now) (g.C.Read.remaining c.args.input) c.in-Ok.executor (option_map commands (g.C.Read.remaining c.args.input))
-    (g.S.Sink.taken c.args.sink.now) (g.S.Sink.taken c.serve_input.new.sink) c.in-Ok.ensures.ok refl c.serve_input.result c.serve_input.ensures.kinds c.serve_input.ensures.err
-
-pub returns-clause-image_failures : goal.returns-clause-image_failures
-returns-clause-image_failures g c = counted_none _ _ _ (no_image_read c.serve_input.result c.serve_input.ensures.kinds) (omega (arith, c.in-Ok.ensures.image_failures))
+    (g.S.Sink.taken c.args.sink.now) (g.S.Sink.taken c.serve_input.new.sink)
+    (subst (λ r. IfOk r (λ line. IfSome (g.I.Source.left c.args.image.now) (λ bytes. IsOpened bytes line))) c.in-Ok.is c.load_executor-loaded.ensures.ok) refl c.serve_input.result c.serve_input.ensures.kinds c.serve_input.ensures.err
