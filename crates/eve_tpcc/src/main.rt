@@ -180,9 +180,33 @@ fn words<R: Env + AllocGlobal>(rt: &R) -> io::Result<Vec<String>> {
     Ok(env::args(rt)?.collect(rt.alloc())?)
 }
 
+/// Says why the words of the command line can't be read.
+fn words_unread(rt: &impl Eprint, error: &io::Error) -> ExitCode {
+    let why = match error.kind() {
+        io::ErrorKind::InvalidData => "a word that is not UTF-8",
+        _ => "no memory for its words",
+    };
+    let _ = eprintln!(rt; "eve-tpcc: command line: {why}");
+    ExitCode::from(2)
+}
+
+/// Says why the words of the command line are no line of the program, or helps.
+fn explain<R: Print + Eprint>(rt: &R, fault: &LineFault) -> ExitCode {
+    match fault {
+        LineFault::Refused(error) => {
+            let _ = error.print(rt);
+        }
+        LineFault::Unread => {
+            let _ = eprintln!(rt; "eve-tpcc: command line: no memory for its words");
+        }
+    }
+    ExitCode::from(line_status(fault))
+}
+
 fn main(rt: HostRuntime) -> ExitCode {
-    let Ok(words) = words(&rt) else {
-        return ExitCode::from(2);
+    let words = match words(&rt) {
+        Ok(words) => words,
+        Err(error) => return words_unread(&rt, &error),
     };
     match line_of(rt.alloc(), words) {
         Ok(
@@ -211,12 +235,6 @@ fn main(rt: HostRuntime) -> ExitCode {
             },
         ) => make(&rt, warehouses, customers, items),
         Ok(Line::Serve { image, workers }) => serve_commands(&rt, image.as_str(), workers),
-        Err(fault) => {
-            let status = line_status(&fault);
-            if let LineFault::Refused(error) = fault {
-                let _ = error.print(&rt);
-            }
-            ExitCode::from(status)
-        }
+        Err(fault) => explain(&rt, &fault),
     }
 }
