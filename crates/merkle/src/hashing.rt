@@ -28,7 +28,7 @@ const ROW_BYTES: usize = 536;
 const WAITING_BYTES: usize = 4096;
 
 /// How many bytes there is room for where a leaf is hashed beside three others.
-const LEAF_BYTES: usize = 30_000;
+const LEAF_BYTES: usize = 20_000;
 
 /// How many bytes the hash of a node is of.
 pub(crate) const NODE_BYTES: usize = 65;
@@ -83,6 +83,22 @@ impl Gathered {
     }
 }
 
+/// Room for the texts of two leaves. To make it takes as long as to hash a leaf, so it is used again.
+#[derive(Drop)]
+pub(crate) struct TwoTexts {
+    first: ByteBuf<LEAF_BYTES>,
+    second: ByteBuf<LEAF_BYTES>,
+}
+
+impl TwoTexts {
+    pub(crate) fn new() -> TwoTexts {
+        TwoTexts {
+            first: ByteBuf::new(),
+            second: ByteBuf::new(),
+        }
+    }
+}
+
 /// Prefetches the rows of a page; the answer is how many bytes suffice for them. A customer's row is reference-counted, and
 /// so lies apart from the page. Read one right after the other, before the first is encoded, the page's customers come from
 /// memory together, where the encoder would wait for each of them in its turn.
@@ -131,25 +147,10 @@ fn hash_from(page: &LeafRows, is_whole: bool, hash: [u8; 32]) -> [u8; 32]
     if is_whole { hash } else { hash_leaf(page) }
 }
 
-/// The hashes of two texts and of two leaves, at once. A leaf for whose text there is no room is hashed alone.
-#[inline(never)]
-fn hash_beside(first: &[u8], second: &[u8], third: &LeafRows, fourth: &LeafRows) -> [[u8; 32]; 4]
-    ensures { result ≡ sha256 first.now ∷ sha256 second.now ∷ sha256 (leaf_text third.now) ∷ sha256 (leaf_text fourth.now) ∷ [] }
-{
-    let mut texts = (ByteBuf::new(), ByteBuf::new());
-    let third_is_whole = encode_leaf(third, &mut texts.0);
-    let fourth_is_whole = encode_leaf(fourth, &mut texts.1);
-    let hashes = digests_of_four(first, second, texts.0.as_slice(), texts.1.as_slice());
-    [
-        hashes[0],
-        hashes[1],
-        hash_from(third, third_is_whole, hashes[2]),
-        hash_from(fourth, fourth_is_whole, hashes[3]),
-    ]
-}
-
-/// The hashes of four leaves, at once. The room of their texts is shared by two frames, so that none has more than 64 KB.
+/// The hashes of four leaves, at once. A leaf for whose text there is no room is hashed alone.
 pub(crate) fn hash_four_leaves(
+    front: &mut TwoTexts,
+    back: &mut TwoTexts,
     first: &LeafRows,
     second: &LeafRows,
     third: &LeafRows,
@@ -157,15 +158,21 @@ pub(crate) fn hash_four_leaves(
 ) -> [[u8; 32]; 4]
     ensures { result ≡ sha256 (leaf_text first.now) ∷ sha256 (leaf_text second.now) ∷ sha256 (leaf_text third.now) ∷ sha256 (leaf_text fourth.now) ∷ [] }
 {
-    let mut texts = (ByteBuf::new(), ByteBuf::new());
-    let first_is_whole = encode_leaf(first, &mut texts.0);
-    let second_is_whole = encode_leaf(second, &mut texts.1);
-    let hashes = hash_beside(texts.0.as_slice(), texts.1.as_slice(), third, fourth);
+    let first_is_whole = encode_leaf(first, &mut front.first);
+    let second_is_whole = encode_leaf(second, &mut front.second);
+    let third_is_whole = encode_leaf(third, &mut back.first);
+    let fourth_is_whole = encode_leaf(fourth, &mut back.second);
+    let hashes = digests_of_four(
+        front.first.as_slice(),
+        front.second.as_slice(),
+        back.first.as_slice(),
+        back.second.as_slice(),
+    );
     [
         hash_from(first, first_is_whole, hashes[0]),
         hash_from(second, second_is_whole, hashes[1]),
-        hashes[2],
-        hashes[3],
+        hash_from(third, third_is_whole, hashes[2]),
+        hash_from(fourth, fourth_is_whole, hashes[3]),
     ]
 }
 

@@ -2,7 +2,7 @@
 ghost use Rattle.std.specs.Prelude.{◌≡◌, ◌<◌, ◌∷◌, [], ℕ, All, length};
 ghost use Rattle.merkle.specs.Nodes.{at, rehashed};
 
-use crate::hashing::{hash_four_leaves, hash_leaf, prefetch_rows};
+use crate::hashing::{TwoTexts, hash_four_leaves, hash_leaf, prefetch_rows};
 use crate::jobs::{Job, gather_leaves, put_hashes};
 use crate::places::Places;
 use crate::shares::{Crew, do_jobs_on};
@@ -28,6 +28,12 @@ impl Places for Leaves<'_> {
 
     ghost hash = { λ leaves n. leaf_hash leaves.store.now.rows n };
 
+    type Room = TwoTexts;
+
+    fn room() -> TwoTexts {
+        TwoTexts::new()
+    }
+
     fn measure(&self, n: usize) -> usize {
         prefetch_rows(self.store.page(n))
     }
@@ -38,9 +44,24 @@ impl Places for Leaves<'_> {
     }
 
     #[tactic(auto, unfolding(tpcc_model::specs::Roots::leaf_hash))]
-    fn hash_four(&self, a: usize, b: usize, c: usize, d: usize) -> [[u8; 32]; 4] {
+    fn hash_four(
+        &self,
+        front: &mut TwoTexts,
+        back: &mut TwoTexts,
+        a: usize,
+        b: usize,
+        c: usize,
+        d: usize,
+    ) -> [[u8; 32]; 4] {
         let store = self.store;
-        hash_four_leaves(store.page(a), store.page(b), store.page(c), store.page(d))
+        hash_four_leaves(
+            front,
+            back,
+            store.page(a),
+            store.page(b),
+            store.page(c),
+            store.page(d),
+        )
     }
 }
 

@@ -38,6 +38,10 @@ impl Places for InnerNodes<'_> {
 
     ghost hash = { λ inner i. join_at inner.nodes.now i };
 
+    type Room = ();
+
+    fn room() {}
+
     fn measure(&self, _: usize) -> usize {
         NODE_BYTES
     }
@@ -46,7 +50,15 @@ impl Places for InnerNodes<'_> {
         join(&self.nodes[2 * i], &self.nodes[2 * i + 1])
     }
 
-    fn hash_four(&self, a: usize, b: usize, c: usize, d: usize) -> [[u8; 32]; 4] {
+    fn hash_four(
+        &self,
+        _: &mut (),
+        _: &mut (),
+        a: usize,
+        b: usize,
+        c: usize,
+        d: usize,
+    ) -> [[u8; 32]; 4] {
         digests_of_four(
             encode_at(self.nodes, a).as_slice(),
             encode_at(self.nodes, b).as_slice(),

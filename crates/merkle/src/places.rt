@@ -16,6 +16,12 @@ pub(crate) trait Places {
     // The hash of a place.
     ghost hash: { Self → ℕ → List ℕ };
 
+    /// Room for two of the four texts that are hashed at once. The other two have such a room in another frame, so that no frame
+    /// passes 64 KB; both are made once for many texts.
+    type Room: Drop;
+
+    fn room() -> Self::Room;
+
     /// How many bytes suffice for what the hash is of, which is prefetched where it lies far apart.
     fn measure(&self, place: usize) -> usize
         requires { has self.now place };
@@ -25,7 +31,15 @@ pub(crate) trait Places {
         ensures { result ≡ hash self.now place };
 
     /// Hashes four places at once.
-    fn hash_four(&self, a: usize, b: usize, c: usize, d: usize) -> [[u8; 32]; 4]
+    fn hash_four(
+        &self,
+        front: &mut Self::Room,
+        back: &mut Self::Room,
+        a: usize,
+        b: usize,
+        c: usize,
+        d: usize,
+    ) -> [[u8; 32]; 4]
         requires first { has self.now a }
         requires second { has self.now b }
         requires third { has self.now c }
@@ -54,58 +68,70 @@ fn do_few<P: Places>(jobs: &mut [Job], places: &P)
 }
 
 /// Does four jobs at once.
-fn do_four<P: Places>(jobs: &mut [Job], places: &P)
+fn do_four<P: Places>(jobs: &mut [Job], places: &P, front: &mut P::Room, back: &mut P::Room)
     requires four { length jobs.old ≡ 4 }
     requires there { All (λ job. P.has places.now job.place) jobs.old }
     ensures { IsDone (P.hash places.now) jobs.old jobs.new }
 {
-    let hashes = places.hash_four(jobs[0].place, jobs[1].place, jobs[2].place, jobs[3].place);
+    let [a, b, c, d] = [jobs[0].place, jobs[1].place, jobs[2].place, jobs[3].place];
+    let hashes = places.hash_four(front, back, a, b, c, d);
     give_hashes(jobs, &hashes);
 }
 
 /// Does four jobs, or the few that are left.
-fn do_group<P: Places>(jobs: &mut [Job], places: &P)
+fn do_group<P: Places>(jobs: &mut [Job], places: &P, front: &mut P::Room, back: &mut P::Room)
     requires { All (λ job. P.has places.now job.place) jobs.old }
     ensures { IsDone (P.hash places.now) jobs.old jobs.new }
 {
     if jobs.len() == 4 {
-        do_four(jobs, places);
+        do_four(jobs, places, front, back);
     } else {
         do_few(jobs, places);
     }
 }
 
 /// Does jobs, each four neighbours at once.
-fn do_neighbours<P: Places>(jobs: &mut [Job], places: &P)
+fn do_neighbours<P: Places>(jobs: &mut [Job], places: &P, front: &mut P::Room, back: &mut P::Room)
     requires { All (λ job. P.has places.now job.place) jobs.old }
     ensures { IsDone (P.hash places.now) jobs.old jobs.new }
 {
     for group in 0..jobs.len().div_ceil(4) {
         let start = 4 * group;
         let end = (start + 4).min(jobs.len());
-        do_group(&mut jobs[start..end], places);
+        do_group(&mut jobs[start..end], places, front, back);
     }
 }
 
 /// Does the jobs of a window.
-fn do_window<P: Places>(jobs: &mut [Job], places: &P)
+fn do_window<P: Places>(jobs: &mut [Job], places: &P, front: &mut P::Room, back: &mut P::Room)
     requires { All (λ job. P.has places.now job.place) jobs.old }
     ensures { IsDone (P.hash places.now) jobs.old jobs.new }
 {
     measure(jobs, places);
     jobs.sort_unstable_by_key(|job: &Job| -> usize { job.bytes });
-    do_neighbours(jobs, places);
+    do_neighbours(jobs, places, front, back);
 }
 
-/// Does jobs, window by window. Its frame has the room of two leaves, so it isn't part of one that calls itself.
+/// Does jobs, window by window.
+#[inline(never)]
+fn do_windows<P: Places>(jobs: &mut [Job], places: &P, front: &mut P::Room)
+    requires { All (λ job. P.has places.now job.place) jobs.old }
+    ensures { IsDone (P.hash places.now) jobs.old jobs.new }
+{
+    let mut back = P::room();
+    for window in 0..jobs.len().div_ceil(WINDOW) {
+        let start = WINDOW * window;
+        let end = (start + WINDOW).min(jobs.len());
+        do_window(&mut jobs[start..end], places, front, &mut back);
+    }
+}
+
+/// Does jobs. Its frame has a room, so it isn't part of one that calls itself.
 #[inline(never)]
 pub(crate) fn do_jobs<P: Places>(jobs: &mut [Job], places: &P)
     requires { All (λ job. P.has places.now job.place) jobs.old }
     ensures { IsDone (P.hash places.now) jobs.old jobs.new }
 {
-    for window in 0..jobs.len().div_ceil(WINDOW) {
-        let start = WINDOW * window;
-        let end = (start + WINDOW).min(jobs.len());
-        do_window(&mut jobs[start..end], places);
-    }
+    let mut front = P::room();
+    do_windows(jobs, places, &mut front);
 }

@@ -32,6 +32,8 @@ fn do_parts<R: Threads + Sync, P: Places + Sync>(
     first: &mut [Job],
     rest: &mut [Job],
 )
+where
+    P::Room: Send,
     requires size { 0 < size }
     requires first { All (λ job. P.has places.now job.place) first.old }
     requires rest { All (λ job. P.has places.now job.place) rest.old }
@@ -53,6 +55,8 @@ fn do_parts<R: Threads + Sync, P: Places + Sync>(
 /// same processor.
 #[cycle(shares)]
 fn do_shares<R: Threads + Sync, P: Places + Sync>(rt: &R, places: &P, size: usize, jobs: &mut [Job])
+where
+    P::Room: Send,
     requires size { 0 < size }
     requires there { All (λ job. P.has places.now job.place) jobs.old }
     ensures { IsDone (P.hash places.now) jobs.old jobs.new }
@@ -72,6 +76,8 @@ pub(crate) fn do_jobs_on<R: Threads + Sync, P: Places + Sync>(
     places: &P,
     paying: usize,
 )
+where
+    P::Room: Send,
     requires { All (λ job. P.has places.now job.place) jobs.old }
     ensures { IsDone (P.hash places.now) jobs.old jobs.new }
 {

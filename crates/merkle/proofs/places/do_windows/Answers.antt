@@ -1,6 +1,6 @@
 use Rattle.std.proofs.Common.{◌+◌, ◌-◌, ◌*◌, arith, length, min}
 use Rattle.merkle.proofs.Placing.{all-done, all-kept, all-part, step-done}
-use Rattle.merkle.proofs.places.do_jobs.Goals as goal
+use Rattle.merkle.proofs.places.do_windows.Goals as goal
 
 pub do_window-requires : goal.do_window-requires
 do_window-requires g c = all-part (λ job. g.P.Places.has c.args.places.now job.place) c.loop-window.jobs (16 * c.loop-window.window) (c.min-end.result - 16 * c.loop-window.window) (all-kept (g.P.Places.has c.args.places.now) c.args.jobs.now c.loop-window.jobs c.loop-window.invariant.places c.requires)
