@@ -5,5 +5,7 @@
 mod command;
 mod line;
 mod matches;
+mod words;
 
 pub use line::{Line, LineFault, line_of, line_status};
+pub use words::{WordsFault, words_of};

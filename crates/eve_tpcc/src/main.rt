@@ -7,15 +7,15 @@ ghost use Rattle.tpcc_rows.specs.Limits.{IsBetween};
 mod store_file;
 
 use crate::store_file::open_store;
-use command_line::{Line, LineFault, line_of, line_status};
+use command_line::{Line, LineFault, WordsFault, line_of, line_status, words_of};
 use records::io::Counting;
 use runner::{StoredRunFault, check_text, make_text, run_and_store, run_text, stored_fault_line};
 use session::serve;
 use std::io::Input;
 use std::process::ExitCode;
-use std::rt::{Env, Files};
+use std::rt::Files;
 use std::thread::Threads;
-use std::{env, fs, io, str};
+use std::{fs, io, str};
 use workers::{NoGate, Workers};
 
 fn cannot_open(rt: &impl Eprint, path: &str) -> ExitCode {
@@ -176,17 +176,9 @@ where
     }
 }
 
-fn words<R: Env + AllocGlobal>(rt: &R) -> io::Result<Vec<String>> {
-    Ok(env::args(rt)?.collect(rt.alloc())?)
-}
-
 /// Says why the words of the command line can't be read.
-fn words_unread(rt: &impl Eprint, error: &io::Error) -> ExitCode {
-    let why = match error.kind() {
-        io::ErrorKind::InvalidData => "a word that is not UTF-8",
-        _ => "no memory for its words",
-    };
-    let _ = eprintln!(rt; "eve-tpcc: command line: {why}");
+fn words_unread(rt: &impl Eprint, fault: WordsFault) -> ExitCode {
+    let _ = eprintln!(rt; "eve-tpcc: command line: {fault}");
     ExitCode::from(2)
 }
 
@@ -197,16 +189,16 @@ fn explain<R: Print + Eprint>(rt: &R, fault: &LineFault) -> ExitCode {
             let _ = error.print(rt);
         }
         LineFault::Unread => {
-            let _ = eprintln!(rt; "eve-tpcc: command line: no memory for its words");
+            let _ = eprintln!(rt; "eve-tpcc: command line: {}", WordsFault::Memory);
         }
     }
     ExitCode::from(line_status(fault))
 }
 
 fn main(rt: HostRuntime) -> ExitCode {
-    let words = match words(&rt) {
+    let words = match words_of(&rt, rt.alloc()) {
         Ok(words) => words,
-        Err(error) => return words_unread(&rt, &error),
+        Err(fault) => return words_unread(&rt, fault),
     };
     match line_of(rt.alloc(), words) {
         Ok(

@@ -2,8 +2,10 @@
 //! command line is printed, and what it comes to.
 #![tactic(auto)]
 
-use command_line::{Line, LineFault, line_of, line_status};
+use command_line::{Line, LineFault, line_of, line_status, words_of};
 use std::alloc::{AllocError, Global};
+use std::env::FillError;
+use std::rt::Env;
 
 /// Lines that are taken, that are refused, and that ask for help or the version.
 const LINES: [&str; 72] = [
@@ -98,6 +100,53 @@ const TEXTS: [&str; 13] = [
     "out/eve_tpcc run a b --workers",
 ];
 
+/// Words that the program is started with, some of which are not UTF-8.
+const STARTS: [&[&[u8]]; 5] = [
+    &[b"eve-tpcc", b"check", b"image.csv"],
+    &[],
+    &[b"eve-tpcc", b"check", b"im\xFFage.csv"],
+    &[b"\x80", b"run", b"\xFF"],
+    &[
+        b"eve-tpcc",
+        b"run",
+        b"\xC3\xA4.csv",
+        b"\xC3",
+        b"batches.csv",
+    ],
+];
+
+/// What a program is started with that has these words.
+#[derive(Clone, Copy)]
+struct Start<'a> {
+    words: &'a [&'a [u8]],
+}
+
+impl Env for Start<'_> {
+    fn arg(&self, i: usize, buf: &mut [u8]) -> Result<usize, FillError> {
+        let word = self.words.get(i).ok_or(FillError::NotPresent)?;
+        if word.len() > buf.len() {
+            return Err(FillError::TooLong);
+        }
+        buf[..word.len()].copy_from_slice(word);
+        Ok(word.len())
+    }
+
+    fn var(&self, _: &str, _: &mut [u8]) -> Result<usize, FillError> {
+        Err(FillError::NotPresent)
+    }
+
+    fn var_at(&self, _: usize, _: &mut [u8]) -> Result<usize, FillError> {
+        Err(FillError::NotPresent)
+    }
+}
+
+fn print_start<R: Print>(rt: &R, alloc: Global, words: &[&[u8]]) {
+    let _ = match words_of(&Start { words }, alloc) {
+        Ok(words) => println!(rt; "{} words", words.len()),
+        Err(fault) => println!(rt; "{fault}"),
+    };
+}
+
 fn words(alloc: Global, line: &str) -> Result<Vec<String>, AllocError> {
     let mut words = Vec::new(alloc);
     for word in line.split(' ') {
@@ -174,4 +223,10 @@ fn main(rt: HostRuntime) {
             Err(fault) => print_text(&rt, &fault),
         }
     }
+    let _ = println!(rt; "> words that are not UTF-8");
+    for words in STARTS {
+        print_start(&rt, rt.alloc(), words);
+    }
+    let long = [0xFF; 5000];
+    print_start(&rt, rt.alloc(), &[b"eve-tpcc", &long]);
 }
