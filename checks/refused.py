@@ -29,7 +29,9 @@ __attribute__((constructor)) static void begin(void) {
     growths = mmap(0, sizeof(long), PROT_READ | PROT_WRITE, MAP_SHARED, file, 0);
 }
 static int is_refused(void) {
-    if (!growths || atomic_fetch_add(growths, 1) + 1 != refused) return 0;
+    if (!growths) return 0;
+    long growth = atomic_fetch_add(growths, 1) + 1;
+    if (refused == 0 || (refused > 0 ? growth != refused : growth < -refused)) return 0;
     errno = ENOMEM;
     return 1;
 }
@@ -43,10 +45,10 @@ RUNS_A_LINE = 1000
 
 
 class Tried:
-    """A program whose growths are counted, and refused."""
+    """A program with its words, whose growths are counted, and refused."""
 
-    def __init__(self, program, folder):
-        self.program = os.path.abspath(program)
+    def __init__(self, words, folder):
+        self.words = [os.path.abspath(words[0]), *words[1:]]
         self.library = os.path.join(folder, 'refusing.so')
         self.growths = os.path.join(folder, 'growths')
         source = os.path.join(folder, 'refusing.c')
@@ -55,11 +57,12 @@ class Tried:
         subprocess.run(['cc', '-O2', '-shared', '-fPIC', '-o', self.library, source], check=True)
 
     def run(self, refused):
-        """What the program prints and says, its status, and its growths, of which this one is refused; none where it is 0."""
+        """What the program prints and says, its status, and its growths, of which this one is refused; none where it is 0, and
+        all from the Nth on where it is -N."""
         with open(self.growths, 'wb') as file:
             file.write(bytes(8))
         names = {'LD_PRELOAD': self.library, 'GROWTHS': self.growths, 'REFUSED': str(refused)}
-        ended = subprocess.run([self.program], env={**os.environ, **names}, stdin=subprocess.DEVNULL,
+        ended = subprocess.run(self.words, env={**os.environ, **names}, stdin=subprocess.DEVNULL,
                                capture_output=True, timeout=120)
         with open(self.growths, 'rb') as file:
             return ended, int.from_bytes(file.read(), sys.byteorder)
@@ -87,7 +90,7 @@ def main(program, wanted, first=1, last=None):
         wanted = file.read()
     counts = {'whole': 0, 'refused': 0, 'wrong': 0}
     with tempfile.TemporaryDirectory() as folder:
-        tried = Tried(program, folder)
+        tried = Tried([program], folder)
         ended, growths = tried.run(0)
         if kind_of(ended, wanted) != 'whole':
             sys.exit('with ample memory the program prints something else')
