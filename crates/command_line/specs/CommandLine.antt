@@ -1,8 +1,9 @@
 -- The words that the program takes, and the line that they are.
-use Rattle.std.specs.Prelude.{[], ◌∷◌, ◌≡◌, ℕ, ⊤, IsSomeAnd, List, Option, Some, String, codes, false, option_map, pos}
+use Rattle.std.specs.Prelude.{[], ◌∷◌, ◌≡◌, ℕ, ⊤, IfOk, IsSomeAnd, List, Option, Result, Some, String, codes, false, option_map, pos}
 use Rattle.std.specs.Prelude.{string_bytes, true}
 use Rattle.std.specs.Int.{IsInRange}
 use Rattle.std.specs.Str.Parse.{IsNumeral, digits_value, without_leading_plus}
+use Rattle.std.specs.declared.alloc.AllocError.{AllocError}
 use Rattle.std.specs.declared.alloc.Global.{Global}
 use Rattle.clap.specs.Words.{App, IsAmong, Kinds, Row, Rule, Text, app_of, first_of}
 use Rattle.clap.specs.Words.{found_of, kind_of, new_app, new_rule, rows_of}
@@ -100,6 +101,11 @@ IsArgument rule argument = (rule_of argument ≡ rule) × (argument.global ≡ f
 -- a command of this form, with no argument that its subcommands share
 abbrev pub IsCommand : App → Command → Type 0
 IsCommand app command = (app_of command ≡ app) × ((out-Command command).has_globals ≡ false)
+
+-- if both commands were made, and these are their forms, the result is one with the second as a subcommand of the first, or none
+abbrev pub Joins : Result Command AllocError → Result Command AllocError → Result Command AllocError → Type 0
+Joins command subcommand result = (app below : App) → IfOk command (IsCommand app) → IfOk subcommand (IsCommand below)
+    → IfOk result (IsCommand (with_subcommand app below.top))
 
 -- ---- what the matches say
 

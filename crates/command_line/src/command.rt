@@ -2,7 +2,7 @@
 ghost use Rattle.std.specs.Prelude.{◌≡◌, ◌≤◌, IfOk, pos};
 ghost use Rattle.clap.specs.Words.{new_app};
 ghost use Rattle.clap.specs.declared.builder.value_parser.ValueParser.TheVariants.{Signed};
-ghost use Rattle.command_line.specs.CommandLine.{IsArgument, IsCommand, bare_app, check_app, make_app};
+ghost use Rattle.command_line.specs.CommandLine.{IsArgument, IsCommand, Joins, bare_app, check_app, make_app};
 ghost use Rattle.command_line.specs.CommandLine.{number_rule, program_app, ranged_rule, required_rule, run_app};
 ghost use Rattle.command_line.specs.CommandLine.{serve_app, store_rule, workers_rule};
 
@@ -133,17 +133,23 @@ fn bare<'a>(alloc: Global) -> Result<Command<'a>, AllocError>
     Ok(command)
 }
 
+/// A command with one subcommand more, where memory suffices for all of it.
+fn joined<'a>(
+    command: Result<Command<'a>, AllocError>,
+    subcommand: Result<Command<'a>, AllocError>,
+) -> Result<Command<'a>, AllocError>
+    ensures { Joins command.entry subcommand.entry result }
+{
+    let subcommand = subcommand?;
+    command?.subcommand(subcommand)
+}
+
 /// The command of the program.
 pub fn program<'a>(alloc: Global) -> Result<Command<'a>, AllocError>
     ensures { IfOk result (IsCommand program_app) }
 {
-    let run = run(alloc)?;
-    let check = check(alloc)?;
-    let make = make(alloc)?;
-    let serve = serve(alloc)?;
-    bare(alloc)?
-        .subcommand(run)?
-        .subcommand(check)?
-        .subcommand(make)?
-        .subcommand(serve)
+    let with_run = joined(bare(alloc), run(alloc));
+    let with_check = joined(with_run, check(alloc));
+    let with_make = joined(with_check, make(alloc));
+    joined(with_make, serve(alloc))
 }
