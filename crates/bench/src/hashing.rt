@@ -23,7 +23,8 @@ use tpcc_rows::row_buf::{ByteBuf, RowBuf};
 /// How often each time is taken; the least counts.
 const ROUNDS: u32 = 20;
 
-fn push_page(page: &LeafRows, bytes: &mut Vec<u8>) -> Result<(), AllocError> {
+/// Appends the rows of a page, as they are hashed.
+pub fn push_page(page: &LeafRows, bytes: &mut Vec<u8>) -> Result<(), AllocError> {
     let mut buffer = RowBuf::new();
     for (key, row) in page.as_slice() {
         encode_row(key, row, &mut buffer);
