@@ -230,11 +230,15 @@ fn push_outcome(fields: &mut ByteRecord, reply: &Reply) -> Result<(), Memory>
 }
 
 /// The record of a reply.
-fn reply_record(alloc: Global, number: u64, reply: &Reply) -> Result<ByteRecord, Memory>
+pub fn reply_record(
+    alloc: Global,
+    number: RequestNumber,
+    reply: &Reply,
+) -> Result<ByteRecord, Memory>
     ensures { IfOk result (λ fields. fields_of fields ≡ reply_fields number reply.now) }
 {
     let mut fields = ByteRecord::new(alloc);
-    push_number(&mut fields, number)?;
+    push_number(&mut fields, number.number())?;
     push_outcome(&mut fields, reply)?;
     Ok(fields)
 }
@@ -249,7 +253,7 @@ pub fn write_reply(
     ensures ok { OnOk result (out.new.items ≡ out.old.items ++ reply_text number reply.now) }
     ensures err { OnErr result (out.new.items ≡ out.old.items) }
 {
-    let fields = reply_record(alloc, number.number(), reply)?;
+    let fields = reply_record(alloc, number, reply)?;
     let text = record_text(alloc, &fields)?;
     out.extend_from_slice(text.as_slice())?;
     Ok(())

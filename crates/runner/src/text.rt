@@ -1,15 +1,17 @@
 //! The text of a batch: the records of its replies, and its own.
 ghost use Rattle.std.specs.Prelude.{◌≡◌, ◌++◌, ◌+◌, ◌≤◌, ◌∷◌, [], length, IfOk, OnOk};
-ghost use Rattle.csv.specs.Records.{partial_of};
+ghost use Rattle.csv.specs.Records.{fields_of, partial_of};
 ghost use Rattle.records.specs.Spelling.{AddsFields};
+ghost use Rattle.records.specs.Writer.{IsWriting, written};
 ghost use Rattle.runner.specs.Text.{batch_record_fields, batch_record_text, path_word, replies_text, token_digits};
 
-use csv::ByteRecord;
+use csv::{ByteRecord, Writer};
 use executor::Record;
 use executor::path::Path;
-use records::record_text::{push, push_number, record_text};
+use records::record_text::{push, push_number};
+use records::record_writer::{record_writer, write_record, written_text};
 use requests::reply::Reply;
-use requests::reply_text::write_reply;
+use requests::reply_text::reply_record;
 use std::alloc::Global;
 use tpcc_rows::id::RequestNumber;
 use tpcc_rows::memory::Memory;
@@ -20,16 +22,19 @@ fn write_replies(
     alloc: Global,
     first: u64,
     replies: &[Reply],
-    text: &mut Vec<u8>,
+    writer: &mut Writer<Vec<u8>>,
 ) -> Result<(), Memory>
     requires low { 1 ≤ first }
     requires high { first + length replies.now ≤ END_OF_NUMBERS }
-    ensures { OnOk result (text.new.items ≡ text.old.items ++ replies_text first replies.now) }
+    requires writing { IsWriting writer.old }
+    ensures writing { OnOk result (IsWriting writer.new) }
+    ensures text { OnOk result (written writer.new ≡ written writer.old ++ replies_text first replies.now) }
 {
     let mut next = first;
     for reply in replies {
         let number = RequestNumber::new(next).unwrap();
-        write_reply(alloc, number, reply, text)?;
+        let fields = reply_record(alloc, number, reply)?;
+        write_record(writer, &fields)?;
         next += 1;
     }
     Ok(())
@@ -89,17 +94,18 @@ fn push_batch(
     push_token(fields, token)
 }
 
-fn batch_record_text(
+/// The record of a batch that was executed this way.
+fn batch_record(
     alloc: Global,
     sequence: u64,
     path: Path,
     token: &[u8; 32],
-) -> Result<Vec<u8>, Memory>
-    ensures { IfOk result (λ v. v.items ≡ batch_record_text sequence path token.now) }
+) -> Result<ByteRecord, Memory>
+    ensures { IfOk result (λ fields. fields_of fields ≡ batch_record_fields sequence path token.now) }
 {
     let mut fields = ByteRecord::new(alloc);
     push_batch(&mut fields, sequence, path, token)?;
-    record_text(alloc, &fields)
+    Ok(fields)
 }
 
 /// The text of a batch that did this.
@@ -109,9 +115,9 @@ pub fn batch_text(alloc: Global, done: &Record) -> Result<Vec<u8>, Memory>
     ensures { IfOk result (λ v. v.items ≡ replies_text done.now.first done.now.replies.items
         ++ batch_record_text done.now.sequence done.now.path done.now.token) }
 {
-    let mut text = Vec::new(alloc);
-    write_replies(alloc, done.first, done.replies.as_slice(), &mut text)?;
-    let last = batch_record_text(alloc, done.sequence, done.path, &done.token)?;
-    text.extend_from_slice(last.as_slice())?;
-    Ok(text)
+    let mut writer = record_writer(alloc);
+    write_replies(alloc, done.first, done.replies.as_slice(), &mut writer)?;
+    let last = batch_record(alloc, done.sequence, done.path, &done.token)?;
+    write_record(&mut writer, &last)?;
+    written_text(writer)
 }

@@ -1,4 +1,5 @@
 use Rattle.std.proofs.Common.{◌≡◌, ◌+◌, ◌++◌, drop}
+use Rattle.records.specs.Writer.{IsWriting, written}
 use Rattle.runner.specs.Text.{replies_text}
 use Rattle.runner.proofs.text.write_replies.Given as goal
 
@@ -6,4 +7,5 @@ use Rattle.runner.proofs.text.write_replies.Given as goal
 abbrev pub invariant-loop-reply : goal.invariant-loop-reply
 invariant-loop-reply l =
     (l.next ≡ l.first + l.reply-index)
-    × (l.text.items ++ replies_text l.next (drop l.reply-index l.replies) ≡ l.fn.text.items ++ replies_text l.first l.replies)
+    × (IsWriting l.writer
+    × (written l.writer ++ replies_text l.next (drop l.reply-index l.replies) ≡ written l.fn.writer ++ replies_text l.first l.replies))
