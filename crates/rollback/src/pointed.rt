@@ -205,7 +205,7 @@ impl PointedStore {
         ensures points { self.new.points ≡ self.old.points }
         ensures clean { KeepsCleanLeaves self.old self.new }
     {
-        for (key, new_row) in delta.iter() {
+        for (key, new_row) in delta.as_slice() {
             self.change(key, new_row)?;
         }
         Ok(())

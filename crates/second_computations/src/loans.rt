@@ -35,7 +35,7 @@ const REQUESTS: [(&str, &str, &str); 7] = [
 
 fn push_changes(delta: &Delta, bytes: &mut Vec<u8>) -> Result<(), Memory> {
     let mut buffer = RowBuf::new();
-    for (key, change) in delta.iter() {
+    for (key, change) in delta.as_slice() {
         match change {
             Some(row) => encode_row(key, row, &mut buffer),
             None => buffer.clear(),
