@@ -26,7 +26,8 @@ use tpcc_rows::id::{ItemId, OrderId};
 use tpcc_rows::row::{DistrictRow, OrderLineRow};
 use worker_rows::{RowView, Strayed, order_line_row};
 
-/// Whether the item's stock in the warehouse is low. One without a card is not looked at.
+/// Whether the item's stock in the warehouse is low. One without a card is not looked at; few are low, so that the row is read before
+/// the card is looked for.
 #[tactic(auto, using(crate::proofs::LentTouches::covers_reading), unfolding(tpcc_model::specs::StockLevels::is_low))]
 fn is_low<V: RowView>(
     catalog: &Catalog,
@@ -37,12 +38,13 @@ fn is_low<V: RowView>(
     ensures strays { is_ok result ≡ covers (V.sees view.now) (item_touch p.now item (stock_card catalog.now p.now.warehouse item)) }
     ensures low { IfOk result (λ low. low ≡ is_low (lent_database catalog.now (V.sees view.now)) p.now item) }
 {
-    if catalog.stock(p.warehouse, item).is_none() {
-        return Ok(false);
-    }
-    match lent::read_stock(view, p.warehouse, item)? {
-        Some(stock) => Ok(stock.quantity.value() < i16::from(p.threshold.value())),
-        None => Ok(false),
+    match lent::read_stock(view, p.warehouse, item) {
+        Ok(Some(stock)) if stock.quantity.value() < i16::from(p.threshold.value()) => {
+            Ok(catalog.stock(p.warehouse, item).is_some())
+        }
+        Ok(_) => Ok(false),
+        Err(Strayed) if catalog.stock(p.warehouse, item).is_some() => Err(Strayed),
+        Err(Strayed) => Ok(false),
     }
 }
 
