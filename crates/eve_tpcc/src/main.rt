@@ -4,14 +4,12 @@
 
 ghost use Rattle.tpcc_rows.specs.Limits.{IsBetween};
 
-mod fault_line;
 mod store_file;
 
-use crate::fault_line::fault_line;
 use crate::store_file::open_store;
 use command_line::{Line, LineFault, WordsFault, line_of, line_status, words_of};
 use records::io::Counting;
-use runner::{StoredRunFault, check_text, make_text, run_and_store, run_text};
+use runner::{StoredRunFault, check_text, make_text, run_and_store, run_text, stored_line};
 use session::serve;
 use std::io::Input;
 use std::process::ExitCode;
@@ -32,7 +30,7 @@ fn cannot_create(rt: &impl Eprint, path: &str) -> ExitCode {
 
 /// Prints the line of a fault. It takes no memory.
 fn report(rt: &impl Eprint, fault: &StoredRunFault) -> ExitCode {
-    if let Ok(text) = str::from_utf8(fault_line(fault).as_slice()) {
+    if let Ok(text) = str::from_utf8(stored_line(fault).as_slice()) {
         let _ = eprint!(rt; "{text}");
     }
     ExitCode::FAILURE

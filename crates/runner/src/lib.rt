@@ -4,6 +4,7 @@
 mod check;
 mod crew;
 pub mod fault;
+mod lines;
 mod make;
 mod opening;
 mod run;
@@ -14,6 +15,7 @@ pub mod text;
 
 pub use check::check_text;
 pub use fault::{RunFault, fault_line};
+pub use lines::{FaultLine, stored_line};
 pub use make::make_text;
 pub use opening::load_executor;
 pub use run::run_text;

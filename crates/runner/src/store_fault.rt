@@ -1,9 +1,9 @@
 //! Why a run that stores its last state ends early, and the line that says so.
-ghost use Rattle.std.specs.Prelude.{◌≡◌, ◌++◌, IfOk, OnErr, OnOk};
-ghost use Rattle.runner.specs.FaultText.{store_code_of, store_fault_text, store_name_of, stored_fault_text};
+ghost use Rattle.std.specs.Prelude.{◌≡◌, ◌++◌, OnErr, OnOk};
+ghost use Rattle.runner.specs.FaultText.{store_code_of, store_name_of, stored_fault_text};
 
-use crate::fault::{RunFault, line_of, run_line};
-use std::alloc::Global;
+use crate::fault::RunFault;
+use crate::lines::stored_line;
 use thiserror::Error;
 use tpcc_rows::memory::Memory;
 
@@ -55,38 +55,11 @@ pub enum StoredRunFault {
     Both(RunFault, StoreFault),
 }
 
-fn store_line(alloc: Global, fault: StoreFault) -> Result<Vec<u8>, Memory>
-    ensures { IfOk result (λ line. line.items ≡ store_fault_text fault) }
-{
-    line_of(alloc, "store", fault.code(), fault.name(), None, None)
-}
-
-fn stored_line(alloc: Global, fault: StoredRunFault) -> Result<Vec<u8>, Memory>
-    ensures { IfOk result (λ line. line.items ≡ stored_fault_text fault) }
-{
-    match fault {
-        StoredRunFault::Run(fault) => run_line(alloc, fault),
-        StoredRunFault::Store(fault) => store_line(alloc, fault),
-        StoredRunFault::Both(fault, store) => {
-            let mut line = run_line(alloc, fault)?;
-            let store = store_line(alloc, store)?;
-            line.extend_from_slice(store.as_slice())?;
-            Ok(line)
-        }
-    }
-}
-
-/// Appends the line that reports a fault, as `fault_line` does; the part of an image that isn't written is `store`, and where the run
-/// itself ended early, its line stands behind the run's. A refusal changes nothing.
-pub fn stored_fault_line(
-    alloc: Global,
-    fault: &StoredRunFault,
-    out: &mut Vec<u8>,
-) -> Result<(), Memory>
+/// Appends the line that reports a fault, or the two lines. A refusal changes nothing.
+pub fn stored_fault_line(fault: &StoredRunFault, out: &mut Vec<u8>) -> Result<(), Memory>
     ensures ok { OnOk result (out.new.items ≡ out.old.items ++ stored_fault_text fault.now) }
     ensures err { OnErr result (out.new.items ≡ out.old.items) }
 {
-    let line = stored_line(alloc, *fault)?;
-    out.extend_from_slice(line.as_slice())?;
+    out.extend_from_slice(stored_line(fault).as_slice())?;
     Ok(())
 }

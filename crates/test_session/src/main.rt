@@ -125,7 +125,7 @@ fn print_outcome<R: Print + AllocGlobal>(rt: &R, outcome: &Outcome) {
         return;
     };
     let mut line = Vec::new(rt.alloc());
-    if fault_line(rt.alloc(), &fault, &mut line).is_ok() {
+    if fault_line(&fault, &mut line).is_ok() {
         if let Ok(text) = str::from_utf8(line.as_slice()) {
             let _ = print!(rt; "{text}");
         }

@@ -114,7 +114,7 @@ fn print_fault<R: Print + AllocGlobal>(rt: &R, fault: Option<StoredRunFault>) {
         return;
     };
     let mut line = Vec::new(rt.alloc());
-    if stored_fault_line(rt.alloc(), &fault, &mut line).is_ok() {
+    if stored_fault_line(&fault, &mut line).is_ok() {
         print_bytes(rt, line.as_slice());
     }
 }

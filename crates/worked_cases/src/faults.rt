@@ -62,7 +62,7 @@ pub fn answer_of(alloc: Global, fault: Option<RunFault>) -> Result<Vec<u8>, Memo
         return Ok(b"no fault".to_vec(alloc)?);
     };
     let mut line = Vec::new(alloc);
-    fault_line(alloc, &fault, &mut line)?;
+    fault_line(&fault, &mut line)?;
     let text = line.as_slice();
     let text = text.strip_prefix(HEAD).unwrap_or(text);
     Ok(text.strip_suffix(b"\n").unwrap_or(text).to_vec(alloc)?)
@@ -97,9 +97,9 @@ const FAULTS: [RunFault; 24] = [
 ];
 
 /// Shows the line of each fault.
-pub fn show_faults(alloc: Global, out: &mut Vec<u8>) -> Result<(), Memory> {
+pub fn show_faults(out: &mut Vec<u8>) -> Result<(), Memory> {
     for fault in FAULTS {
-        fault_line(alloc, &fault, out)?;
+        fault_line(&fault, out)?;
     }
     Ok(())
 }

@@ -47,7 +47,7 @@ pub fn printed<R: Threads + Sync + AllocGlobal>(
     );
     let mut text = sink.bytes;
     if let Err(fault) = answer {
-        fault_line(rt.alloc(), &fault, &mut text)?;
+        fault_line(&fault, &mut text)?;
     }
     Ok(text)
 }
@@ -69,7 +69,7 @@ pub fn checked<R: Threads + Sync + AllocGlobal>(
     );
     let mut text = sink.bytes;
     if let Err(fault) = answer {
-        fault_line(rt.alloc(), &fault, &mut text)?;
+        fault_line(&fault, &mut text)?;
     }
     Ok(text)
 }

@@ -406,7 +406,7 @@ impl Script {
             "field" => self.show_field(rest)?,
             "cuts" => self.show_cuts()?,
             "ends" => show_ends(self.alloc, &mut self.out)?,
-            "faults" => show_faults(self.alloc, &mut self.out)?,
+            "faults" => show_faults(&mut self.out)?,
             _ => return Ok(false),
         }
         Ok(true)

@@ -351,7 +351,7 @@ fn cents_of(row: &Option<Row>) -> Option<i64> {
 
 fn show_merged(rt: &impl Print, merged: &Delta) {
     let _ = print!(rt; "merged:");
-    for (key, row) in merged.iter() {
+    for (key, row) in merged.as_slice() {
         if let RowKey::Warehouse { warehouse } = key {
             let _ = print!(rt; " {} {:?}", warehouse.number(), cents_of(row));
         }

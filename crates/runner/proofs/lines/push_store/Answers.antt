@@ -1,7 +1,7 @@
 use Rattle.std.proofs.Common.{ap, ◌++◌, ◌∙◌}
 use Rattle.std.specs.Prelude.{None, codes}
 use Rattle.runner.specs.FaultText.{line_text, store_code_of, store_fault_text}
-use Rattle.eve_tpcc.proofs.fault_line.push_store.Goals as goal
+use Rattle.runner.proofs.lines.push_store.Goals as goal
 
 pub returns : goal.returns
 unfolding store_fault_text

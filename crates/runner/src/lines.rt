@@ -2,8 +2,9 @@
 ghost use Rattle.std.specs.Prelude.{◌≡◌, ◌≤◌, ◌+◌, ◌*◌, ◌++◌, length};
 ghost use Rattle.runner.specs.FaultText.{condition_text, fault_text, line_text, place_text, store_fault_text, stored_fault_text};
 
+use crate::fault::RunFault;
+use crate::store_fault::{StoreFault, StoredRunFault};
 use itoa::Buffer;
-use runner::{RunFault, StoreFault, StoredRunFault};
 use tpcc_rows::row_buf::ByteBuf;
 
 /// More than the longest line has.
@@ -81,8 +82,19 @@ fn push_store(line: &mut FaultLine, fault: StoreFault)
     push_line(line, "store", fault.code(), fault.name(), None, None);
 }
 
-/// The line that reports a fault, or the two lines.
-pub fn fault_line(fault: &StoredRunFault) -> FaultLine
+/// The line that reports a fault of a run: `eve-tpcc: <part>: <code> <Name>`, with ` at record <n>` behind it where the fault has a
+/// record, and its line feed.
+pub(crate) fn run_line(fault: RunFault) -> FaultLine
+    ensures { result ≡ fault_text fault }
+{
+    let mut line = FaultLine::new();
+    push_run(&mut line, fault);
+    line
+}
+
+/// The line that reports a fault, or the two lines: the part of an image that isn't written is `store`, and where the run itself ended
+/// early, its line stands behind the run's.
+pub fn stored_line(fault: &StoredRunFault) -> FaultLine
     ensures { result ≡ stored_fault_text fault.now }
 {
     let mut line = FaultLine::new();
