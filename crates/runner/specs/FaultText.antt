@@ -45,18 +45,15 @@ abbrev pub condition_of : RunFault → Option ℕ
 condition_of (run_fault.Load (load_error.Inconsistent k)) = Some k
 condition_of _ = None
 
-abbrev pub condition_text : Option ℕ → List ℕ
-condition_text None = []
-condition_text (Some k) = codes "(" ++ decimal k ++ codes ")"
-
-abbrev pub place_text : Option ℕ → List ℕ
-place_text None = []
-place_text (Some n) = codes " at record " ++ decimal n
+-- the number, where there is one, between two texts
+abbrev pub number_text : List ℕ → Option ℕ → List ℕ → List ℕ
+number_text before None after = []
+number_text before (Some n) after = before ++ decimal n ++ after
 
 -- `eve-tpcc: <part>: <code> <Name>`, the condition or the record where there is one, and a line feed
 abbrev pub line_text : List ℕ → ℕ → List ℕ → Option ℕ → Option ℕ → List ℕ
 line_text part code name condition place =
-    codes "eve-tpcc: " ++ part ++ codes ": " ++ decimal code ++ codes " " ++ name ++ condition_text condition ++ place_text place ++ 10 ∷ []
+    codes "eve-tpcc: " ++ part ++ codes ": " ++ decimal code ++ codes " " ++ name ++ number_text (codes "(") condition (codes ")") ++ number_text (codes " at record ") place [] ++ 10 ∷ []
 
 -- the line of a fault of a run
 unfoldable pub fault_text : RunFault → List ℕ

@@ -90,7 +90,8 @@ impl RunFault {
     }
 }
 
-/// Appends the line that reports a fault. A refusal changes nothing.
+/// Appends the line that reports a fault: `eve-tpcc: <part>: <code> <Name>`, behind it `(<k>)` where condition k of the database
+/// doesn't hold, or ` at record <n>` where the fault has a record, and a line feed. A refusal changes nothing.
 pub fn fault_line(fault: &RunFault, out: &mut Vec<u8>) -> Result<(), Memory>
     ensures ok { OnOk result (out.new.items ≡ out.old.items ++ fault_text fault.now) }
     ensures err { OnErr result (out.new.items ≡ out.old.items) }

@@ -1,6 +1,6 @@
 //! The line of a fault, in a value of fixed size: it is there where memory is refused, too.
 ghost use Rattle.std.specs.Prelude.{◌≡◌, ◌≤◌, ◌+◌, ◌*◌, ◌++◌, length};
-ghost use Rattle.runner.specs.FaultText.{condition_text, fault_text, line_text, place_text, store_fault_text, stored_fault_text};
+ghost use Rattle.runner.specs.FaultText.{fault_text, line_text, number_text, store_fault_text, stored_fault_text};
 
 use crate::fault::RunFault;
 use crate::store_fault::{StoreFault, StoredRunFault};
@@ -10,32 +10,38 @@ use tpcc_rows::row_buf::ByteBuf;
 /// More than the longest line has.
 const LINE_BYTES: usize = 200;
 
+/// What two lines have at most.
+const TWO_LINES: usize = 2 * LINE_BYTES;
+
+/// The most bytes of the name of a part.
+const PART_BYTES: usize = 10;
+
+/// The most bytes of the name of a fault.
+const NAME_BYTES: usize = 20;
+
+/// The most bytes of a text on one side of a number.
+const SIDE_BYTES: usize = 20;
+
+/// The most bytes of a number with a text on each side.
+const NUMBER_BYTES: usize = 60;
+
 /// Room for the two lines of a run that ended early and whose image wasn't written either.
-pub type FaultLine = ByteBuf<400>;
+pub type FaultLine = ByteBuf<TWO_LINES>;
 
-fn push_condition(line: &mut FaultLine, condition: Option<u8>)
-    requires { length line.old + 50 ≤ 2 * LINE_BYTES }
-    ensures text { line.new ≡ line.old ++ condition_text condition }
-    ensures short { length line.new ≤ length line.old + 50 }
+/// Appends the number, where there is one, between two texts.
+fn push_number(line: &mut FaultLine, before: &str, number: Option<u64>, after: &str)
+    requires room { length line.old + NUMBER_BYTES ≤ TWO_LINES }
+    requires before { length before.now ≤ SIDE_BYTES }
+    requires after { length after.now ≤ SIDE_BYTES }
+    ensures text { line.new ≡ line.old ++ number_text before.now number after.now }
+    ensures short { length line.new ≤ length line.old + NUMBER_BYTES }
 {
-    let Some(condition) = condition else {
+    let Some(number) = number else {
         return;
     };
-    line.push(b"(");
-    line.push(Buffer::new().format(condition).as_bytes());
-    line.push(b")");
-}
-
-fn push_place(line: &mut FaultLine, place: Option<u64>)
-    requires { length line.old + 60 ≤ 2 * LINE_BYTES }
-    ensures text { line.new ≡ line.old ++ place_text place }
-    ensures short { length line.new ≤ length line.old + 60 }
-{
-    let Some(number) = place else {
-        return;
-    };
-    line.push(b" at record ");
+    line.push(before.as_bytes());
     line.push(Buffer::new().format(number).as_bytes());
+    line.push(after.as_bytes());
 }
 
 /// Appends the line of a fault of this part, with this number and this name.
@@ -48,8 +54,8 @@ fn push_line(
     place: Option<u64>,
 )
     requires room { length line.old ≤ LINE_BYTES }
-    requires part { length part.now ≤ 10 }
-    requires name { length name.now ≤ 20 }
+    requires part { length part.now ≤ PART_BYTES }
+    requires name { length name.now ≤ NAME_BYTES }
     ensures text { line.new ≡ line.old ++ line_text part.now code name.now condition place }
     ensures short { length line.new ≤ length line.old + LINE_BYTES }
 {
@@ -59,8 +65,8 @@ fn push_line(
     line.push(Buffer::new().format(code).as_bytes());
     line.push(b" ");
     line.push(name.as_bytes());
-    push_condition(line, condition);
-    push_place(line, place);
+    push_number(line, "(", condition.map(u64::from), ")");
+    push_number(line, " at record ", place, "");
     line.push(b"\n");
 }
 
@@ -82,8 +88,7 @@ fn push_store(line: &mut FaultLine, fault: StoreFault)
     push_line(line, "store", fault.code(), fault.name(), None, None);
 }
 
-/// The line that reports a fault of a run: `eve-tpcc: <part>: <code> <Name>`, with ` at record <n>` behind it where the fault has a
-/// record, and its line feed.
+/// The line that reports a fault of a run, as `fault_line` appends it.
 pub(crate) fn run_line(fault: RunFault) -> FaultLine
     ensures { result ≡ fault_text fault }
 {
