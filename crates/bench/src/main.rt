@@ -14,10 +14,10 @@ mod requests_text;
 mod signatures;
 mod timing;
 
+use hashers::Host;
 use std::env;
 use std::process::ExitCode;
 use std::rt::{Clock, Env};
-use std::thread::Threads;
 
 /// The first word of the command line behind the program's name, where there is one.
 fn asked<R: Env + AllocGlobal>(rt: &R) -> Option<String> {
@@ -25,7 +25,7 @@ fn asked<R: Env + AllocGlobal>(rt: &R) -> Option<String> {
 }
 
 /// None where there is no such measurement, or it fails.
-fn measure<R: Clock + Eprint + AllocGlobal + Threads + Sync>(rt: &R, what: &str) -> Option<()> {
+fn measure<R: Clock + Eprint + AllocGlobal + Host>(rt: &R, what: &str) -> Option<()> {
     match what {
         "hash" => hashing::measure(rt),
         "lanes" => lanes::measure(rt),

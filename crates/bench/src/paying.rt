@@ -2,13 +2,13 @@
 use crate::images::{Population, image};
 use crate::requests_text::{Kind, batches};
 use crate::timing::{print_ratio, since, start};
+use hashers::Host;
 use requests::{
     BatchReader, BytesSink, BytesSource, PaymentReply, Reply, ShownCredit, write_reply,
 };
 use runner::run_text;
 use std::alloc::Global;
 use std::rt::Clock;
-use std::thread::Threads;
 use std::time::Duration;
 use tpcc_rows::id::{CustomerId, RequestNumber};
 use tpcc_rows::number::Cents;
@@ -54,11 +54,7 @@ fn ends_alone(rt: &(impl Clock + AllocGlobal), text: &[u8], reply: &Reply) -> Op
 }
 
 /// How long the engine takes from the bytes of an image and of batches to those of the replies, by one worker.
-pub fn whole<R: Clock + AllocGlobal + Threads + Sync>(
-    rt: &R,
-    image: &[u8],
-    text: &[u8],
-) -> Option<Duration> {
+pub fn whole<R: Clock + AllocGlobal + Host>(rt: &R, image: &[u8], text: &[u8]) -> Option<Duration> {
     let one = Workers::new(1)?;
     let mut image = BytesSource::new(image, 65_536);
     let mut batches = BytesSource::new(text, 65_536);
@@ -78,7 +74,7 @@ pub fn whole<R: Clock + AllocGlobal + Threads + Sync>(
     ran.then_some(time)
 }
 
-fn measure_on<R: Clock + Eprint + AllocGlobal + Threads + Sync>(
+fn measure_on<R: Clock + Eprint + AllocGlobal + Host>(
     rt: &R,
     image: &[u8],
     text: &[u8],
@@ -97,7 +93,7 @@ fn measure_on<R: Clock + Eprint + AllocGlobal + Threads + Sync>(
 }
 
 /// Payments through the engine, less what the same run takes with no batch, the best of five.
-pub fn measure<R: Clock + Eprint + AllocGlobal + Threads + Sync>(rt: &R) -> Option<()> {
+pub fn measure<R: Clock + Eprint + AllocGlobal + Host>(rt: &R) -> Option<()> {
     let image = image(rt.alloc(), 1, 3000, Population::Standard).ok()?;
     let text = batches(rt.alloc(), Kind::Payments, 100, 1000).ok()?;
     measure_on(rt, image.as_bytes(), text.as_bytes())

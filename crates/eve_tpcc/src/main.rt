@@ -8,6 +8,7 @@ mod store_file;
 
 use crate::store_file::open_store;
 use command_line::{Line, LineFault, WordsFault, line_of, line_status, words_of};
+use hashers::Host;
 use records::io::Counting;
 use runner::{StoredRunFault, check_text, make_text, run_and_store, run_text, stored_line};
 use session::serve;
@@ -37,7 +38,7 @@ fn report(rt: &impl Eprint, fault: &StoredRunFault) -> ExitCode {
 }
 
 #[inline(never)]
-fn run<R: Files + Print + Eprint + AllocGlobal + Threads + Sync>(
+fn run<R: Files + Print + Eprint + AllocGlobal + Host>(
     rt: &R,
     image: &str,
     batches: &str,
@@ -72,7 +73,7 @@ where
 
 /// Runs batches, and writes the image of the state that they leave to the file of this path.
 #[inline(never)]
-fn run_stored<R: Files + Print + Eprint + AllocGlobal + Threads + Sync>(
+fn run_stored<R: Files + Print + Eprint + AllocGlobal + Host>(
     rt: &R,
     image: &str,
     batches: &str,
@@ -146,7 +147,7 @@ fn make<R: Print + Eprint + AllocGlobal>(
 }
 
 #[inline(never)]
-fn serve_commands<R: Files + Input + Print + Eprint + AllocGlobal + Threads + Sync>(
+fn serve_commands<R: Files + Input + Print + Eprint + AllocGlobal + Host>(
     rt: &R,
     image: &str,
     workers: Workers,

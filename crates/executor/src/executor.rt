@@ -19,6 +19,7 @@ use crate::refusal::Refusal;
 use crate::stamp::Stamp;
 use arrayvec::ArrayVec;
 use catalog::Catalog;
+use hashers::Host;
 use merkle::Tree;
 use requests::request::Batch;
 use rollback::{POINTS, PointedStore};
@@ -101,6 +102,13 @@ impl Executor {
                 token: parts.token(),
             },
         })
+    }
+
+    /// Keeps threads that hash beside the one that calls, for batches by so many workers.
+    pub fn keep_threads<R: Host>(&mut self, rt: R, alloc: Global, workers: Workers)
+        ensures { self.new ≡ self.old }
+    {
+        self.engine.tree.keep_threads(rt, alloc, workers.count());
     }
 
     pub fn catalog(&self) -> &Catalog

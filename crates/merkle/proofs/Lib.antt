@@ -1,3 +1,4 @@
 pub mod Joins
 pub mod Placing
 pub mod Refreshing
+pub mod Texts

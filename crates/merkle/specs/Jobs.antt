@@ -1,5 +1,6 @@
 -- Places of a tree that are to be hashed, and their hashes.
-use Rattle.std.specs.Prelude.{◌≡◌, ℕ, Bool, List, All, eqb, length}
+use Rattle.std.specs.Prelude.{◌≡◌, ◌<◌, ℕ, Bool, List, [], All, eqb, get_or, length}
+use Rattle.sha2.specs.Sha256.{sha256}
 use Rattle.std.specs.List.{list_any}
 use Rattle.merkle.specs.declared.jobs.Job.{Job}
 
@@ -21,3 +22,12 @@ pub record IsDone (value : ℕ → List ℕ) (old new : List Job) : Type 0 where
   pub len : length new ≡ length old
   pub places : (n : ℕ) → has_place new n ≡ has_place old n
   pub hashed : AreHashed value new
+
+-- a text that isn't empty has this hash
+abbrev pub IsTextOf : List ℕ → List ℕ → Type 0
+IsTextOf hash text = 0 < length text → hash ≡ sha256 text
+
+-- each job has its text: where that isn't empty, its hash is the value at the job's place
+pub record AreTexts (value : ℕ → List ℕ) (jobs : List Job) (texts : List (List ℕ)) : Type 0 where
+  pub len : length texts ≡ length jobs
+  pub each : (k : ℕ) (d : Job) → k < length jobs → IsTextOf (value (get_or jobs k d).place) (get_or texts k [])

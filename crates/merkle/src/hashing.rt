@@ -1,12 +1,13 @@
 //! The hashes of leaves and of nodes, one at a time, and four at once.
 ghost use Rattle.std.specs.Prelude.{◌≡◌, ◌≤◌, ◌+◌, ◌++◌, ◌∷◌, [], ℕ, List, length};
-ghost use Rattle.std.specs.Bool.{OnTrue};
+ghost use Rattle.std.specs.Bool.{OnFalse, OnTrue};
 ghost use Rattle.std.specs.FinMap as map;
 ghost use Rattle.sha2.specs.Sha256.{sha256};
 ghost use Rattle.merkle.specs.Hashing.{IsFed, leaf_text};
 ghost use Rattle.tpcc_model.specs.Roots.{joined};
 ghost use Rattle.tpcc_rows.specs.Encodings.{row_bytes, rows_bytes};
 
+use hashers::{LONG_BYTES, SHORT_BYTES};
 use leaf_rows::LeafRows;
 use sha2::{Digest, Sha256};
 use sha2_lanes::digests_of_four;
@@ -28,10 +29,10 @@ const ROW_BYTES: usize = 536;
 const WAITING_BYTES: usize = 4096;
 
 /// How many bytes there is room for where a leaf is hashed beside three others.
-const LEAF_BYTES: usize = 20_000;
+pub(crate) const LEAF_BYTES: usize = LONG_BYTES;
 
 /// How many bytes the hash of a node is of.
-pub(crate) const NODE_BYTES: usize = 65;
+pub(crate) const NODE_BYTES: usize = SHORT_BYTES;
 
 /// What goes to SHA-256, gathered from the bytes of rows: given to it row by row, a tree took half as long again.
 #[derive(Drop)]
@@ -124,8 +125,9 @@ pub fn hash_leaf(page: &LeafRows) -> [u8; 32]
 
 /// Fills the buffer anew with what the hash of a leaf is of. Where there is no room for all of it, the answer is false, and
 /// the buffer is empty.
-fn encode_leaf(page: &LeafRows, text: &mut ByteBuf<LEAF_BYTES>) -> bool
-    ensures { OnTrue result (text.new ≡ leaf_text page.now) }
+pub(crate) fn encode_leaf(page: &LeafRows, text: &mut ByteBuf<LEAF_BYTES>) -> bool
+    ensures whole { OnTrue result (text.new ≡ leaf_text page.now) }
+    ensures empty { OnFalse result (text.new ≡ []) }
 {
     text.clear();
     text.push_8(LEAF);

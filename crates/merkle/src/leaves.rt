@@ -1,22 +1,28 @@
 //! The hashes of leaves.
 ghost use Rattle.std.specs.Prelude.{◌≡◌, ◌<◌, ◌∷◌, [], ℕ, All, length};
+ghost use Rattle.merkle.specs.Jobs.{IsDone};
 ghost use Rattle.merkle.specs.Nodes.{at, rehashed};
+ghost use Rattle.tpcc_model.specs.Roots.{leaf_hash};
 
-use crate::hashing::{TwoTexts, hash_four_leaves, hash_leaf, prefetch_rows};
+use crate::hashing::{
+    LEAF_BYTES, TwoTexts, encode_leaf, hash_four_leaves, hash_leaf, prefetch_rows,
+};
+use crate::helped::{Encodes, Helped};
 use crate::jobs::{Job, gather_leaves, put_hashes};
 use crate::places::Places;
 use crate::shares::{Crew, do_jobs_on};
 use rollback::PointedStore;
 use std::thread::Threads;
 use tpcc_rows::codes::LEAVES;
+use tpcc_rows::row_buf::ByteBuf;
 
 /// How many rows one thread takes at least: so many that it is worth its start, which costs a few hundred of them.
 const ROWS_AT_ONCE: usize = 4096;
 
 /// The leaves of a store.
 #[derive(Clone, Copy)]
-struct Leaves<'a> {
-    store: &'a PointedStore,
+pub(crate) struct Leaves<'a> {
+    pub(crate) store: &'a PointedStore,
 }
 
 impl Places for Leaves<'_> {
@@ -65,6 +71,13 @@ impl Places for Leaves<'_> {
     }
 }
 
+impl Encodes<LEAF_BYTES> for Leaves<'_> {
+    #[tactic(auto, unfolding(tpcc_model::specs::Roots::leaf_hash))]
+    fn encode(&self, n: usize, text: &mut ByteBuf<LEAF_BYTES>) {
+        let _ = encode_leaf(self.store.page(n), text);
+    }
+}
+
 /// How many rows some leaves have.
 fn rows_of(jobs: &[Job], store: &PointedStore) -> usize
     requires { All (λ job. job.place < LEAVES) jobs.now }
@@ -76,11 +89,31 @@ fn rows_of(jobs: &[Job], store: &PointedStore) -> usize
     rows
 }
 
+/// Hashes leaves, on threads of their own where so many are worth their start, and else with the helpers.
+fn hash_leaves<R: Threads + Sync>(
+    crew: &Crew<'_, R>,
+    jobs: &mut [Job],
+    helped: &mut Helped,
+    store: &PointedStore,
+)
+    requires { All (λ job. job.place < LEAVES) jobs.old }
+    ensures { IsDone (leaf_hash store.now.rows) jobs.old jobs.new }
+{
+    let paying = rows_of(jobs, store) / ROWS_AT_ONCE;
+    let places = Leaves { store };
+    if paying > 1 {
+        do_jobs_on(crew, jobs, &places, paying);
+    } else {
+        helped.do_leaves(jobs, &places, crew.threads);
+    }
+}
+
 /// Hashes again each dirty leaf.
 pub(crate) fn rehash<R: Threads + Sync>(
     crew: &Crew<'_, R>,
     leaves: &mut [[u8; 32]],
     jobs: &mut [Job],
+    helped: &mut Helped,
     store: &PointedStore,
     dirty: &[bool],
 )
@@ -91,7 +124,6 @@ pub(crate) fn rehash<R: Threads + Sync>(
     ensures room { length jobs.new ≡ LEAVES }
 {
     let count = gather_leaves(jobs, dirty);
-    let paying = rows_of(&jobs[..count], store) / ROWS_AT_ONCE;
-    do_jobs_on(crew, &mut jobs[..count], &Leaves { store }, paying);
+    hash_leaves(crew, &mut jobs[..count], helped, store);
     put_hashes(leaves, &jobs[..count]);
 }

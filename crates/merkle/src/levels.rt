@@ -1,9 +1,11 @@
 //! The hashes of inner nodes.
-ghost use Rattle.std.specs.Prelude.{◌≡◌, ◌<◌, ◌≤◌, ◌+◌, ◌*◌, ℕ, length};
+ghost use Rattle.std.specs.Prelude.{◌≡◌, ◌<◌, ◌≤◌, ◌+◌, ◌*◌, ℕ, All, length};
 ghost use Rattle.sha2.specs.Sha256.{sha256};
+ghost use Rattle.merkle.specs.Jobs.{IsDone};
 ghost use Rattle.merkle.specs.Nodes.{IsJoinedFrom, IsNearlyTree, IsTree, at, join_at};
 
 use crate::hashing::{NODE_BYTES, encode_node, join};
+use crate::helped::{Encodes, Helped};
 use crate::jobs::{Job, gather_nodes, put_hashes};
 use crate::places::Places;
 use crate::shares::{Crew, do_jobs_on};
@@ -26,8 +28,8 @@ fn encode_at(nodes: &[[u8; 32]], i: usize) -> ByteBuf<NODE_BYTES>
 
 /// The inner nodes of a tree, whose nodes these are.
 #[derive(Clone, Copy)]
-struct InnerNodes<'a> {
-    nodes: &'a [[u8; 32]],
+pub(crate) struct InnerNodes<'a> {
+    pub(crate) nodes: &'a [[u8; 32]],
 }
 
 impl Places for InnerNodes<'_> {
@@ -68,12 +70,38 @@ impl Places for InnerNodes<'_> {
     }
 }
 
+impl Encodes<NODE_BYTES> for InnerNodes<'_> {
+    fn encode(&self, i: usize, text: &mut ByteBuf<NODE_BYTES>) {
+        *text = encode_at(self.nodes, i);
+    }
+}
+
+/// Joins nodes, on threads of their own where so many are worth their start, and else with the helpers.
+fn join_nodes<R: Threads + Sync>(
+    crew: &Crew<'_, R>,
+    jobs: &mut [Job],
+    helped: &mut Helped,
+    nodes: &[[u8; 32]],
+)
+    requires { All (λ job. 2 * job.place + 1 < length nodes.now) jobs.old }
+    ensures { IsDone (join_at nodes.now) jobs.old jobs.new }
+{
+    let inner = InnerNodes { nodes };
+    let paying = jobs.len() / NODES_AT_ONCE;
+    if paying > 1 {
+        do_jobs_on(crew, jobs, &inner, paying);
+    } else {
+        helped.do_nodes(jobs, &inner, crew.threads);
+    }
+}
+
 /// Joins again each node from `low` to before `high` above a mark. No node of them is a child of another.
 fn rejoin_level<R: Threads + Sync>(
     crew: &Crew<'_, R>,
     nodes: &mut [[u8; 32]],
     marks: &mut [bool],
     jobs: &mut [Job],
+    helped: &mut Helped,
     low: usize,
     high: usize,
 )
@@ -88,12 +116,7 @@ fn rejoin_level<R: Threads + Sync>(
     ensures room { length jobs.new ≡ LEAVES }
 {
     let count = gather_nodes(jobs, marks, low, high);
-    do_jobs_on(
-        crew,
-        &mut jobs[..count],
-        &InnerNodes { nodes },
-        count / NODES_AT_ONCE,
-    );
+    join_nodes(crew, &mut jobs[..count], helped, nodes);
     put_hashes(nodes, &jobs[..count]);
 }
 
@@ -103,6 +126,7 @@ pub(crate) fn rejoin<R: Threads + Sync>(
     nodes: &mut [[u8; 32]],
     marks: &mut [bool],
     jobs: &mut [Job],
+    helped: &mut Helped,
 )
     requires full { length nodes.old ≡ 2 * LEAVES }
     requires marks { length marks.old ≡ 2 * LEAVES }
@@ -115,7 +139,7 @@ pub(crate) fn rejoin<R: Threads + Sync>(
     let mut high = LEAVES;
     while high > 1 {
         let low = high - high / 2;
-        rejoin_level(crew, nodes, marks, jobs, low, high);
+        rejoin_level(crew, nodes, marks, jobs, helped, low, high);
         high = low;
     }
 }

@@ -2,6 +2,7 @@
 #![tactic(auto)]
 
 pub mod hashing;
+mod helped;
 mod jobs;
 mod leaves;
 mod levels;

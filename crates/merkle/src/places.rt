@@ -57,6 +57,16 @@ fn measure<P: Places>(jobs: &mut [Job], places: &P)
     }
 }
 
+/// Puts the jobs in the order of how much they hash.
+pub(crate) fn sort_by_bytes<P: Places>(jobs: &mut [Job], places: &P)
+    requires { All (λ job. P.has places.now job.place) jobs.old }
+    ensures places { KeepsPlaces jobs.old jobs.new }
+    ensures there { All (λ job. P.has places.now job.place) jobs.new }
+{
+    measure(jobs, places);
+    jobs.sort_unstable_by_key(|job: &Job| -> usize { job.bytes });
+}
+
 /// Does a few jobs one after the other.
 fn do_few<P: Places>(jobs: &mut [Job], places: &P)
     requires { All (λ job. P.has places.now job.place) jobs.old }
@@ -107,8 +117,7 @@ fn do_window<P: Places>(jobs: &mut [Job], places: &P, front: &mut P::Room, back:
     requires { All (λ job. P.has places.now job.place) jobs.old }
     ensures { IsDone (P.hash places.now) jobs.old jobs.new }
 {
-    measure(jobs, places);
-    jobs.sort_unstable_by_key(|job: &Job| -> usize { job.bytes });
+    sort_by_bytes(jobs, places);
     do_neighbours(jobs, places, front, back);
 }
 

@@ -4,10 +4,12 @@ ghost use Rattle.merkle.specs.Nodes.{IsOf, IsOfClean, IsTree, at, rehashed};
 ghost use Rattle.tpcc_model.specs.Roots.{leaf_hash, root};
 ghost use Rattle.tpcc_rows.specs.RowMap.{Rows};
 
+use crate::helped::Helped;
 use crate::jobs::Job;
 use crate::leaves::rehash;
 use crate::levels::rejoin;
 use crate::shares::Crew;
+use hashers::Host;
 use rollback::{Dirty, PointedStore};
 use std::alloc::Global;
 use std::marker::Model;
@@ -21,6 +23,7 @@ fn build_nodes<R: Threads + Sync>(
     crew: &Crew<'_, R>,
     nodes: &mut [[u8; 32]],
     jobs: &mut [Job],
+    helped: &mut Helped,
     store: &PointedStore,
 )
     requires full { length nodes.old ≡ 2 * LEAVES }
@@ -30,8 +33,8 @@ fn build_nodes<R: Threads + Sync>(
     ensures room { length jobs.new ≡ LEAVES }
 {
     let (_, leaves) = nodes.split_at_mut(LEAVES);
-    rehash(crew, leaves, jobs, store, &[true; LEAVES]);
-    rejoin(crew, nodes, &mut [true; 2 * LEAVES], jobs);
+    rehash(crew, leaves, jobs, helped, store, &[true; LEAVES]);
+    rejoin(crew, nodes, &mut [true; 2 * LEAVES], jobs, helped);
 }
 
 /// Hashes the dirty leaves again, and each node above one.
@@ -39,6 +42,7 @@ fn refresh_nodes<R: Threads + Sync>(
     crew: &Crew<'_, R>,
     nodes: &mut [[u8; 32]],
     jobs: &mut [Job],
+    helped: &mut Helped,
     store: &PointedStore,
     dirty: &[bool],
 )
@@ -50,11 +54,11 @@ fn refresh_nodes<R: Threads + Sync>(
     ensures room { length jobs.new ≡ LEAVES }
 {
     let (_, leaves) = nodes.split_at_mut(LEAVES);
-    rehash(crew, leaves, jobs, store, dirty);
+    rehash(crew, leaves, jobs, helped, store, dirty);
     let mut marks = [false; 2 * LEAVES];
     let (_, below) = marks.split_at_mut(LEAVES);
     below.copy_from_slice(dirty);
-    rejoin(crew, nodes, &mut marks, jobs);
+    rejoin(crew, nodes, &mut marks, jobs, helped);
 }
 
 /// The hashes of all leaves and of all nodes above them, in heap order: the root at 1, the children of the node at i
@@ -64,6 +68,7 @@ pub struct Tree {
     nodes: Vec<[u8; 32]>,
     // Room for what is to be hashed, so that a refresh takes no memory.
     jobs: Vec<Job>,
+    helped: Helped,
 }
 
 impl Model for Tree {
@@ -97,8 +102,30 @@ impl Tree {
         let mut nodes = vec![in alloc; [0u8; 32]; 2 * LEAVES]?;
         let mut jobs = vec![in alloc; Job::NONE; LEAVES]?;
         let threads = thread::available_parallelism(rt).map_or(1, NonZeroUsize::get);
-        build_nodes(&Crew { rt, threads }, &mut nodes, &mut jobs, store);
-        Ok(Tree { nodes, jobs })
+        let mut helped = Helped::alone(alloc);
+        build_nodes(
+            &Crew { rt, threads },
+            &mut nodes,
+            &mut jobs,
+            &mut helped,
+            store,
+        );
+        Ok(Tree {
+            nodes,
+            jobs,
+            helped,
+        })
+    }
+
+    /// Starts threads that hash beside the calling one in later calls, so many at most, as far as there are processors for them.
+    pub fn keep_threads<R: Host>(&mut self, rt: R, alloc: Global, threads: usize)
+        ensures { self.new ≡ self.old }
+    {
+        let processors = thread::available_parallelism(&rt).map_or(1, NonZeroUsize::get);
+        let count = threads.min(processors).saturating_sub(1);
+        if let Ok(helped) = Helped::start(rt, alloc, count) {
+            self.helped = helped;
+        }
     }
 
     /// Hashes the dirty leaves again, and each node above one, on so many threads at most. It takes no memory.
@@ -113,6 +140,13 @@ impl Tree {
         ensures rows { IsOfClean self.old dirty.now store.now.rows → IsOf self.new store.now.rows }
     {
         let crew = Crew { rt, threads };
-        refresh_nodes(&crew, &mut self.nodes, &mut self.jobs, store, dirty.marks());
+        refresh_nodes(
+            &crew,
+            &mut self.nodes,
+            &mut self.jobs,
+            &mut self.helped,
+            store,
+            dirty.marks(),
+        );
     }
 }

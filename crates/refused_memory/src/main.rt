@@ -6,6 +6,7 @@
 #![tactic(auto)]
 
 use executor::Refusal;
+use hashers::Host;
 use loader::{LoadError, make, store_image};
 use requests::{BytesSink, BytesSource, ReadError};
 use runner::{RunFault, check_text, run_text};
@@ -92,7 +93,7 @@ fn checked<R: Threads + Sync + AllocGlobal>(rt: &R, image: &[u8]) -> Answer {
     outcome_of(&answer, &(), sink.bytes.as_slice(), LINE)
 }
 
-fn ran<R: Threads + Sync + AllocGlobal>(rt: &R, image: &[u8]) -> Answer {
+fn ran<R: Host + AllocGlobal>(rt: &R, image: &[u8]) -> Answer {
     let mut image = BytesSource::new(image, 64);
     let mut batches = BytesSource::new(BATCHES, 64);
     let mut sink = BytesSink::new(rt.alloc(), 64);
@@ -109,7 +110,7 @@ fn ran<R: Threads + Sync + AllocGlobal>(rt: &R, image: &[u8]) -> Answer {
 }
 
 /// What comes of both calls together.
-fn tried<R: Threads + Sync + AllocGlobal>(rt: &R, image: &[u8]) -> Answer {
+fn tried<R: Host + AllocGlobal>(rt: &R, image: &[u8]) -> Answer {
     match (checked(rt, image), ran(rt, image)) {
         (Answer::Done, Answer::Done) => Answer::Done,
         (Answer::Wrong, _) | (_, Answer::Wrong) => Answer::Wrong,

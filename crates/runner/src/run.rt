@@ -9,17 +9,17 @@ use crate::fault::RunFault;
 use crate::opening::load_executor;
 use crate::serving::run_batches;
 use executor::Executor;
+use hashers::Host;
 use records::io::{Sink, Source};
 use records::slurp::slurp;
 use std::alloc::Global;
-use std::thread::Threads;
 use workers::{Gate, Workers};
 
 /// The most bytes of batches.
 const MOST_BATCH_BYTES: usize = 1_073_741_824;
 
 /// Reads all bytes of batches, and runs them on the state that an executor has.
-pub(crate) fn run_read<R: Threads + Sync, B: Source, S: Sink, G: Gate>(
+pub(crate) fn run_read<R: Host, B: Source, S: Sink, G: Gate>(
     crew: &Crew<'_, R, G>,
     executor: &mut Executor,
     batches: &mut B,
@@ -49,7 +49,7 @@ pub(crate) fn run_read<R: Threads + Sync, B: Source, S: Sink, G: Gate>(
 
 /// Loads an image, reads all bytes of batches, and then reads, executes, commits and writes batch after batch. The answer is
 /// the number of batches. What is written is the same for every number of workers, and whoever is told of the executions.
-pub fn run_text<R: Threads + Sync, I: Source, B: Source, S: Sink, G: Gate>(
+pub fn run_text<R: Host, I: Source, B: Source, S: Sink, G: Gate>(
     rt: &R,
     alloc: Global,
     image: &mut I,

@@ -13,11 +13,11 @@ use crate::opening::load_executor;
 use crate::run::run_read;
 use crate::store_fault::{StoreFault, StoredRunFault};
 use executor::Executor;
+use hashers::Host;
 use loader::store_image;
 use records::io::{Sink, Source};
 use records::slurp::push_all;
 use std::alloc::Global;
-use std::thread::Threads;
 use tpcc_rows::memory::Memory;
 use workers::{Gate, Workers};
 
@@ -81,7 +81,7 @@ fn store_behind<K: Sink>(
 
 /// Reads all bytes of batches, runs them on the state that an executor has, and then writes the image of the state behind the last
 /// one whose text was written.
-fn store_read<R: Threads + Sync, B: Source, S: Sink, K: Sink, G: Gate>(
+fn store_read<R: Host, B: Source, S: Sink, K: Sink, G: Gate>(
     crew: &Crew<'_, R, G>,
     executor: &mut Executor,
     batches: &mut B,
@@ -117,7 +117,7 @@ fn store_read<R: Threads + Sync, B: Source, S: Sink, K: Sink, G: Gate>(
 /// Runs batches on the database of an image as `run_text` does, and then writes the image of the state whose token was written last,
 /// so that a later run can go on from it: after a run that ended early, too, but not where its output failed, or where it ended
 /// before there was a state.
-pub fn run_and_store<R: Threads + Sync, I: Source, B: Source, S: Sink, K: Sink, G: Gate>(
+pub fn run_and_store<R: Host, I: Source, B: Source, S: Sink, K: Sink, G: Gate>(
     rt: &R,
     alloc: Global,
     image: &mut I,

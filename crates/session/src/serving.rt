@@ -11,6 +11,7 @@ ghost use Rattle.session.specs.Sessions.{IsAnswered, IsOfSession, LeavesAnswer, 
 use crate::answering::answer;
 use commands::{Command, CommandReader};
 use executor::Executor;
+use hashers::Host;
 use records::io::{Failed, Sink, Source};
 use records::slurp::push_all;
 use runner::{RunFault, load_executor};
@@ -90,7 +91,7 @@ fn serve_commands<R: Threads + Sync, C: Read + Drop, S: Sink, G: Gate>(
 /// Reads the commands of a text in turn, and answers each before the next is read. Its frame has the reader's room, that of `serve`
 /// the executor's.
 #[inline(never)]
-fn serve_input<R: Threads + Sync, C: Read + Drop, S: Sink, G: Gate>(
+fn serve_input<R: Host, C: Read + Drop, S: Sink, G: Gate>(
     rt: &R,
     alloc: Global,
     executor: &mut Executor,
@@ -109,6 +110,7 @@ fn serve_input<R: Threads + Sync, C: Read + Drop, S: Sink, G: Gate>(
     ensures kinds { IfErr result IsOfSession }
     ensures failures { S.failed sink.new ≡ S.failed sink.old + (if is_write result then 1 else 0) }
 {
+    executor.keep_threads(*rt, alloc, workers);
     let mut reader = CommandReader::new(alloc, input);
     serve_commands(rt, alloc, executor, &mut reader, sink, workers, gate)
 }
@@ -116,7 +118,7 @@ fn serve_input<R: Threads + Sync, C: Read + Drop, S: Sink, G: Gate>(
 /// Loads an image, and then reads commands in turn, each of which is answered before the next is read. What is written is the same
 /// for every number of workers, whoever is told of the executions, and however the bytes of the commands come in pieces.
 #[inline(never)]
-pub fn serve<R: Threads + Sync, I: Source, C: Read + Drop, S: Sink, G: Gate>(
+pub fn serve<R: Host, I: Source, C: Read + Drop, S: Sink, G: Gate>(
     rt: &R,
     alloc: Global,
     image: &mut I,

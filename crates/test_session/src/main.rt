@@ -5,13 +5,13 @@
 
 ghost use Rattle.std.specs.Prelude.{◌<◌, Some};
 
+use hashers::Host;
 use loader::{make, store_image};
 use records::{BytesSink, BytesSource, ReadError};
 use runner::{RunFault, fault_line};
 use session::serve;
 use std::alloc::Global;
 use std::io::Read;
-use std::thread::Threads;
 use std::{io, str};
 use tpcc_rows::memory::Memory;
 use workers::{NoGate, Workers};
@@ -84,7 +84,7 @@ struct Outcome {
     fault: Option<RunFault>,
 }
 
-fn session_of<R: Threads + Sync + AllocGlobal>(
+fn session_of<R: Host + AllocGlobal>(
     rt: &R,
     image: &[u8],
     pieces: Pieces,
@@ -136,7 +136,7 @@ fn print_outcome<R: Print + AllocGlobal>(rt: &R, outcome: &Outcome) {
 const CUTS: [(usize, usize); 6] = [(1, 1), (1, 2), (2, 8), (3, 1), (7, 2), (64, 8)];
 
 /// Prints whether the session is the same in pieces.
-fn compare_cuts<R: Threads + Sync + Print + AllocGlobal>(
+fn compare_cuts<R: Host + Print + AllocGlobal>(
     rt: &R,
     image: &[u8],
     whole: &Outcome,
@@ -155,7 +155,7 @@ fn compare_cuts<R: Threads + Sync + Print + AllocGlobal>(
 }
 
 /// Prints whether the session ends at a read that fails, after a beginning of the answers.
-fn compare_reads<R: Threads + Sync + Print + AllocGlobal>(
+fn compare_reads<R: Host + Print + AllocGlobal>(
     rt: &R,
     image: &[u8],
     whole: &Outcome,
@@ -177,7 +177,7 @@ fn compare_reads<R: Threads + Sync + Print + AllocGlobal>(
 }
 
 /// Prints whether a session that asks for the image gets the one that it began with.
-fn compare_image<R: Threads + Sync + Print + AllocGlobal>(
+fn compare_image<R: Host + Print + AllocGlobal>(
     rt: &R,
     image: &[u8],
     pieces: Pieces,
@@ -189,7 +189,7 @@ fn compare_image<R: Threads + Sync + Print + AllocGlobal>(
     Some(())
 }
 
-fn try_all<R: Threads + Sync + Print + AllocGlobal>(rt: &R, image: &[u8]) -> Option<()> {
+fn try_all<R: Host + Print + AllocGlobal>(rt: &R, image: &[u8]) -> Option<()> {
     let whole = session_of(rt, image, pieces_of(COMMANDS, 4_096, usize::MAX), 1)?;
     print_outcome(rt, &whole);
     compare_cuts(rt, image, &whole, &CUTS);

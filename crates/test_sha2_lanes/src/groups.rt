@@ -4,7 +4,7 @@ use sha2_lanes::digests;
 use std::alloc::Global;
 
 /// How many bytes the messages of each group have.
-const GROUPS: [&[usize]; 27] = [
+pub const GROUPS: [&[usize]; 27] = [
     &[],
     &[0],
     &[1],
@@ -34,10 +34,10 @@ const GROUPS: [&[usize]; 27] = [
     &[55, 56, 4096, 0, 120, 119, 64],
 ];
 
-/// Bytes, of which the messages of a group are parts: the first from the first byte on, the second from the second.
-fn all_bytes(alloc: Global) -> Option<Vec<u8>> {
+/// So many bytes, of which the messages of a group are parts: the first from the first byte on, the second from the second.
+pub fn all_bytes(alloc: Global, count: u64) -> Option<Vec<u8>> {
     let mut bytes = Vec::new(alloc);
-    for i in 0..4_160u64 {
+    for i in 0..count {
         bytes.push(((31 * i + 7) % 251) as u8).ok()?;
     }
     Some(bytes)
@@ -60,7 +60,7 @@ fn show_group(rt: &impl Print, alloc: Global, bytes: &[u8], lengths: &[usize]) -
 
 /// Shows each group.
 pub fn show(rt: &impl Print, alloc: Global) -> Option<()> {
-    let bytes = all_bytes(alloc)?;
+    let bytes = all_bytes(alloc, 4_160)?;
     for lengths in GROUPS {
         show_group(rt, alloc, &bytes, lengths)?;
     }

@@ -1,10 +1,11 @@
-//! What no clause of `sha2_lanes` shows to the eye: digests of groups of messages of all kinds of lengths and of the examples
-//! of the standard, each beside the digest that `sha2` gives for the message alone. The digests in `stdout` were computed by
-//! another implementation of the standard, or are the standard's own.
+//! What no clause of `sha2_lanes` and `hashers` shows to the eye: digests of groups of messages of all kinds of lengths and of the
+//! examples of the standard, each beside the digest that `sha2` gives for the message alone, and for how many groups helpers give
+//! the same. The digests in `stdout` were computed by another implementation of the standard, or are the standard's own.
 #![tactic(auto)]
 
 mod examples;
 mod groups;
+mod helped;
 mod printing;
 
 use std::process::ExitCode;
@@ -13,6 +14,7 @@ fn main(rt: HostRuntime) -> ExitCode {
     let parts = [
         groups::show(&rt, rt.alloc()),
         examples::show(&rt, rt.alloc()),
+        helped::show(&rt, rt.alloc()),
     ];
     if parts.iter().all(Option::is_some) {
         ExitCode::SUCCESS

@@ -6,12 +6,12 @@
 
 ghost use Rattle.std.specs.Prelude.{◌<◌, ◌^◌};
 
+use hashers::Host;
 use loader::{make, store_image};
 use records::{BytesSink, BytesSource, FailAt, Sink};
 use runner::{StoredRunFault, run_and_store, stored_fault_line};
 use std::alloc::Global;
 use std::str;
-use std::thread::Threads;
 use tpcc_rows::memory::Memory;
 use workers::{NoGate, Workers};
 
@@ -74,7 +74,7 @@ fn made_image(alloc: Global) -> Result<Vec<u8>, Memory> {
 }
 
 /// Runs batches with so many workers, where this call of the sink of the text fails, and this one of the sink of the image.
-fn run_of<R: Threads + Sync + AllocGlobal>(
+fn run_of<R: Host + AllocGlobal>(
     rt: &R,
     image: &[u8],
     batches: &[u8],
@@ -142,12 +142,7 @@ fn print_ended<R: Print + AllocGlobal>(rt: &R, name: &str, outcome: &Outcome, be
 }
 
 /// Prints what comes where the calls of the sink of the image fail in turn, the flush too.
-fn fail_image<R: Threads + Sync + Print + AllocGlobal>(
-    rt: &R,
-    image: &[u8],
-    whole: &Outcome,
-    count: u64,
-) {
+fn fail_image<R: Host + Print + AllocGlobal>(rt: &R, image: &[u8], whole: &Outcome, count: u64) {
     for call in 0..count {
         let _ = println!(rt; "call {call} of the sink of the image fails");
         if let Some(outcome) = run_of(rt, image, BOTH, 2, NEVER, call) {
@@ -157,12 +152,7 @@ fn fail_image<R: Threads + Sync + Print + AllocGlobal>(
 }
 
 /// Prints what comes where a record is none, and the calls of the sink of the image fail in turn, the flush too.
-fn fail_both<R: Threads + Sync + Print + AllocGlobal>(
-    rt: &R,
-    image: &[u8],
-    first: &Outcome,
-    count: u64,
-) {
+fn fail_both<R: Host + Print + AllocGlobal>(rt: &R, image: &[u8], first: &Outcome, count: u64) {
     for call in 0..count {
         let _ = println!(rt; "a record is none, and call {call} of the sink of the image fails");
         if let Some(outcome) = run_of(rt, image, SPOILT, 2, NEVER, call) {
@@ -172,12 +162,7 @@ fn fail_both<R: Threads + Sync + Print + AllocGlobal>(
 }
 
 /// Prints what comes where the calls of the sink of the text fail in turn, the flush too.
-fn fail_text<R: Threads + Sync + Print + AllocGlobal>(
-    rt: &R,
-    image: &[u8],
-    whole: &Outcome,
-    count: u64,
-) {
+fn fail_text<R: Host + Print + AllocGlobal>(rt: &R, image: &[u8], whole: &Outcome, count: u64) {
     for call in 0..count {
         let _ = println!(rt; "call {call} of the sink of the text fails");
         if let Some(outcome) = run_of(rt, image, BOTH, 2, call, NEVER) {
@@ -187,7 +172,7 @@ fn fail_text<R: Threads + Sync + Print + AllocGlobal>(
 }
 
 /// Prints whether the run is the same with other numbers of workers.
-fn compare_workers<R: Threads + Sync + Print + AllocGlobal>(
+fn compare_workers<R: Host + Print + AllocGlobal>(
     rt: &R,
     image: &[u8],
     whole: &Outcome,
@@ -213,11 +198,7 @@ fn print_run<R: Print + AllocGlobal>(rt: &R, name: &str, outcome: &Outcome) {
 }
 
 /// Goes on from a stored image, and prints whether what comes is that of one run.
-fn go_on<R: Threads + Sync + Print + AllocGlobal>(
-    rt: &R,
-    first: &Outcome,
-    whole: &Outcome,
-) -> Option<()> {
+fn go_on<R: Host + Print + AllocGlobal>(rt: &R, first: &Outcome, whole: &Outcome) -> Option<()> {
     let second = run_of(rt, first.image.as_slice(), SECOND, 2, NEVER, NEVER)?;
     print_run(
         rt,
@@ -236,7 +217,7 @@ fn late_image(alloc: Global, first: &[u8]) -> Option<String> {
 }
 
 /// Prints what runs store that end early behind a batch, or before the first.
-fn end_early<R: Threads + Sync + Print + AllocGlobal>(
+fn end_early<R: Host + Print + AllocGlobal>(
     rt: &R,
     image: &[u8],
     first: &Outcome,
@@ -262,7 +243,7 @@ fn end_early<R: Threads + Sync + Print + AllocGlobal>(
     Some(())
 }
 
-fn try_all<R: Threads + Sync + Print + AllocGlobal>(rt: &R, image: &[u8]) -> Option<()> {
+fn try_all<R: Host + Print + AllocGlobal>(rt: &R, image: &[u8]) -> Option<()> {
     let first = run_of(rt, image, FIRST, 1, NEVER, NEVER)?;
     print_run(rt, "the first batch", &first);
     let whole = run_of(rt, image, BOTH, 1, NEVER, NEVER)?;

@@ -2,10 +2,10 @@
 ghost use Rattle.std.specs.Prelude.{◌<◌, ◌^◌};
 
 use crate::faults::answer_of;
+use hashers::Host;
 use requests::{BytesSink, BytesSource, FailAt, Sink, Source};
 use runner::{RunFault, check_text, run_text};
 use std::alloc::Global;
-use std::thread::Threads;
 use tpcc_rows::memory::Memory;
 use workers::{NoGate, Workers};
 
@@ -45,7 +45,7 @@ fn show(
 }
 
 /// The fault of a run between these ends.
-fn run_between<R: Threads + Sync + AllocGlobal, I: Source, B: Source, S: Sink>(
+fn run_between<R: Host + AllocGlobal, I: Source, B: Source, S: Sink>(
     rt: &R,
     image: &mut I,
     batches: &mut B,
@@ -60,7 +60,7 @@ fn run_between<R: Threads + Sync + AllocGlobal, I: Source, B: Source, S: Sink>(
 }
 
 /// Shows what comes where each call of the image fails in turn.
-pub fn fail_image<R: Threads + Sync + AllocGlobal>(
+pub fn fail_image<R: Host + AllocGlobal>(
     rt: &R,
     out: &mut Vec<u8>,
     image_text: &[u8],
@@ -95,7 +95,7 @@ pub fn fail_image<R: Threads + Sync + AllocGlobal>(
 }
 
 /// Shows what comes where each call of the batches fails in turn.
-pub fn fail_batches<R: Threads + Sync + AllocGlobal>(
+pub fn fail_batches<R: Host + AllocGlobal>(
     rt: &R,
     out: &mut Vec<u8>,
     image_text: &[u8],
@@ -130,7 +130,7 @@ pub fn fail_batches<R: Threads + Sync + AllocGlobal>(
 }
 
 /// Shows what comes where each call of the sink fails in turn, the flush too.
-pub fn fail_sink<R: Threads + Sync + AllocGlobal>(
+pub fn fail_sink<R: Host + AllocGlobal>(
     rt: &R,
     out: &mut Vec<u8>,
     image_text: &[u8],
@@ -156,7 +156,7 @@ pub fn fail_sink<R: Threads + Sync + AllocGlobal>(
 }
 
 /// Shows what comes of a check where each call of the image fails in turn.
-pub fn fail_checked_image<R: Threads + Sync + AllocGlobal>(
+pub fn fail_checked_image<R: Host + AllocGlobal>(
     rt: &R,
     out: &mut Vec<u8>,
     image_text: &[u8],
@@ -189,7 +189,7 @@ pub fn fail_checked_image<R: Threads + Sync + AllocGlobal>(
 }
 
 /// Shows what comes of a check where each call of the sink fails in turn, the flush too.
-pub fn fail_checked_sink<R: Threads + Sync + AllocGlobal>(
+pub fn fail_checked_sink<R: Host + AllocGlobal>(
     rt: &R,
     out: &mut Vec<u8>,
     image_text: &[u8],

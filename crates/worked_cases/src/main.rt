@@ -43,15 +43,15 @@ mod text;
 
 use crate::files::read;
 use crate::script::Script;
+use hashers::Host;
 use requests::{Counting, push_all};
 use std::process::ExitCode;
 use std::rt::Files;
-use std::thread::Threads;
 use std::{io, str};
 use tpcc_rows::memory::Memory;
 
 /// Follows the cases of a file.
-fn follow_file<R: Files + AllocGlobal + Threads + Sync>(
+fn follow_file<R: Files + AllocGlobal + Host>(
     rt: &R,
     script: &mut Script,
     name: &str,
@@ -72,7 +72,7 @@ where
 }
 
 /// Follows the cases of all files that a file names.
-fn follow_all<R: Files + AllocGlobal + Threads + Sync>(
+fn follow_all<R: Files + AllocGlobal + Host>(
     rt: &R,
     script: &mut Script,
     names: &[u8],

@@ -3,6 +3,7 @@ ghost use Rattle.std.specs.Prelude.{◌<◌};
 
 use crate::text::is_line_end;
 use executor::Executor;
+use hashers::Host;
 use loader::{load, store_image};
 use requests::{BatchReader, BytesSink, BytesSource};
 use runner::{check_text, fault_line, make_text, run_text};
@@ -26,7 +27,7 @@ pub fn made(alloc: Global, warehouses: u8, customers: u16, items: u32) -> Option
 }
 
 /// What a run prints: its text, and behind it the line of its fault.
-pub fn printed<R: Threads + Sync + AllocGlobal>(
+pub fn printed<R: Host + AllocGlobal>(
     rt: &R,
     image: &[u8],
     batches: &[u8],

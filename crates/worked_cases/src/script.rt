@@ -8,9 +8,9 @@ use crate::inputs::show_ends;
 use crate::runs::{checked, made, printed, show_changes, stored};
 use crate::tables::{show_cuts, show_field, show_record};
 use crate::text::{Text, bytes_of, is_line_end, with_bytes};
+use hashers::Host;
 use std::alloc::Global;
 use std::rt::Files;
-use std::thread::Threads;
 use tpcc_rows::memory::Memory;
 use workers::Workers;
 
@@ -164,7 +164,7 @@ impl Script {
     }
 
     /// What the run prints by the first of these numbers of workers. Shows those by which it prints other bytes.
-    fn printed_by_all<R: Threads + Sync + AllocGlobal>(
+    fn printed_by_all<R: Host + AllocGlobal>(
         &mut self,
         rt: &R,
         numbers: &str,
@@ -188,11 +188,7 @@ impl Script {
         Ok(first.unwrap_or(Vec::new(self.alloc)))
     }
 
-    fn run<R: Threads + Sync + AllocGlobal>(
-        &mut self,
-        rt: &R,
-        numbers: &str,
-    ) -> Result<(), Memory> {
+    fn run<R: Host + AllocGlobal>(&mut self, rt: &R, numbers: &str) -> Result<(), Memory> {
         let text = self.printed_by_all(rt, numbers)?;
         let head = format!(in self.alloc; "by {numbers} workers the same:")?;
         self.say(head.as_str())?;
@@ -200,11 +196,7 @@ impl Script {
         Ok(())
     }
 
-    fn run_last<R: Threads + Sync + AllocGlobal>(
-        &mut self,
-        rt: &R,
-        numbers: &str,
-    ) -> Result<(), Memory> {
+    fn run_last<R: Host + AllocGlobal>(&mut self, rt: &R, numbers: &str) -> Result<(), Memory> {
         let (last, numbers) = first_word(numbers);
         let text = self.printed_by_all(rt, numbers)?;
         let count = text.as_slice().split_inclusive(is_line_end).count();
@@ -221,7 +213,7 @@ impl Script {
         Ok(())
     }
 
-    fn show_check<R: Threads + Sync + AllocGlobal>(&mut self, rt: &R) -> Result<(), Memory> {
+    fn show_check<R: Host + AllocGlobal>(&mut self, rt: &R) -> Result<(), Memory> {
         let step = self.step();
         let text = checked(rt, self.image.bytes.as_slice(), step)?;
         self.out.extend_from_slice(text.as_slice())?;
@@ -312,7 +304,7 @@ impl Script {
     }
 
     /// Shows what comes of runs where each call of each end fails in turn.
-    fn show_failing_runs<R: Threads + Sync + AllocGlobal>(&mut self, rt: &R) -> Result<(), Memory> {
+    fn show_failing_runs<R: Host + AllocGlobal>(&mut self, rt: &R) -> Result<(), Memory> {
         let step = self.step();
         let text = self.printed_by_all(rt, "1")?;
         let whole = text.as_slice();
@@ -325,10 +317,7 @@ impl Script {
     }
 
     /// Shows what comes of checks where each call of each end fails in turn.
-    fn show_failing_checks<R: Threads + Sync + AllocGlobal>(
-        &mut self,
-        rt: &R,
-    ) -> Result<(), Memory> {
+    fn show_failing_checks<R: Host + AllocGlobal>(&mut self, rt: &R) -> Result<(), Memory> {
         let step = self.step();
         let image = self.image.bytes.as_slice();
         let line = checked(rt, image, step)?;
@@ -338,11 +327,7 @@ impl Script {
     }
 
     /// Shows what comes of the text in which other bytes stand in the place of some.
-    fn show_spoilt<R: Threads + Sync + AllocGlobal>(
-        &mut self,
-        rt: &R,
-        words: &str,
-    ) -> Result<(), Memory> {
+    fn show_spoilt<R: Host + AllocGlobal>(&mut self, rt: &R, words: &str) -> Result<(), Memory> {
         let (at, rest) = first_word(words);
         let (count, piece) = first_word(rest);
         let alloc = self.alloc;
@@ -362,7 +347,7 @@ impl Script {
     }
 
     /// Whether a line is one that shows what comes of a run, and then follows it.
-    fn show_run<R: Threads + Sync + AllocGlobal>(
+    fn show_run<R: Host + AllocGlobal>(
         &mut self,
         rt: &R,
         word: &str,
@@ -413,7 +398,7 @@ impl Script {
     }
 
     /// Follows a line.
-    pub fn follow<R: Files + Threads + Sync + AllocGlobal>(
+    pub fn follow<R: Files + Host + AllocGlobal>(
         &mut self,
         rt: &R,
         line: &str,

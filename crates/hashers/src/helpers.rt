@@ -1,0 +1,178 @@
+//! The helpers of one thread.
+ghost use Rattle.std.specs.Prelude.{◌≡◌, ◌≤◌, None, length, map, vec_len};
+ghost use Rattle.std.specs.Bool.{OnTrue};
+ghost use Rattle.sha2.specs.Sha256.{sha256};
+
+use crate::desk::Desk;
+use crate::host::Host;
+use crate::parcel::TEXTS;
+use crate::post::{LONG_BYTES, LONG_TEXTS, Post, SHORT_BYTES};
+use crossbeam_utils::sync::{Parker, Unparker};
+use sha2_lanes::digests;
+use std::alloc::{AllocError, Global};
+use std::thread;
+
+/// Where texts were sent.
+#[derive(Clone, Copy)]
+pub struct Ticket {
+    helper: usize,
+    number: u64,
+    is_short: bool,
+}
+
+/// A thread that hashes, as seen by the one that asks it.
+struct Helper {
+    long: Post<LONG_BYTES>,
+    short: Post<SHORT_BYTES>,
+    bell: Unparker,
+}
+
+impl Drop for Helper {
+    /// Lets the thread end.
+    fn drop(self) {
+        let Helper { long, short, bell } = self;
+        drop(long);
+        drop(short);
+        bell.unpark();
+    }
+}
+
+impl Helper {
+    fn start<R: Host>(rt: R, alloc: Global) -> Result<Helper, AllocError> {
+        let parker = Parker::new(alloc)?;
+        let bell = parker.unparker().clone()?;
+        let (long, long_tray) = Post::new(alloc, LONG_TEXTS)?;
+        let (short, short_tray) = Post::new(alloc, TEXTS)?;
+        let mut desk = Desk {
+            long: long_tray,
+            short: short_tray,
+            bell: parker,
+        };
+        thread::spawn(&rt, move || desk.serve(&rt))?;
+        Ok(Helper { long, short, bell })
+    }
+
+    fn ask(&mut self, number: u64, is_short: bool, messages: &[&[u8]]) -> bool {
+        let is_asked = if is_short {
+            self.short.ask(number, messages)
+        } else {
+            self.long.ask(number, messages)
+        };
+        self.bell.unpark();
+        is_asked
+    }
+
+    fn wait(
+        &mut self,
+        number: u64,
+        is_short: bool,
+        messages: &[&[u8]],
+        digests: &mut [[u8; 32]],
+    ) -> bool
+        requires { length digests.old ≡ length messages.now }
+        ensures len { length digests.new ≡ length digests.old }
+        ensures hashes { OnTrue result (digests.new ≡ map (λ message. sha256 message.now) messages.now) }
+    {
+        if is_short {
+            self.short.wait(number, messages, digests)
+        } else {
+            self.long.wait(number, messages, digests)
+        }
+    }
+}
+
+/// Threads that hash for the one that has this.
+#[derive(Drop)]
+pub struct Helpers {
+    helpers: Vec<Helper>,
+    asked: u64,
+}
+
+impl Helpers {
+    /// No helper.
+    pub fn none(alloc: Global) -> Helpers
+        ensures { vec_len result.helpers ≡ 0 }
+    {
+        Helpers {
+            helpers: Vec::new(alloc),
+            asked: 0,
+        }
+    }
+
+    /// So many helpers, or as many of them as memory is there for and threads can be started for.
+    pub fn start<R: Host>(rt: R, alloc: Global, count: usize) -> Helpers
+        ensures { vec_len result.helpers ≤ count }
+    {
+        let mut helpers = Vec::new(alloc);
+        for _ in 0..count {
+            let Ok(helper) = Helper::start(rt, alloc) else {
+                break;
+            };
+            let _ = helpers.push(helper);
+        }
+        Helpers { helpers, asked: 0 }
+    }
+
+    /// How many helpers there are.
+    pub fn len(&self) -> usize
+        ensures { result ≡ vec_len self.now.helpers }
+    {
+        self.helpers.len()
+    }
+
+    /// Lets one of the first helpers, so many at most, begin with these messages. None begins where there are more than `TEXTS`, where
+    /// one is longer than `LONG_BYTES`, or `SHORT_BYTES` where there are more than `LONG_TEXTS`, or where all have enough to do.
+    pub fn begin(&mut self, most: usize, messages: &[&[u8]]) -> Option<Ticket>
+        ensures none { most ≡ 0 → result ≡ None }
+        ensures helpers { vec_len self.new.helpers ≡ vec_len self.old.helpers }
+    {
+        let count = self.helpers.len().min(most);
+        if count == 0 {
+            return None;
+        }
+        let number = self.asked;
+        self.asked = number.wrapping_add(1);
+        let helper = (number % count as u64) as usize;
+        let is_short = messages.len() > LONG_TEXTS;
+        self.helpers[helper]
+            .ask(number, is_short, messages)
+            .then_some(Ticket {
+                helper,
+                number,
+                is_short,
+            })
+    }
+
+    /// The helper's answer, if there is one in time.
+    fn wait(&mut self, ticket: Option<Ticket>, messages: &[&[u8]], digests: &mut [[u8; 32]]) -> bool
+        requires { length digests.old ≡ length messages.now }
+        ensures len { length digests.new ≡ length digests.old }
+        ensures hashes { OnTrue result (digests.new ≡ map (λ message. sha256 message.now) messages.now) }
+        ensures helpers { vec_len self.new.helpers ≡ vec_len self.old.helpers }
+    {
+        let Some(
+            Ticket {
+                helper,
+                number,
+                is_short,
+            },
+        ) = ticket
+        else {
+            return false;
+        };
+        helper < self.helpers.len()
+            && self.helpers[helper].wait(number, is_short, messages, digests)
+    }
+
+    /// The digests of these messages, each at its message's place: those that a helper has found, where it began with just
+    /// them and has ended in time.
+    pub fn finish(&mut self, ticket: Option<Ticket>, messages: &[&[u8]], found: &mut [[u8; 32]])
+        requires { length found.old ≡ length messages.now }
+        ensures digests { found.new ≡ map (λ message. sha256 message.now) messages.now }
+        ensures helpers { vec_len self.new.helpers ≡ vec_len self.old.helpers }
+    {
+        if !self.wait(ticket, messages, found) {
+            digests(messages, found);
+        }
+    }
+}

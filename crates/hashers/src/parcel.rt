@@ -1,0 +1,148 @@
+//! Texts on their way to a helper, and back with their hashes.
+ghost use Rattle.std.specs.Prelude.{◌≡◌, ◌<◌, ◌≤◌, ◌^◌, length, map, take, vec_len};
+ghost use Rattle.std.specs.Bool.{OnTrue};
+ghost use Rattle.sha2.specs.Sha256.{sha256};
+ghost use Rattle.hashers.specs.declared.parcel.TheConstants.{TEXTS};
+
+use arrayvec::ArrayVec;
+use sha2_lanes::digests;
+use std::alloc::{AllocError, Global};
+
+/// How many texts a parcel has at most.
+pub const TEXTS: usize = 64;
+
+/// A copy of a text.
+type Text<const N: usize> = ArrayVec<u8, N>;
+
+fn is_same(text: &[u8], message: &[u8]) -> bool
+    ensures { OnTrue result (text.now ≡ message.now) }
+{
+    text == message
+}
+
+/// Puts the hashes of the first texts at their places.
+fn hash_first<const N: usize>(texts: &[Text<N>], len: usize, hashes: &mut [[u8; 32]])
+    requires inside { len ≤ length texts.now }
+    requires same { length hashes.old ≡ length texts.now }
+    requires few { length texts.now ≤ TEXTS }
+    ensures len { length hashes.new ≡ length hashes.old }
+    ensures hashes { take len hashes.new ≡ map (λ text. sha256 text.items) (take len texts.now) }
+{
+    let mut messages: ArrayVec<&[u8], TEXTS> = ArrayVec::new();
+    for text in &texts[..len] {
+        messages.push(text.as_slice());
+    }
+    digests(messages.as_slice(), &mut hashes[..len]);
+}
+
+/// Copies of texts that are to be hashed, each of so many bytes at most, and room for their hashes.
+#[derive(Drop)]
+pub(crate) struct Parcel<const N: usize> {
+    number: u64,
+    texts: Vec<Text<N>>,
+    hashes: Vec<[u8; 32]>,
+    len: usize,
+    ghost small: { N < 2 ^ 32 },
+    ghost len_fits: { len ≤ vec_len texts },
+    ghost all_fit: { vec_len texts ≤ TEXTS },
+    ghost hashes_fit: { vec_len hashes ≡ vec_len texts },
+}
+
+impl<const N: usize> Parcel<N> {
+    /// Room for so many texts.
+    pub(crate) fn new(alloc: Global, room: usize) -> Result<Parcel<N>, AllocError>
+        requires small { N < 2 ^ 32 }
+        requires few { room ≤ TEXTS }
+    {
+        let mut texts = Vec::with_capacity(alloc, room)?;
+        for _ in 0..room {
+            texts.push(ArrayVec::new())?;
+        }
+        let hashes = vec![in alloc; [0u8; 32]; room]?;
+        Ok(Parcel {
+            number: 0,
+            texts,
+            hashes,
+            len: 0,
+        })
+    }
+
+    /// Copies these texts; the answer is false where there is no room for all of them.
+    pub(crate) fn fill(&mut self, number: u64, messages: &[&[u8]]) -> bool {
+        self.number = number;
+        self.len = 0;
+        if messages.len() > self.texts.len() {
+            return false;
+        }
+        for k in 0..messages.len() {
+            let text = &mut self.texts[k];
+            text.clear();
+            if text.try_extend_from_slice(messages[k]).is_err() {
+                return false;
+            }
+        }
+        self.len = messages.len();
+        true
+    }
+
+    /// Hashes the texts.
+    pub(crate) fn hashed(self) -> Hashed<N> {
+        let Parcel {
+            number,
+            texts,
+            mut hashes,
+            len,
+        } = self;
+        hash_first(&texts, len, &mut hashes);
+        Hashed {
+            parcel: Parcel {
+                number,
+                texts,
+                hashes,
+                len,
+            },
+        }
+    }
+}
+
+/// Texts with their hashes.
+#[derive(Drop)]
+pub(crate) struct Hashed<const N: usize> {
+    parcel: Parcel<N>,
+    ghost are_of_texts: { take parcel.len parcel.hashes.items ≡ map (λ text. sha256 text.items) (take parcel.len parcel.texts.items) },
+}
+
+impl<const N: usize> Hashed<N> {
+    pub(crate) fn number(&self) -> u64 {
+        self.parcel.number
+    }
+
+    /// Gives the hashes of these texts, where it has just them; the answer is whether it does.
+    pub(crate) fn give(&self, messages: &[&[u8]], digests: &mut [[u8; 32]]) -> bool
+        requires { length digests.old ≡ length messages.now }
+        ensures len { length digests.new ≡ length digests.old }
+        ensures hashes { OnTrue result (digests.new ≡ map (λ message. sha256 message.now) messages.now) }
+    {
+        let Parcel {
+            texts,
+            hashes,
+            len,
+            ..
+        } = &self.parcel;
+        if messages.len() != *len {
+            return false;
+        }
+        for k in 0..messages.len() {
+            if !is_same(texts[k].as_slice(), messages[k]) {
+                return false;
+            }
+            digests[k] = hashes[k];
+        }
+        true
+    }
+
+    /// The parcel, to be filled again.
+    pub(crate) fn into_parcel(self) -> Parcel<N> {
+        self.parcel
+    }
+}

@@ -1,0 +1,351 @@
+//! Jobs that helpers do beside the calling thread.
+ghost use Rattle.std.specs.Prelude.{◌≡◌, ◌<◌, ◌≤◌, ◌+◌, ◌*◌, ◌^◌, All, length, map, take};
+ghost use Rattle.merkle.specs.declared.helped.TheConstants.{MOST_HELPERS, ROUND};
+ghost use Rattle.hashers.specs.declared.parcel.TheConstants.{TEXTS};
+ghost use Rattle.merkle.specs.Jobs.{AreTexts, IsDone, IsTextOf};
+ghost use Rattle.merkle.specs.Nodes.{join_at};
+ghost use Rattle.sha2.specs.Sha256.{sha256};
+ghost use Rattle.tpcc_model.specs.Roots.{leaf_hash};
+ghost use Rattle.tpcc_rows.specs.declared.codes.TheConstants.{LEAVES};
+
+use crate::hashing::{LEAF_BYTES, NODE_BYTES};
+use crate::jobs::Job;
+use crate::leaves::Leaves;
+use crate::levels::InnerNodes;
+use crate::places::{Places, do_jobs, sort_by_bytes};
+use arrayvec::ArrayVec;
+use hashers::{Helpers, Host, LONG_TEXTS, TEXTS, Ticket};
+use std::alloc::{AllocError, Global};
+use tpcc_rows::row_buf::ByteBuf;
+
+/// How many helpers there are at most.
+pub(crate) const MOST_HELPERS: usize = 7;
+
+/// How many leaves are encoded at most before their hashes are waited for.
+const ROUND: usize = 32;
+
+/// How many groups a round has at most: of leaves as many as helpers take, of nodes one for each helper.
+const MOST_GROUPS: usize = 8;
+
+/// How many nodes a level has at least where helpers pay.
+const FEWEST_NODES: usize = 32;
+
+/// Where the groups of a round were sent.
+type Tickets = ArrayVec<Option<Ticket>, MOST_GROUPS>;
+
+/// Places whose texts are encoded before they are hashed.
+pub(crate) trait Encodes<const N: usize>: Places {
+    /// Fills the buffer anew with what the hash of a place is of; where there is no room for all of it, the buffer is empty.
+    fn encode(&self, place: usize, text: &mut ByteBuf<N>)
+        requires { Self.has self.now place }
+        ensures { IsTextOf (Self.hash self.now place) text.new };
+}
+
+/// How jobs are shared with helpers: so many at most, in groups of so many.
+#[derive(Clone, Copy)]
+struct Plan<'a, P> {
+    places: &'a P,
+    most: usize,
+    size: usize,
+}
+
+/// The bytes of texts, of so many at most.
+fn bytes_of<const N: usize>(texts: &[ByteBuf<N>]) -> ArrayVec<&[u8], TEXTS>
+    requires small { N < 2 ^ 32 }
+    requires few { length texts.now ≤ TEXTS }
+    ensures { map (λ bytes. sha256 bytes.now) result.items ≡ map (λ text. sha256 text) texts.now }
+{
+    let mut bytes = ArrayVec::new();
+    for text in texts {
+        bytes.push(text.as_slice());
+    }
+    bytes
+}
+
+/// Lets a helper begin with the texts from one place to before another.
+fn begin_group<const N: usize>(
+    helpers: &mut Helpers,
+    most: usize,
+    texts: &[ByteBuf<N>],
+    start: usize,
+    end: usize,
+) -> Option<Ticket>
+    requires small { N < 2 ^ 32 }
+    requires range { (start ≤ end) × (end ≤ length texts.now) }
+    requires few { end ≤ start + TEXTS }
+{
+    helpers.begin(most, bytes_of(&texts[start..end]).as_slice())
+}
+
+/// Encodes the texts of jobs, and lets helpers begin with them, group by group.
+fn begin<const N: usize, P: Encodes<N>>(
+    helpers: &mut Helpers,
+    plan: &Plan<'_, P>,
+    jobs: &[Job],
+    texts: &mut [ByteBuf<N>],
+) -> Tickets
+    requires small { N < 2 ^ 32 }
+    requires size { (0 < plan.now.size) × (plan.now.size ≤ TEXTS) }
+    requires same { length texts.old ≡ length jobs.now }
+    requires there { All (λ job. P.has plan.now.places.now job.place) jobs.now }
+    ensures { AreTexts (P.hash plan.now.places.now) jobs.now texts.new }
+{
+    let Plan { places, most, size } = *plan;
+    let mut tickets = Tickets::new();
+    for k in 0..jobs.len() {
+        places.encode(jobs[k].place, &mut texts[k]);
+        let end = k + 1;
+        if end % size == 0 || end == jobs.len() {
+            let ticket = begin_group(helpers, most, texts, k - k % size, end);
+            let _ = tickets.try_push(ticket);
+        }
+    }
+    tickets
+}
+
+/// The hash of a place, where this is the hash of its text.
+fn hash_by<P: Places>(places: &P, place: usize, text: &[u8], hash: [u8; 32]) -> [u8; 32]
+    requires there { P.has places.now place }
+    requires text { IsTextOf (P.hash places.now place) text.now }
+    requires hash { hash ≡ sha256 text.now }
+    ensures { result ≡ P.hash places.now place }
+{
+    if text.is_empty() {
+        places.hash_one(place)
+    } else {
+        hash
+    }
+}
+
+/// Gives jobs the hashes of their texts.
+fn give<const N: usize, P: Places>(
+    places: &P,
+    jobs: &mut [Job],
+    texts: &[ByteBuf<N>],
+    hashes: &[[u8; 32]],
+)
+    requires small { N < 2 ^ 32 }
+    requires there { All (λ job. P.has places.now job.place) jobs.old }
+    requires texts { AreTexts (P.hash places.now) jobs.old texts.now }
+    requires hashes { hashes.now ≡ map (λ text. sha256 text) texts.now }
+    ensures { IsDone (P.hash places.now) jobs.old jobs.new }
+{
+    for k in 0..jobs.len() {
+        jobs[k].hash = hash_by(places, jobs[k].place, texts[k].as_slice(), hashes[k]);
+    }
+}
+
+/// Puts the hashes of a group's texts into the list.
+fn hash_group<const N: usize>(
+    helpers: &mut Helpers,
+    ticket: Option<Ticket>,
+    texts: &[ByteBuf<N>],
+    hashes: &mut [[u8; 32]],
+)
+    requires small { N < 2 ^ 32 }
+    requires few { length texts.now ≤ TEXTS }
+    requires same { length hashes.old ≡ length texts.now }
+    ensures { hashes.new ≡ map (λ text. sha256 text) texts.now }
+{
+    helpers.finish(ticket, bytes_of(texts).as_slice(), hashes);
+}
+
+/// Hashes the texts of a group, and gives the jobs their hashes.
+fn finish_group<const N: usize, P: Places>(
+    helpers: &mut Helpers,
+    ticket: Option<Ticket>,
+    places: &P,
+    jobs: &mut [Job],
+    texts: &[ByteBuf<N>],
+)
+    requires small { N < 2 ^ 32 }
+    requires few { length jobs.old ≤ TEXTS }
+    requires there { All (λ job. P.has places.now job.place) jobs.old }
+    requires texts { AreTexts (P.hash places.now) jobs.old texts.now }
+    ensures { IsDone (P.hash places.now) jobs.old jobs.new }
+{
+    let len = texts.len();
+    let mut hashes = [[0u8; 32]; TEXTS];
+    hash_group(helpers, ticket, texts, &mut hashes[..len]);
+    give(places, jobs, texts, &hashes[..len]);
+}
+
+/// Gives jobs the hashes of their texts, group by group.
+#[tactic(auto, using(crate::proofs::Texts::part_there, crate::proofs::Texts::part_texts))]
+fn finish<const N: usize, P: Places>(
+    helpers: &mut Helpers,
+    tickets: &[Option<Ticket>],
+    plan: &Plan<'_, P>,
+    jobs: &mut [Job],
+    texts: &[ByteBuf<N>],
+)
+    requires small { N < 2 ^ 32 }
+    requires size { (0 < plan.now.size) × (plan.now.size ≤ TEXTS) }
+    requires there { All (λ job. P.has plan.now.places.now job.place) jobs.old }
+    requires texts { AreTexts (P.hash plan.now.places.now) jobs.old texts.now }
+    ensures { IsDone (P.hash plan.now.places.now) jobs.old jobs.new }
+{
+    let Plan { places, size, .. } = *plan;
+    let mut start = 0;
+    while start < jobs.len() {
+        let end = start + size.min(jobs.len() - start);
+        let ticket = tickets.get(start / size).copied().flatten();
+        finish_group(
+            helpers,
+            ticket,
+            places,
+            &mut jobs[start..end],
+            &texts[start..end],
+        );
+        start = end;
+    }
+}
+
+/// Does jobs, of which helpers do the first, so many.
+fn do_level<const N: usize, P: Encodes<N>>(
+    helpers: &mut Helpers,
+    plan: &Plan<'_, P>,
+    given: usize,
+    jobs: &mut [Job],
+    texts: &mut [ByteBuf<N>],
+)
+    requires small { N < 2 ^ 32 }
+    requires size { (0 < plan.now.size) × (plan.now.size ≤ TEXTS) }
+    requires given { (given ≤ length jobs.old) × (given ≤ length texts.old) }
+    requires there { All (λ job. P.has plan.now.places.now job.place) jobs.old }
+    ensures { IsDone (P.hash plan.now.places.now) jobs.old jobs.new }
+{
+    let (first, rest) = jobs.split_at_mut(given);
+    let tickets = begin(helpers, plan, first, &mut texts[..given]);
+    do_jobs(rest, plan.places);
+    finish(helpers, tickets.as_slice(), plan, first, &texts[..given]);
+}
+
+/// Does jobs, all with helpers, as far as these have room for them.
+fn do_round<const N: usize, P: Encodes<N>>(
+    helpers: &mut Helpers,
+    plan: &Plan<'_, P>,
+    jobs: &mut [Job],
+    texts: &mut [ByteBuf<N>],
+)
+    requires small { N < 2 ^ 32 }
+    requires size { (0 < plan.now.size) × (plan.now.size ≤ TEXTS) }
+    requires same { length texts.old ≡ length jobs.old }
+    requires there { All (λ job. P.has plan.now.places.now job.place) jobs.old }
+    ensures { IsDone (P.hash plan.now.places.now) jobs.old jobs.new }
+{
+    let tickets = begin(helpers, plan, jobs, texts);
+    finish(helpers, tickets.as_slice(), plan, jobs, texts);
+}
+
+/// Does jobs round by round.
+fn do_rounds<const N: usize, P: Encodes<N>>(
+    helpers: &mut Helpers,
+    plan: &Plan<'_, P>,
+    jobs: &mut [Job],
+    texts: &mut [ByteBuf<N>],
+)
+    requires small { N < 2 ^ 32 }
+    requires size { (0 < plan.now.size) × (plan.now.size ≤ TEXTS) }
+    requires room { ROUND ≤ length texts.old }
+    requires there { All (λ job. P.has plan.now.places.now job.place) jobs.old }
+    ensures { IsDone (P.hash plan.now.places.now) jobs.old jobs.new }
+{
+    let mut start = 0;
+    while start < jobs.len() {
+        let len = ROUND.min(jobs.len() - start);
+        let end = start + len;
+        do_round(helpers, plan, &mut jobs[start..end], &mut texts[..len]);
+        start = end;
+    }
+}
+
+/// Room for so many texts.
+fn texts<const N: usize>(alloc: Global, count: usize) -> Result<Vec<ByteBuf<N>>, AllocError>
+    requires { N < 2 ^ 32 }
+{
+    let mut texts = Vec::with_capacity(alloc, count)?;
+    for _ in 0..count {
+        texts.push(ByteBuf::new())?;
+    }
+    Ok(texts)
+}
+
+/// Helpers, and room for the texts that they are asked to hash.
+#[derive(Drop)]
+pub(crate) struct Helped {
+    helpers: Helpers,
+    leaves: Vec<ByteBuf<LEAF_BYTES>>,
+    nodes: Vec<ByteBuf<NODE_BYTES>>,
+}
+
+impl Helped {
+    /// No helper.
+    pub(crate) fn alone(alloc: Global) -> Helped {
+        Helped {
+            helpers: Helpers::none(alloc),
+            leaves: Vec::new(alloc),
+            nodes: Vec::new(alloc),
+        }
+    }
+
+    /// So many helpers, or as many as can be started.
+    pub(crate) fn start<R: Host>(rt: R, alloc: Global, count: usize) -> Result<Helped, AllocError> {
+        if count == 0 {
+            return Ok(Helped::alone(alloc));
+        }
+        let leaves = texts(alloc, ROUND)?;
+        let nodes = texts(alloc, TEXTS * MOST_HELPERS)?;
+        Ok(Helped {
+            helpers: Helpers::start(rt, alloc, count.min(MOST_HELPERS)),
+            leaves,
+            nodes,
+        })
+    }
+
+    /// How many helpers there are for so many threads.
+    fn most(&self, threads: usize) -> usize
+        ensures { result ≤ MOST_HELPERS }
+    {
+        self.helpers
+            .len()
+            .min(threads.saturating_sub(1))
+            .min(MOST_HELPERS)
+    }
+
+    /// Hashes leaves.
+    pub(crate) fn do_leaves(&mut self, jobs: &mut [Job], places: &Leaves<'_>, threads: usize)
+        requires { All (λ job. job.place < LEAVES) jobs.old }
+        ensures { IsDone (leaf_hash places.now.store.now.rows) jobs.old jobs.new }
+    {
+        let most = self.most(threads);
+        if most == 0 || self.leaves.len() < ROUND {
+            do_jobs(jobs, places);
+            return;
+        }
+        let plan = Plan {
+            places,
+            most,
+            size: LONG_TEXTS,
+        };
+        sort_by_bytes(jobs, places);
+        do_rounds(&mut self.helpers, &plan, jobs, &mut self.leaves);
+    }
+
+    /// Joins nodes.
+    pub(crate) fn do_nodes(&mut self, jobs: &mut [Job], places: &InnerNodes<'_>, threads: usize)
+        requires { All (λ job. 2 * job.place + 1 < length places.now.nodes.now) jobs.old }
+        ensures { IsDone (join_at places.now.nodes.now) jobs.old jobs.new }
+    {
+        let most = self.most(threads);
+        if most == 0 || jobs.len() < FEWEST_NODES {
+            do_jobs(jobs, places);
+            return;
+        }
+        // The calling thread takes a fifth more than a helper, since the helpers begin later.
+        let size = (5 * jobs.len() / (5 * most + 6)).clamp(1, TEXTS);
+        let plan = Plan { places, most, size };
+        let given = (size * most).min(self.nodes.len()).min(jobs.len());
+        do_level(&mut self.helpers, &plan, given, jobs, &mut self.nodes);
+    }
+}
