@@ -35,10 +35,10 @@ pub const GROUPS: [&[usize]; 27] = [
 ];
 
 /// So many bytes, of which the messages of a group are parts: the first from the first byte on, the second from the second.
-pub fn all_bytes(alloc: Global, count: u64) -> Option<Vec<u8>> {
+pub fn all_bytes(alloc: Global, count: u16) -> Option<Vec<u8>> {
     let mut bytes = Vec::new(alloc);
     for i in 0..count {
-        bytes.push(((31 * i + 7) % 251) as u8).ok()?;
+        bytes.push(((31 * u64::from(i) + 7) % 251) as u8).ok()?;
     }
     Some(bytes)
 }

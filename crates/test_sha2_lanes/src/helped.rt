@@ -48,6 +48,7 @@ fn ask(alloc: Global, helpers: &mut Helpers, begun: &[&[u8]], asked: &[&[u8]]) -
     Some(are_as_alone(asked, &digests))
 }
 
+/// For how many groups the digests are as alone.
 fn count(
     alloc: Global,
     helpers: &mut Helpers,
@@ -55,12 +56,12 @@ fn count(
     groups: &[&[usize]],
     turned: bool,
 ) -> Option<usize> {
-    let mut right = 0;
+    let mut right = 0usize;
     for lengths in groups {
         let begun = messages_of(alloc, bytes, lengths, false)?;
         let asked = messages_of(alloc, bytes, lengths, turned)?;
         if ask(alloc, helpers, &begun, &asked)? {
-            right += 1;
+            right = right.saturating_add(1);
         }
     }
     Some(right)
