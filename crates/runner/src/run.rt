@@ -18,7 +18,7 @@ use workers::{Gate, Workers};
 /// The most bytes of batches.
 const MOST_BATCH_BYTES: usize = 1_073_741_824;
 
-/// Reads all bytes of batches, and runs them on the state that an executor has.
+/// Reads all bytes of batches, keeps threads for them, and runs them on the state that an executor has.
 pub(crate) fn run_read<R: Host, B: Source, S: Sink, G: Gate>(
     crew: &Crew<'_, R, G>,
     executor: &mut Executor,
@@ -44,6 +44,7 @@ pub(crate) fn run_read<R: Host, B: Source, S: Sink, G: Gate>(
         Ok(text) => text,
         Err(error) => return Err(RunFault::Read(error)),
     };
+    executor.keep_threads(*crew.rt, crew.alloc, crew.workers);
     run_batches(crew, executor, text.as_slice(), sink)
 }
 

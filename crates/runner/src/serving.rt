@@ -12,7 +12,6 @@ use crate::crew::Crew;
 use crate::fault::RunFault;
 use crate::text::batch_text;
 use executor::{Executor, MOST_REQUESTS};
-use hashers::Host;
 use records::io::Sink;
 use records::slurp::push_all;
 use requests::batch_reader::BatchReader;
@@ -56,7 +55,7 @@ fn serve_batch<R: Threads + Sync, S: Sink, G: Gate>(
 
 /// Reads the batches of a text in turn, executes each on what the ones before it left, commits it, and writes its replies and
 /// its record before the next is read. The answer is the number of batches.
-pub(crate) fn run_batches<R: Host, S: Sink, G: Gate>(
+pub(crate) fn run_batches<R: Threads + Sync, S: Sink, G: Gate>(
     crew: &Crew<'_, R, G>,
     executor: &mut Executor,
     text: &[u8],
@@ -76,7 +75,6 @@ pub(crate) fn run_batches<R: Host, S: Sink, G: Gate>(
         Ok(reader) => reader,
         Err(error) => return Err(RunFault::Read(error)),
     };
-    executor.keep_threads(*crew.rt, crew.alloc, crew.workers);
     let mut done: u64 = 0;
     'batches: loop {
         let batch = match reader.next_batch(crew.alloc) {
