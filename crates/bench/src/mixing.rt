@@ -6,6 +6,7 @@ use crate::paying::whole;
 use crate::requests_text::{Kind, batches};
 use crate::timing::{print_ratio, print_share, since, start};
 use catalog::Catalog;
+use hashers::Host;
 use loader::load;
 use merkle::Tree;
 use requests::request::{Batch, Request};
@@ -14,7 +15,6 @@ use rollback::{Dirty, PointedStore};
 use sha2::{Digest, Sha256};
 use std::alloc::Global;
 use std::rt::Clock;
-use std::thread::Threads;
 use std::time::Duration;
 use tpcc_rows::codes::LEAVES;
 use tpcc_rows::id::RequestNumber;
@@ -129,7 +129,7 @@ impl Engine {
     }
 
     /// Refreshes the tree on one thread.
-    fn hash<R: Clock + AllocGlobal + Threads + Sync>(&mut self, rt: &R, dirty: &Dirty) {
+    fn hash<R: Clock + AllocGlobal + Host>(&mut self, rt: &R, dirty: &Dirty) {
         let begin = start(rt);
         self.tree.refresh(rt, &self.store, dirty, 1);
         self.stages.hashing = self.stages.hashing.saturating_add(since(rt, begin));
@@ -159,11 +159,7 @@ impl Engine {
         Some(())
     }
 
-    fn serve<R: Clock + AllocGlobal + Threads + Sync>(
-        &mut self,
-        rt: &R,
-        batch: &Batch,
-    ) -> Option<()> {
+    fn serve<R: Clock + AllocGlobal + Host>(&mut self, rt: &R, batch: &Batch) -> Option<()> {
         let mut replies = Vec::new(rt.alloc());
         self.store.mark().ok()?;
         for request in batch.requests.as_slice() {
@@ -177,7 +173,7 @@ impl Engine {
     }
 
     /// Reads and serves all batches.
-    fn serve_all<R: Clock + AllocGlobal + Threads + Sync>(
+    fn serve_all<R: Clock + AllocGlobal + Host>(
         &mut self,
         rt: &R,
         reader: &mut BatchReader,
@@ -196,11 +192,7 @@ impl Engine {
 }
 
 /// What the stages take of batches on the database of an image.
-fn stages_of<R: Clock + AllocGlobal + Threads + Sync>(
-    rt: &R,
-    image: &[u8],
-    text: &[u8],
-) -> Option<Stages> {
+fn stages_of<R: Clock + AllocGlobal + Host>(rt: &R, image: &[u8], text: &[u8]) -> Option<Stages> {
     let (catalog, store) = load(rt.alloc(), &mut BytesSource::new(image, 65_536)).ok()?;
     let tree = Tree::build(rt, rt.alloc(), &store).ok()?;
     let mut engine = Engine {
@@ -217,7 +209,7 @@ fn stages_of<R: Clock + AllocGlobal + Threads + Sync>(
 }
 
 /// The least time from the bytes of an image and of batches to those of the replies, by one worker.
-fn least_whole<R: Clock + AllocGlobal + Threads + Sync>(
+fn least_whole<R: Clock + AllocGlobal + Host>(
     rt: &R,
     image: &[u8],
     text: &[u8],
@@ -229,7 +221,7 @@ fn least_whole<R: Clock + AllocGlobal + Threads + Sync>(
     Some(least)
 }
 
-fn measure_on<R: Clock + Eprint + AllocGlobal + Threads + Sync>(
+fn measure_on<R: Clock + Eprint + AllocGlobal + Host>(
     rt: &R,
     what: &str,
     image: &[u8],
@@ -253,7 +245,7 @@ fn measure_on<R: Clock + Eprint + AllocGlobal + Threads + Sync>(
 
 /// Batches of 1,000 requests from bytes to bytes, less what the same run takes with no batch, and the stages' shares: on the
 /// database of `make 1 3000 100000`, and on a warehouse whose customers' data are of the standard's length.
-pub fn measure<R: Clock + Eprint + AllocGlobal + Threads + Sync>(rt: &R) -> Option<()> {
+pub fn measure<R: Clock + Eprint + AllocGlobal + Host>(rt: &R) -> Option<()> {
     let text = batches(rt.alloc(), Kind::Mix, 3, 1000).ok()?;
     let made = made_image(rt.alloc(), 3000, 100_000)?;
     measure_on(rt, "make 1 3000 100000", &made, text.as_bytes())?;
