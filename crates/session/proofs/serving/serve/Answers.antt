@@ -1,6 +1,6 @@
 use Rattle.commands.specs.Commands.{commands}
 use Rattle.session.proofs.WholeSessions.{left_whole, served_whole, unopened_session}
-use Rattle.std.proofs.Common.{Result, option_map, refl, subst}
+use Rattle.std.proofs.Common.{option_map, refl, subst}
 use Rattle.std.specs.Prelude.{IfErr, IfOk, IfSome}
 use Rattle.runner.specs.Openings.{IsOpened, IsUnopened}
 use Rattle.session.proofs.serving.serve.Goals as goal
