@@ -88,6 +88,14 @@ fn serve_commands<R: Threads + Sync, C: Read + Drop, S: Sink, G: Gate>(
     }
 }
 
+/// Keeps threads for so many workers. Its frame has the room in which their texts are made.
+#[inline(never)]
+fn keep_threads<R: Host>(rt: &R, alloc: Global, executor: &mut Executor, workers: Workers)
+    ensures { executor.new ≡ executor.old }
+{
+    executor.keep_threads(*rt, alloc, workers);
+}
+
 /// Reads the commands of a text in turn, and answers each before the next is read. Its frame has the reader's room, that of `serve`
 /// the executor's.
 #[inline(never)]
@@ -110,7 +118,7 @@ fn serve_input<R: Host, C: Read + Drop, S: Sink, G: Gate>(
     ensures kinds { IfErr result IsOfSession }
     ensures failures { S.failed sink.new ≡ S.failed sink.old + (if is_write result then 1 else 0) }
 {
-    executor.keep_threads(*rt, alloc, workers);
+    keep_threads(rt, alloc, executor, workers);
     let mut reader = CommandReader::new(alloc, input);
     serve_commands(rt, alloc, executor, &mut reader, sink, workers, gate)
 }
