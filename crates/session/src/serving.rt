@@ -118,8 +118,8 @@ fn serve_input<R: Host, C: Read + Drop, S: Sink, G: Gate>(
     ensures kinds { IfErr result IsOfSession }
     ensures failures { S.failed sink.new ≡ S.failed sink.old + (if is_write result then 1 else 0) }
 {
-    keep_threads(rt, alloc, executor, workers);
     let mut reader = CommandReader::new(alloc, input);
+    keep_threads(rt, alloc, executor, workers);
     serve_commands(rt, alloc, executor, &mut reader, sink, workers, gate)
 }
 
