@@ -1,16 +1,19 @@
 -- A batch whose requests run in its order, each within what it declared.
-use Rattle.std.specs.Prelude.{◌≡◌, Bool}
+use Rattle.std.specs.Prelude.{◌≡◌, Bool, List}
 use Rattle.serializability.specs.InTurn.{strays_in_turn}
 use Rattle.serializability.specs.Levels as levels
 use Rattle.serializability.specs.Levels.{Job}
 use Rattle.tpcc_rows.specs.RowMap.{Rows}
 use Rattle.tpcc_rows.specs.declared.granule.Granule.{Granule}
 use Rattle.catalog.specs.CardMap.{Cards}
+use Rattle.requests.specs.declared.reply.Reply.{Reply}
 use Rattle.requests.specs.declared.request.Batch.{Batch}
 use Rattle.requests.specs.declared.request.Request.{Request}
+use Rattle.tpcc_model.specs.Database.{database}
 use Rattle.tpcc_model.specs.Machine.{tpcc}
 use Rattle.tpcc_model.specs.Serial.{State}
 use Rattle.tpcc_model.specs.Soundness.{IsSound}
+use Rattle.tpcc_model.specs.Steps.{replies, rows_after}
 use Rattle.executor.specs.LevelRuns.{declared_footprints, strays}
 use Rattle.executor.specs.States.{AreWithinLimits}
 use Rattle.executor.specs.declared.in_order.Declared.{Declared}
@@ -20,12 +23,21 @@ use Rattle.executor.specs.declared.level.Plan.{Plan}
 abbrev pub job_of : Declared → Job Granule Request
 job_of declared = record { number = declared.number; request = declared.request.now; declared = declared.footprint.now }
 
+-- what a planned batch replies and leaves, its requests executed in their order
+abbrev pub plan_replies_in_turn : Cards → Rows → Plan → List Reply
+plan_replies_in_turn cards rows plan = replies (database cards rows) plan.batch.now.moment plan.first plan.batch.now.requests
+
+abbrev pub plan_rows_in_turn : Cards → Rows → Plan → Rows
+plan_rows_in_turn cards rows plan = rows_after (database cards rows) plan.batch.now.moment plan.first plan.batch.now.requests
+
 -- some request touches more than it declared, on the rows that those before it leave
 abbrev pub plan_strays_in_turn : Cards → Rows → Plan → Bool
-plan_strays_in_turn cards rows plan = strays_in_turn (tpcc cards plan.batch.now.moment) rows (levels.jobs plan.first plan.batch.now.requests plan.footprints.now)
+plan_strays_in_turn cards rows plan
+    = strays_in_turn (tpcc cards plan.batch.now.moment) rows (levels.jobs plan.first plan.batch.now.requests plan.footprints.now)
 
 -- the law: so a batch strays, by what its requests declare
 abbrev pub StraysAreInTurn : Type 0
 StraysAreInTurn = (cards : Cards) (state : State) (batch : Batch)
     → IsSound (record { cards = cards; rows = state.rows }) → AreWithinLimits batch.moment state.next batch.requests
-    → strays cards state batch ≡ strays_in_turn (tpcc cards batch.moment) state.rows (levels.jobs state.next batch.requests (declared_footprints cards state batch))
+    → strays cards state batch
+    ≡ strays_in_turn (tpcc cards batch.moment) state.rows (levels.jobs state.next batch.requests (declared_footprints cards state batch))

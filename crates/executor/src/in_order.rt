@@ -1,11 +1,11 @@
 //! The requests of a batch, executed in its order by one thread, each on the rows that it declared.
 ghost use Rattle.std.specs.Prelude.{◌≡◌, ◌||◌, IfOk, OnOk};
 ghost use Rattle.serializability.specs.Levels.{job_strays};
-ghost use Rattle.executor.specs.InOrder.{job_of, plan_strays_in_turn};
+ghost use Rattle.executor.specs.InOrder.{job_of, plan_replies_in_turn, plan_rows_in_turn, plan_strays_in_turn};
 ghost use Rattle.rollback.specs.Pointed.{KeepsCleanLeaves};
 ghost use Rattle.tpcc_model.specs.Database.{database};
 ghost use Rattle.tpcc_model.specs.Machine.{tpcc};
-ghost use Rattle.tpcc_model.specs.Steps.{replies, rows_after, step};
+ghost use Rattle.tpcc_model.specs.Steps.{step};
 ghost use Rattle.transactions.specs.Outcomes.{IsOutcome};
 
 use crate::level::Plan;
@@ -76,8 +76,8 @@ pub(crate) fn execute_in_order(
     store: &mut PointedStore,
     plan: &Plan<'_>,
 ) -> Result<Pass, Memory>
-    ensures replies { IfOk result (λ pass. pass.replies.items ≡ replies (database catalog.now store.old.rows) plan.now.batch.now.moment plan.now.first plan.now.batch.now.requests) }
-    ensures rows { OnOk result (store.new.rows ≡ rows_after (database catalog.now store.old.rows) plan.now.batch.now.moment plan.now.first plan.now.batch.now.requests) }
+    ensures replies { IfOk result (λ pass. pass.replies.items ≡ plan_replies_in_turn catalog.now store.old.rows plan.now) }
+    ensures rows { OnOk result (store.new.rows ≡ plan_rows_in_turn catalog.now store.old.rows plan.now) }
     ensures strayed { IfOk result (λ pass. pass.strayed ≡ plan_strays_in_turn catalog.now store.old.rows plan.now) }
     ensures points { store.new.points ≡ store.old.points }
     ensures clean { KeepsCleanLeaves store.old store.new }
