@@ -23,17 +23,40 @@ fn part_of(taken: &[u8], whole: &[u8]) -> &'static str {
     }
 }
 
-/// Shows what came where a call of an end failed: what the sink took, of the text that it takes where no call fails.
-fn show(
-    alloc: Global,
-    out: &mut Vec<u8>,
-    end: &str,
+/// What is run or checked, and the text that it writes where no call fails. A call of an end moves so many bytes at most.
+#[derive(Clone, Copy)]
+pub struct Case<'a> {
+    pub image: &'a [u8],
+    pub batches: &'a [u8],
+    pub whole: &'a [u8],
+    pub step: usize,
+    pub ghost moves: { 0 < step },
+}
+
+/// What came where a call of an end failed: how many failed from then on, the fault, and what the sink took.
+#[derive(Drop)]
+struct Failing<'a> {
+    end: &'static str,
     call: u64,
     failures: u64,
     fault: Option<RunFault>,
-    taken: &[u8],
+    taken: &'a [u8],
+}
+
+/// Shows what came where a call failed, and how much of the whole text the sink took.
+fn show(
+    alloc: Global,
+    out: &mut Vec<u8>,
+    failing: Failing<'_>,
     whole: &[u8],
 ) -> Result<(), Memory> {
+    let Failing {
+        end,
+        call,
+        failures,
+        fault,
+        taken,
+    } = failing;
     let answer = answer_of(alloc, fault)?;
     let head = format!(in alloc; "{end}, call {call}: {failures} failed, ")?;
     out.extend_from_slice(head.as_bytes())?;
@@ -63,30 +86,23 @@ fn run_between<R: Host + AllocGlobal, I: Source, B: Source, S: Sink>(
 pub fn fail_image<R: Host + AllocGlobal>(
     rt: &R,
     out: &mut Vec<u8>,
-    image_text: &[u8],
-    batches_text: &[u8],
-    whole: &[u8],
-    step: usize,
-) -> Result<(), Memory>
-    requires { 0 < step }
-{
+    case: &Case<'_>,
+) -> Result<(), Memory> {
     for call in 0..MOST_CALLS {
-        let mut image = FailAt::new(BytesSource::new(image_text, step), call);
-        let mut batches = BytesSource::new(batches_text, step);
-        let mut sink = BytesSink::new(rt.alloc(), step);
+        let mut image = FailAt::new(BytesSource::new(case.image, case.step), call);
+        let mut batches = BytesSource::new(case.batches, case.step);
+        let mut sink = BytesSink::new(rt.alloc(), case.step);
         let fault = run_between(rt, &mut image, &mut batches, &mut sink);
         let failures = image.failures();
         let taken = sink.bytes.as_slice();
-        show(
-            rt.alloc(),
-            out,
-            "image",
+        let failing = Failing {
+            end: "image",
             call,
             failures,
             fault,
             taken,
-            whole,
-        )?;
+        };
+        show(rt.alloc(), out, failing, case.whole)?;
         if failures == 0 {
             break;
         }
@@ -98,30 +114,23 @@ pub fn fail_image<R: Host + AllocGlobal>(
 pub fn fail_batches<R: Host + AllocGlobal>(
     rt: &R,
     out: &mut Vec<u8>,
-    image_text: &[u8],
-    batches_text: &[u8],
-    whole: &[u8],
-    step: usize,
-) -> Result<(), Memory>
-    requires { 0 < step }
-{
+    case: &Case<'_>,
+) -> Result<(), Memory> {
     for call in 0..MOST_CALLS {
-        let mut image = BytesSource::new(image_text, step);
-        let mut batches = FailAt::new(BytesSource::new(batches_text, step), call);
-        let mut sink = BytesSink::new(rt.alloc(), step);
+        let mut image = BytesSource::new(case.image, case.step);
+        let mut batches = FailAt::new(BytesSource::new(case.batches, case.step), call);
+        let mut sink = BytesSink::new(rt.alloc(), case.step);
         let fault = run_between(rt, &mut image, &mut batches, &mut sink);
         let failures = batches.failures();
         let taken = sink.bytes.as_slice();
-        show(
-            rt.alloc(),
-            out,
-            "batches",
+        let failing = Failing {
+            end: "batches",
             call,
             failures,
             fault,
             taken,
-            whole,
-        )?;
+        };
+        show(rt.alloc(), out, failing, case.whole)?;
         if failures == 0 {
             break;
         }
@@ -133,21 +142,23 @@ pub fn fail_batches<R: Host + AllocGlobal>(
 pub fn fail_sink<R: Host + AllocGlobal>(
     rt: &R,
     out: &mut Vec<u8>,
-    image_text: &[u8],
-    batches_text: &[u8],
-    whole: &[u8],
-    step: usize,
-) -> Result<(), Memory>
-    requires { 0 < step }
-{
+    case: &Case<'_>,
+) -> Result<(), Memory> {
     for call in 0..MOST_CALLS {
-        let mut image = BytesSource::new(image_text, step);
-        let mut batches = BytesSource::new(batches_text, step);
-        let mut sink = FailAt::new(BytesSink::new(rt.alloc(), step), call);
+        let mut image = BytesSource::new(case.image, case.step);
+        let mut batches = BytesSource::new(case.batches, case.step);
+        let mut sink = FailAt::new(BytesSink::new(rt.alloc(), case.step), call);
         let fault = run_between(rt, &mut image, &mut batches, &mut sink);
         let failures = sink.failures();
         let taken = sink.inner.bytes.as_slice();
-        show(rt.alloc(), out, "sink", call, failures, fault, taken, whole)?;
+        let failing = Failing {
+            end: "sink",
+            call,
+            failures,
+            fault,
+            taken,
+        };
+        show(rt.alloc(), out, failing, case.whole)?;
         if failures == 0 {
             break;
         }
@@ -159,28 +170,22 @@ pub fn fail_sink<R: Host + AllocGlobal>(
 pub fn fail_checked_image<R: Host + AllocGlobal>(
     rt: &R,
     out: &mut Vec<u8>,
-    image_text: &[u8],
-    whole: &[u8],
-    step: usize,
-) -> Result<(), Memory>
-    requires { 0 < step }
-{
+    case: &Case<'_>,
+) -> Result<(), Memory> {
     for call in 0..MOST_CALLS {
-        let mut image = FailAt::new(BytesSource::new(image_text, step), call);
-        let mut sink = BytesSink::new(rt.alloc(), step);
+        let mut image = FailAt::new(BytesSource::new(case.image, case.step), call);
+        let mut sink = BytesSink::new(rt.alloc(), case.step);
         let fault = check_text(rt, rt.alloc(), &mut image, &mut sink).err();
         let failures = image.failures();
         let taken = sink.bytes.as_slice();
-        show(
-            rt.alloc(),
-            out,
-            "checked image",
+        let failing = Failing {
+            end: "checked image",
             call,
             failures,
             fault,
             taken,
-            whole,
-        )?;
+        };
+        show(rt.alloc(), out, failing, case.whole)?;
         if failures == 0 {
             break;
         }
@@ -192,28 +197,22 @@ pub fn fail_checked_image<R: Host + AllocGlobal>(
 pub fn fail_checked_sink<R: Host + AllocGlobal>(
     rt: &R,
     out: &mut Vec<u8>,
-    image_text: &[u8],
-    whole: &[u8],
-    step: usize,
-) -> Result<(), Memory>
-    requires { 0 < step }
-{
+    case: &Case<'_>,
+) -> Result<(), Memory> {
     for call in 0..MOST_CALLS {
-        let mut image = BytesSource::new(image_text, step);
-        let mut sink = FailAt::new(BytesSink::new(rt.alloc(), step), call);
+        let mut image = BytesSource::new(case.image, case.step);
+        let mut sink = FailAt::new(BytesSink::new(rt.alloc(), case.step), call);
         let fault = check_text(rt, rt.alloc(), &mut image, &mut sink).err();
         let failures = sink.failures();
         let taken = sink.inner.bytes.as_slice();
-        show(
-            rt.alloc(),
-            out,
-            "sink of a check",
+        let failing = Failing {
+            end: "sink of a check",
             call,
             failures,
             fault,
             taken,
-            whole,
-        )?;
+        };
+        show(rt.alloc(), out, failing, case.whole)?;
         if failures == 0 {
             break;
         }

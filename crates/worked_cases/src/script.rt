@@ -1,7 +1,9 @@
 //! The lines of cases, followed one after the other.
 ghost use Rattle.std.specs.Prelude.{◌<◌};
 
-use crate::ends::{fail_batches, fail_checked_image, fail_checked_sink, fail_image, fail_sink};
+use crate::ends::{
+    Case, fail_batches, fail_checked_image, fail_checked_sink, fail_image, fail_sink,
+};
 use crate::faults::{Side, answer_of, fault_of, read_all, show_faults};
 use crate::files::read;
 use crate::inputs::show_ends;
@@ -307,13 +309,16 @@ impl Script {
     fn show_failing_runs<R: Host + AllocGlobal>(&mut self, rt: &R) -> Result<(), Memory> {
         let step = self.step();
         let text = self.printed_by_all(rt, "1")?;
-        let whole = text.as_slice();
-        let image = self.image.bytes.as_slice();
-        let batches = self.batches.bytes.as_slice();
+        let case = Case {
+            image: self.image.bytes.as_slice(),
+            batches: self.batches.bytes.as_slice(),
+            whole: text.as_slice(),
+            step,
+        };
         let out = &mut self.out;
-        fail_image(rt, out, image, batches, whole, step)?;
-        fail_batches(rt, out, image, batches, whole, step)?;
-        fail_sink(rt, out, image, batches, whole, step)
+        fail_image(rt, out, &case)?;
+        fail_batches(rt, out, &case)?;
+        fail_sink(rt, out, &case)
     }
 
     /// Shows what comes of checks where each call of each end fails in turn.
@@ -321,9 +326,15 @@ impl Script {
         let step = self.step();
         let image = self.image.bytes.as_slice();
         let line = checked(rt, image, step)?;
+        let case = Case {
+            image,
+            batches: &[],
+            whole: line.as_slice(),
+            step,
+        };
         let out = &mut self.out;
-        fail_checked_image(rt, out, image, line.as_slice(), step)?;
-        fail_checked_sink(rt, out, image, line.as_slice(), step)
+        fail_checked_image(rt, out, &case)?;
+        fail_checked_sink(rt, out, &case)
     }
 
     /// Shows what comes of the text in which other bytes stand in the place of some.
