@@ -36,7 +36,8 @@ impl Model for Catalog {
 
     ghost view = { λ s. cards_in s.cards.items };
 
-    ghost invariant = { λ s. (are_in_order card_key_cmp s.cards.items ≡ true) × AreKeyed (cards_in s.cards.items) × AreInOrder (customer_cards (cards_in s.cards.items)) s.names };
+    ghost invariant = { λ s. (are_in_order card_key_cmp s.cards.items ≡ true) × AreKeyed (cards_in s.cards.items)
+        × AreInOrder (customer_cards (cards_in s.cards.items)) s.names };
 }
 
 impl Catalog {

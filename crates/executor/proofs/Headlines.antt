@@ -3,7 +3,7 @@ use Rattle.std.proofs.Common.{◌≡◌, ◌⊎◌, inl, inr, ℕ, zero, suc, �
 use Rattle.std.proofs.lemmas.List.{length-map, take_all}
 use Rattle.catalog.specs.CardMap.{Cards}
 use Rattle.requests.specs.declared.request.Batch.{Batch}
-use Rattle.tpcc_model.specs.Database.{Database}
+use Rattle.tpcc_model.specs.Database.{Database, database}
 use Rattle.tpcc_model.specs.Serial.{State, after_batch, opening, serial}
 use Rattle.tpcc_model.specs.Soundness.{IsSound}
 use Rattle.executor.specs.Executions.{IsRecordOf}
@@ -43,7 +43,7 @@ headline_of cards start batches records present are left sound =
       batches_as_serial = records_as_serial cards start batches records are ∙ ap (λ n. all_serially cards start (take n batches)) counted;
       state_as_serial = left ∙ ap (λ n. serial cards start (take n batches)) counted;
       sound = λ count low. (sound count (within count low)).database;
-      conditions = λ count low. let db : Database = record { cards = cards; rows = (serial cards start (take count batches)).rows } in meets_conditions db (sound count (within count low)).database;
+      conditions = λ count low. let db : Database = database cards (serial cards start (take count batches)).rows in meets_conditions db (sound count (within count low)).database;
     }
 
 -- one batch that was executed
@@ -134,7 +134,7 @@ headline_where_sound cards start batches each =
       batches_as_serial = ap (all_serially cards start) (sym all);
       state_as_serial = ap (serial cards start) (sym all);
       sound = λ count low. (each count (within count low)).database;
-      conditions = λ count low. let db : Database = record { cards = cards; rows = (serial cards start (take count batches)).rows } in meets_conditions db (each count (within count low)).database;
+      conditions = λ count low. let db : Database = database cards (serial cards start (take count batches)).rows in meets_conditions db (each count (within count low)).database;
     }
 
 -- ---- the law

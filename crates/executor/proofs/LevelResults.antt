@@ -9,6 +9,7 @@ use Rattle.std.specs.Ordering.{nat_cmp}
 use Rattle.serializability.specs.Footprints.{Footprint, Has}
 use Rattle.serializability.specs.Levels as levels
 use Rattle.serializability.proofs.Folding.{length-fold_replies}
+use Rattle.tpcc_model.specs.Database.{database}
 use Rattle.tpcc_rows.specs.declared.granule.Granule.{Granule}
 use Rattle.catalog.specs.CardMap.{Cards}
 use Rattle.requests.specs.declared.request.Batch.{Batch}
@@ -76,7 +77,7 @@ same_replies replies wanted entries all size at =
 
 -- ---- the levels that the requests declare
 -- where none strays, they are the requests one after the other
-pub as_serial : DeclaredLevelsAreSerial → (cards : Cards) (state : State) (batch : Batch) (footprints : List (Footprint Granule)) → IsSound (record { cards = cards; rows = state.rows }) → AreWithinLimits batch.moment state.next batch.requests
+pub as_serial : DeclaredLevelsAreSerial → (cards : Cards) (state : State) (batch : Batch) (footprints : List (Footprint Granule)) → IsSound (database cards state.rows) → AreWithinLimits batch.moment state.next batch.requests
     → footprints ≡ declared_footprints cards state batch → levels.strays (tpcc cards batch.moment) state.rows (levels_by state.next batch.requests footprints) ≡ false → RunsAsSerial cards state batch
 as_serial law cards state batch footprints sound limits declared stays =
     law cards state batch sound limits (subst (λ (fs : List (Footprint Granule)). levels.strays (tpcc cards batch.moment) state.rows (levels_by state.next batch.requests fs) ≡ false) declared stays)

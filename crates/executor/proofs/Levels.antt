@@ -10,6 +10,7 @@ use Rattle.serializability.proofs.LevelNumbers.{levels_rise}
 use Rattle.serializability.proofs.Signatures.{apart_by_bits}
 use Rattle.serializability.proofs.Swaps.{swapped}
 use Rattle.signatures_simd.specs.Bits.{bit}
+use Rattle.tpcc_model.specs.Database.{database}
 use Rattle.tpcc_rows.specs.Limits.{IsBetween}
 use Rattle.tpcc_rows.specs.RowMap.{Rows}
 use Rattle.catalog.specs.CardMap.{Cards}
@@ -28,8 +29,8 @@ requests_swap framed db moment m n a b e f sound timed fits_a fits_b apart_numbe
     swapped (framed db.cards moment timed) db.rows m n a b e f sound fits_a fits_b apart_numbers within_a within_b apart
 
 -- the rows stay sound, one request after the other
-sound_fold : (framed : IsFramedMachine) (cards : Cards) (moment : ℕ) (timed : IsBetween 0 999999999999 moment) (rows : Rows) (n : ℕ) (qs : List Request) → IsSound (record { cards = cards; rows = rows }) → AllFit Fits n qs
-    → IsSound (record { cards = cards; rows = fold_rows (tpcc cards moment).step rows n qs })
+sound_fold : (framed : IsFramedMachine) (cards : Cards) (moment : ℕ) (timed : IsBetween 0 999999999999 moment) (rows : Rows) (n : ℕ) (qs : List Request) → IsSound (database cards rows) → AllFit Fits n qs
+    → IsSound (database cards (fold_rows (tpcc cards moment).step rows n qs))
 sound_fold framed cards moment timed rows n [] sound fits = sound
 sound_fold framed cards moment timed rows n (q ∷ qs) sound fits = sound_fold framed cards moment timed (after (tpcc cards moment).step rows n q) (n + 1) qs ((framed cards moment timed).keeps rows n q sound fits.0) fits.1
 
@@ -39,19 +40,19 @@ levels_are_serial framed db moment first qs fs sound limits same stays =
     let run = serial (framed db.cards moment limits.moment_within) meets (apart_by_bits bit) db.rows first qs fs sound fits same stays in
     record {
       serial = run;
-      sound = subst (λ rows. IsSound (record { cards = db.cards; rows = rows })) (sym run.rows_after) (sound_fold framed db.cards moment limits.moment_within db.rows first qs sound fits);
+      sound = subst (λ rows. IsSound (database db.cards rows)) (sym run.rows_after) (sound_fold framed db.cards moment limits.moment_within db.rows first qs sound fits);
     }
 
 pub declared_levels_are_serial : LevelsAreSerial → DeclaredLevelsAreSerial
 declared_levels_are_serial levels cards state batch sound limits stays =
-    let run = levels (record { cards = cards; rows = state.rows }) batch.moment state.next batch.requests (declared_footprints cards state batch) sound limits
-    (length-map batch.requests (touch (record { cards = cards; rows = state.rows }))) stays in
+    let run = levels (database cards state.rows) batch.moment state.next batch.requests (declared_footprints cards state batch) sound limits
+    (length-map batch.requests (touch (database cards state.rows))) stays in
     record { replies = run.serial.replies; rows = run.serial.rows_after }
 
 pub strays_are_in_turn : IsFramedMachine → StraysAreInTurn
 strays_are_in_turn framed cards state batch sound limits =
     same_strays (framed cards batch.moment limits.moment_within) meets (apart_by_bits bit) state.rows state.next batch.requests (declared_footprints cards state batch) sound
-    (all_fit batch.moment state.next batch.requests limits) (length-map batch.requests (touch (record { cards = cards; rows = state.rows })))
+    (all_fit batch.moment state.next batch.requests limits) (length-map batch.requests (touch (database cards state.rows)))
 
 pub meet_only_above : MeetOnlyAbove
 meet_only_above fs i j e f k l before at_i at_j is_i is_j low =

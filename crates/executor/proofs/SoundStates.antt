@@ -5,6 +5,7 @@ use Rattle.std.specs.FinMap.{get}
 use Rattle.serializability.specs.Folds as folds
 use Rattle.serializability.specs.Folds.{fold_rows}
 use Rattle.serializability.specs.Framed.{AllFit}
+use Rattle.tpcc_model.specs.Database.{database}
 use Rattle.tpcc_rows.specs.Changing.{after}
 use Rattle.tpcc_rows.specs.Limits.{IsBetween}
 use Rattle.tpcc_rows.specs.Picks.{greatest, picked}
@@ -51,12 +52,12 @@ history_on old new n keeps below m there =
 
 module _ (keeps : StepKeeps) (cards : Cards) (moment : ℕ) (timed : IsBetween 0 999999999999 moment) where
   abbrev IsSoundAt : Rows → ℕ → Type 0
-  IsSoundAt rows next = IsSound (record { cards = cards; rows = rows }) × HasHistoryBelow rows next
+  IsSoundAt rows next = IsSound (database cards rows) × HasHistoryBelow rows next
 
   sound_step : (rows : Rows) (n : ℕ) (q : Request) → IsSoundAt rows n → Fits n q → IsSoundAt (folds.after (steps_at cards moment) rows n q) (n + 1)
   unfolding after
   sound_step rows n q sound fits =
-      let kept = keeps (record { cards = cards; rows = rows }) q n moment sound.0 fits.1 fits.0 timed in
+      let kept = keeps (database cards rows) q n moment sound.0 fits.1 fits.0 timed in
       (kept.sound, history_on rows (folds.after (steps_at cards moment) rows n q) n kept.history sound.1)
 
   sound_fold : (rows : Rows) (n : ℕ) (qs : List Request) → IsSoundAt rows n → AllFit Fits n qs → IsSoundAt (fold_rows (steps_at cards moment) rows n qs) (n + length qs)

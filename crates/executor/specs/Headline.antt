@@ -8,6 +8,7 @@ use Rattle.catalog.specs.CardMap.{Cards}
 use Rattle.requests.specs.declared.reply.Reply.{Reply}
 use Rattle.requests.specs.declared.request.Batch.{Batch}
 use Rattle.tpcc_model.specs.Conditions.{Condition1, IsConsistent}
+use Rattle.tpcc_model.specs.Database.{database}
 use Rattle.tpcc_model.specs.Serial.{State, after_batch, batch_replies, serial}
 use Rattle.tpcc_model.specs.Soundness.{IsSound}
 use Rattle.tpcc_rows.specs.RowMap.{Rows}
@@ -57,5 +58,5 @@ pub record Headline (cards : Cards) (start : State) (batches : List Batch) (told
   -- the tables, the next number and the token are those that one thread leaves
   pub state_as_serial : present ≡ serial cards start (take (length told) batches)
   -- before the first and after each of them the database is sound, and the conditions hold
-  pub sound : (count : ℕ) → count ≤ length told → IsSound (record { cards = cards; rows = (serial cards start (take count batches)).rows })
+  pub sound : (count : ℕ) → count ≤ length told → IsSound (database cards (serial cards start (take count batches)).rows)
   pub conditions : (count : ℕ) → count ≤ length told → MeetsConditions (serial cards start (take count batches)).rows

@@ -38,6 +38,6 @@ plan_strays_in_turn cards rows plan
 -- the law: so a batch strays, by what its requests declare
 abbrev pub StraysAreInTurn : Type 0
 StraysAreInTurn = (cards : Cards) (state : State) (batch : Batch)
-    → IsSound (record { cards = cards; rows = state.rows }) → AreWithinLimits batch.moment state.next batch.requests
+    → IsSound (database cards state.rows) → AreWithinLimits batch.moment state.next batch.requests
     → strays cards state batch
     ≡ strays_in_turn (tpcc cards batch.moment) state.rows (levels.jobs state.next batch.requests (declared_footprints cards state batch))

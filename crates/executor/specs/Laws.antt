@@ -12,7 +12,7 @@ use Rattle.tpcc_rows.specs.declared.granule.Granule.{Granule}
 use Rattle.catalog.specs.CardMap.{Cards}
 use Rattle.requests.specs.declared.request.Batch.{Batch}
 use Rattle.requests.specs.declared.request.Request.{Request}
-use Rattle.tpcc_model.specs.Database.{Database}
+use Rattle.tpcc_model.specs.Database.{Database, database}
 use Rattle.tpcc_model.specs.Machine.{tpcc}
 use Rattle.tpcc_model.specs.Serial.{State, after_batch, batch_replies, batch_rows, opening, serial}
 use Rattle.tpcc_model.specs.Soundness.{IsSound}
@@ -58,7 +58,7 @@ pub record RunsAsSerial (cards : Cards) (state : State) (batch : Batch) : Type 0
 -- by what the requests of a batch declare
 abbrev pub DeclaredLevelsAreSerial : Type 0
 DeclaredLevelsAreSerial = (cards : Cards) (state : State) (batch : Batch)
-    → IsSound (record { cards = cards; rows = state.rows }) → AreWithinLimits batch.moment state.next batch.requests
+    → IsSound (database cards state.rows) → AreWithinLimits batch.moment state.next batch.requests
     → strays cards state batch ≡ false → RunsAsSerial cards state batch
 
 -- a later request meets an earlier one from a greater level only: where i stands before j, on the same level or a greater

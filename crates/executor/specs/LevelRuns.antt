@@ -6,6 +6,7 @@ use Rattle.serializability.specs.Footprints.{Footprint, Has}
 use Rattle.serializability.specs.Levels as levels
 use Rattle.serializability.specs.Levels.{Job}
 use Rattle.serializability.specs.Signatures.{meets_by}
+use Rattle.tpcc_model.specs.Database.{database}
 use Rattle.tpcc_rows.specs.RowMap.{Rows}
 use Rattle.tpcc_rows.specs.declared.granule.Granule.{Granule}
 use Rattle.signatures_simd.specs.Bits.{bit}
@@ -42,7 +43,7 @@ levels_by first requests footprints = levels.batch_levels meets first requests f
 -- ---- those that the requests of a batch declare
 -- what each of them touches as the batch begins
 abbrev pub declared_footprints : Cards → State → Batch → List (Footprint Granule)
-declared_footprints cards state batch = map (touch (record { cards = cards; rows = state.rows })) batch.requests
+declared_footprints cards state batch = map (touch (database cards state.rows)) batch.requests
 
 abbrev pub declared_levels : Cards → State → Batch → List (List (Job Granule Request))
 declared_levels cards state batch = levels_by state.next batch.requests (declared_footprints cards state batch)

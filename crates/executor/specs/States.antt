@@ -2,6 +2,7 @@
 use Rattle.std.specs.Prelude.{ℕ, ◌+◌, ◌<◌, ◌≤◌, IsSome, List, [], ◌∷◌, length}
 use Rattle.std.specs.FinMap as map
 use Rattle.std.specs.List.{All}
+use Rattle.tpcc_model.specs.Database.{database}
 use Rattle.tpcc_rows.specs.Limits.{IsBetween}
 use Rattle.tpcc_rows.specs.RowMap.{Rows}
 use Rattle.tpcc_rows.specs.declared.key.RowKey.TheVariants as key
@@ -19,7 +20,7 @@ HasHistoryBelow rows next = (n : ℕ) → IsSome (map.get rows (key.History n)) 
 
 -- the database is sound, and the numbers of HISTORY are those of requests that were
 pub record IsSoundState (cards : Cards) (state : State) : Type 0 where
-  pub database : IsSound (record { cards = cards; rows = state.rows })
+  pub database : IsSound (database cards state.rows)
   pub history : HasHistoryBelow state.rows state.next
 
 -- the moment, the requests, and their numbers, of which this is the first, are within their limits

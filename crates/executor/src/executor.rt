@@ -8,6 +8,7 @@ ghost use Rattle.executor.specs.Paths.{path_of};
 ghost use Rattle.executor.specs.States.{IsSoundState};
 ghost use Rattle.executor.specs.declared.path.Path.TheVariants as path;
 ghost use Rattle.executor.specs.declared.refusal.Refusal.TheVariants as refusal;
+ghost use Rattle.tpcc_model.specs.Database.{database};
 ghost use Rattle.tpcc_model.specs.Soundness.{IsSound};
 
 use crate::engine::Engine;
@@ -72,7 +73,7 @@ impl Executor {
         catalog: Catalog,
         store: PointedStore,
     ) -> Result<Executor, Memory>
-        requires sound { IsSound (record { cards = catalog; rows = store.rows }) }
+        requires sound { IsSound (database catalog store.rows) }
         requires points { store.points ≡ [] }
         ensures line { IfOk result (λ e. e ≡ opening_line catalog store.rows) }
         ensures sound { IfOk result (λ e. IsSoundState e.cards e.present) }

@@ -2,6 +2,7 @@
 ghost use Rattle.std.specs.Prelude.{◌≡◌, IfOk, OnOk};
 ghost use Rattle.executor.specs.Lines.{state_of};
 ghost use Rattle.rollback.specs.Pointed.{KeepsCleanLeaves};
+ghost use Rattle.tpcc_model.specs.Database.{database};
 ghost use Rattle.tpcc_model.specs.Serial.{batch_replies, batch_rows};
 ghost use Rattle.tpcc_model.specs.Steps.{step};
 ghost use Rattle.transactions.specs.Outcomes.{IsOutcome};
@@ -29,7 +30,7 @@ pub(crate) fn executed(
     moment: Moment,
     store: &PointedStore,
 ) -> Result<(Reply, Delta), Memory>
-    ensures { IfOk result (IsOutcome (step (record { cards = catalog.now; rows = store.now.rows }) request.now number moment)) }
+    ensures { IfOk result (IsOutcome (step (database catalog.now store.now.rows) request.now number moment)) }
 {
     match execute(alloc, catalog, request, number, moment, &Whole { store }) {
         Ok(done) => Ok(done),

@@ -1,10 +1,12 @@
 -- What the indexes of all districts have.
-use Rattle.std.specs.Prelude.{◌≡◌, ℕ, Bool, false, List, Option, Some, None}
+use Rattle.std.specs.Prelude.{◌≡◌, ◌&&◌, ℕ, Bool, true, false, cond, List, Option, Some, None}
+use Rattle.std.specs.BTreeMap.{is_at}
 use Rattle.std.specs.FinMap as map
 use Rattle.tpcc_rows.specs.declared.key.RowKey.{RowKey}
 use Rattle.tpcc_rows.specs.declared.key.RowKey.TheVariants as key
-use Rattle.tpcc_rows.specs.RowMap.{Rows}
+use Rattle.tpcc_rows.specs.RowMap.{Rows, row_key_cmp}
 use Rattle.indexes.specs.declared.district.DistrictIndex.{DistrictIndex}
+use Rattle.indexes.specs.declared.owner.Owner.{Owner}
 use Rattle.indexes.specs.declared.store.Indexes.{Indexes}
 use Rattle.indexes.specs.Owners.{owner_at, owns}
 use Rattle.indexes.specs.Pages.{has_new, has_order}
@@ -32,6 +34,23 @@ has_at pages c _ = false
 
 abbrev pub has : Indexes → ℕ → RowKey → Bool
 has indexes c q = has_at indexes.districts.items c q
+
+-- both have the same numbers
+abbrev pub HaveTheSame : Indexes → Indexes → Type 0
+HaveTheSame before after = (c : ℕ) (q : RowKey) → has after c q ≡ has before c q
+
+-- whether the key's number is one of the owner's is as said; of every other number both have the same
+abbrev pub DifferAt : Bool → RowKey → Owner → Indexes → Indexes → Type 0
+DifferAt there k owner before after =
+    (c : ℕ) (q : RowKey) → has after c q ≡ cond (owns c q owner && is_at (row_key_cmp k) q) there (has before c q)
+
+-- the key's number is one of the owner's from then on
+abbrev pub IsAdded : RowKey → Owner → Indexes → Indexes → Type 0
+IsAdded = DifferAt true
+
+-- the key's number is none of the owner's from then on
+abbrev pub IsTakenOut : RowKey → Owner → Indexes → Indexes → Type 0
+IsTakenOut = DifferAt false
 
 -- the indexes have the numbers of these rows, and no others
 pub record AreOf (rows : Rows) (indexes : Indexes) : Type 0 where

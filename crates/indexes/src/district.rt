@@ -3,7 +3,7 @@ ghost use Rattle.std.specs.Prelude.{◌≡◌, ◌<◌, ◌&&◌, ℕ, IfNone, I
 ghost use Rattle.std.specs.BTreeMap.{get, is_at};
 ghost use Rattle.std.specs.BTreeSet.{contains};
 ghost use Rattle.std.specs.Ordering.{nat_cmp};
-ghost use Rattle.indexes.specs.Pages.{has_new, has_order};
+ghost use Rattle.indexes.specs.Pages.{OrdersDifferAt, has_new, has_order};
 
 use std::alloc::Global;
 use std::collections::{BTreeMap, BTreeSet};
@@ -132,7 +132,7 @@ impl DistrictIndex {
     /// The number is that of the customer's order from now on.
     pub fn add_order(&mut self, customer: CustomerId, order: OrderId) -> Result<(), Memory>
         ensures open { (o : ℕ) → has_new self.new o ≡ has_new self.old o }
-        ensures orders { OnOk result ((c o : ℕ) → has_order self.new c o ≡ cond (is_at (nat_cmp customer) c && is_at (nat_cmp order) o) true (has_order self.old c o)) }
+        ensures orders { OnOk result (OrdersDifferAt true customer order self.old self.new) }
         ensures err { OnErr result ((c o : ℕ) → has_order self.new c o ≡ has_order self.old c o) }
     {
         self.add_customer(customer)?;
@@ -145,7 +145,7 @@ impl DistrictIndex {
     /// The number is no order's of the customer from now on.
     pub fn drop_order(&mut self, customer: CustomerId, order: OrderId)
         ensures open { (o : ℕ) → has_new self.new o ≡ has_new self.old o }
-        ensures orders { (c o : ℕ) → has_order self.new c o ≡ cond (is_at (nat_cmp customer) c && is_at (nat_cmp order) o) false (has_order self.old c o) }
+        ensures orders { OrdersDifferAt false customer order self.old self.new }
     {
         if let Some(numbers) = self.orders.get_mut(&customer) {
             numbers.remove(&order);

@@ -28,7 +28,7 @@ pub struct Indexes {
 }
 
 impl Indexes {
-    ghost use Rattle.indexes.specs.Indexed.{has, has_in};
+    ghost use Rattle.indexes.specs.Indexed.{HaveTheSame, IsAdded, IsTakenOut, has, has_in};
     ghost use Rattle.indexes.specs.Owners.{owner_at, owns};
     ghost use Rattle.indexes.specs.Places.{is_of};
 
@@ -102,8 +102,8 @@ impl Indexes {
         district: DistrictId,
         order: OrderId,
     ) -> Result<(), Memory>
-        ensures ok { OnOk result ((c : ℕ) (q : RowKey) → has self.new c q ≡ cond (owns c q owner.District && is_at (row_key_cmp (key.NewOrder warehouse district order)) q) true (has self.old c q)) }
-        ensures err { OnErr result ((c : ℕ) (q : RowKey) → has self.new c q ≡ has self.old c q) }
+        ensures ok { OnOk result (IsAdded (key.NewOrder warehouse district order) owner.District self.old self.new) }
+        ensures err { OnErr result (HaveTheSame self.old self.new) }
     {
         let n = place(warehouse, district);
         self.districts[n].add_new(order)
@@ -116,8 +116,8 @@ impl Indexes {
         customer: CustomerId,
         order: OrderId,
     ) -> Result<(), Memory>
-        ensures ok { OnOk result ((c : ℕ) (q : RowKey) → has self.new c q ≡ cond (owns c q (owner.Customer customer) && is_at (row_key_cmp (key.Order warehouse district order)) q) true (has self.old c q)) }
-        ensures err { OnErr result ((c : ℕ) (q : RowKey) → has self.new c q ≡ has self.old c q) }
+        ensures ok { OnOk result (IsAdded (key.Order warehouse district order) (owner.Customer customer) self.old self.new) }
+        ensures err { OnErr result (HaveTheSame self.old self.new) }
     {
         let n = place(warehouse, district);
         self.districts[n].add_order(customer, order)
@@ -125,8 +125,8 @@ impl Indexes {
 
     /// The key's number is one of this owner's from now on.
     pub fn add(&mut self, key: &RowKey, owner: &Owner) -> Result<(), Memory>
-        ensures ok { OnOk result ((c : ℕ) (q : RowKey) → has self.new c q ≡ cond (owns c q owner.now && is_at (row_key_cmp key.now) q) true (has self.old c q)) }
-        ensures err { OnErr result ((c : ℕ) (q : RowKey) → has self.new c q ≡ has self.old c q) }
+        ensures ok { OnOk result (IsAdded key.now owner.now self.old self.new) }
+        ensures err { OnErr result (HaveTheSame self.old self.new) }
     {
         match (key, owner) {
             (
@@ -160,7 +160,7 @@ impl Indexes {
     }
 
     fn drop_new(&mut self, warehouse: WarehouseId, district: DistrictId, order: OrderId)
-        ensures { (c : ℕ) (q : RowKey) → has self.new c q ≡ cond (owns c q owner.District && is_at (row_key_cmp (key.NewOrder warehouse district order)) q) false (has self.old c q) }
+        ensures { IsTakenOut (key.NewOrder warehouse district order) owner.District self.old self.new }
     {
         let n = place(warehouse, district);
         self.districts[n].drop_new(order);
@@ -173,7 +173,7 @@ impl Indexes {
         customer: CustomerId,
         order: OrderId,
     )
-        ensures { (c : ℕ) (q : RowKey) → has self.new c q ≡ cond (owns c q (owner.Customer customer) && is_at (row_key_cmp (key.Order warehouse district order)) q) false (has self.old c q) }
+        ensures { IsTakenOut (key.Order warehouse district order) (owner.Customer customer) self.old self.new }
     {
         let n = place(warehouse, district);
         self.districts[n].drop_order(customer, order);
@@ -181,7 +181,7 @@ impl Indexes {
 
     /// The key's number is none of this owner's from now on.
     pub fn take_out(&mut self, key: &RowKey, owner: &Owner)
-        ensures { (c : ℕ) (q : RowKey) → has self.new c q ≡ cond (owns c q owner.now && is_at (row_key_cmp key.now) q) false (has self.old c q) }
+        ensures { IsTakenOut key.now owner.now self.old self.new }
     {
         match (key, owner) {
             (

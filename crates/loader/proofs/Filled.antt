@@ -11,7 +11,7 @@ use Rattle.catalog.specs.declared.card.CardKey.{CardKey}
 use Rattle.catalog.specs.declared.card.CardKey.TheVariants as card_key
 use Rattle.catalog.proofs.CardKeys.{card_key_cmp_total, exact_cards}
 use Rattle.catalog.proofs.Keyed.{keyed-insert}
-use Rattle.tpcc_model.specs.Database.{Database}
+use Rattle.tpcc_model.specs.Database.{Database, database}
 use Rattle.tpcc_model.specs.Soundness.{IsCard, IsCustomerRow, IsStockRow}
 use Rattle.tpcc_rows.specs.Limits.{IsBetween, IsCents}
 use Rattle.tpcc_rows.specs.Texts.{IsText}
@@ -125,7 +125,7 @@ module _ {K X : Type 0} {R : K → K → Ordering} (total : IsTotalOrder R) (exa
 
 -- a card more, which goes with no row
 module _ (db : Database) (q : CardKey) (c : Card) (filled : IsFilled db) where
-  filled-card : row_key_of q ≡ None → own_key c ≡ q → IsCard c → IsFilled (record { cards = insert db.cards q c; rows = db.rows })
+  filled-card : row_key_of q ≡ None → own_key c ≡ q → IsCard c → IsFilled (database (insert db.cards q c) db.rows)
   filled-card alone own limited = record {
     keyed = keyed-insert db.cards q c own filled.keyed;
     limits = λ p b there. elim (entry_of card_key_cmp_total exact_cards db.cards q c p b there) [
@@ -142,7 +142,7 @@ module _ (db : Database) (q : CardKey) (c : Card) (filled : IsFilled db) where
 
 -- a card more, with its row
 module _ (db : Database) (q : CardKey) (c : Card) (k : RowKey) (x : Row) (filled : IsFilled db) where
-  filled-both : row_key_of q ≡ Some k → card_key_of k ≡ Some q → own_key c ≡ q → IsCard c → IsLimited k x → IsFilled (record { cards = insert db.cards q c; rows = insert db.rows k x })
+  filled-both : row_key_of q ≡ Some k → card_key_of k ≡ Some q → own_key c ≡ q → IsCard c → IsLimited k x → IsFilled (database (insert db.cards q c) (insert db.rows k x))
   filled-both row_is card_is own limited row_limited = record {
     keyed = keyed-insert db.cards q c own filled.keyed;
     limits = λ p b there. elim (entry_of card_key_cmp_total exact_cards db.cards q c p b there) [
@@ -170,7 +170,7 @@ module _ (db : Database) (q : CardKey) (c : Card) (k : RowKey) (x : Row) (filled
 
 -- a row more, which goes with no card
 module _ (db : Database) (k : RowKey) (x : Row) (filled : IsFilled db) where
-  filled-row : card_key_of k ≡ None → IsLimited k x → IsFilled (record { cards = db.cards; rows = insert db.rows k x })
+  filled-row : card_key_of k ≡ None → IsLimited k x → IsFilled (database db.cards (insert db.rows k x))
   filled-row alone limited = record {
     keyed = filled.keyed;
     limits = filled.limits;

@@ -4,6 +4,7 @@ use Rattle.csv.specs.Records.{field_at}
 use Rattle.records.specs.Fields.{Fields, ◌>>=◌, is_text, number_at, number_or_null_at, of_count, signed_at, text_at}
 use Rattle.records.specs.declared.fault.Slip.{Slip}
 use Rattle.records.specs.declared.fault.Slip.TheVariants as slip
+use Rattle.tpcc_rows.specs.declared.id.TheConstants.{LAST_REQUEST}
 use Rattle.loader.specs.Columns.{credit_of, texts_at}
 use Rattle.loader.specs.declared.image_record.ImageRecord.{ImageRecord}
 use Rattle.loader.specs.declared.image_record.ImageRecord.TheVariants as said
@@ -138,7 +139,7 @@ order_line_fields fields = do
 -- `H,number,c,cd,cw,d,w,date,amount,data`
 unfoldable pub history_fields : Fields → Result ImageRecord Slip
 history_fields fields = do
-  number ← number_at fields 1 1 999999999999999
+  number ← number_at fields 1 1 LAST_REQUEST
   c ← number_at fields 2 1 3000
   cd ← number_at fields 3 1 10
   cw ← number_at fields 4 1 100

@@ -8,7 +8,7 @@ use Rattle.catalog.specs.declared.card.Card.TheVariants as card
 use Rattle.catalog.specs.declared.card.CardKey.{CardKey}
 use Rattle.catalog.specs.declared.card.CardKey.TheVariants as card_key
 use Rattle.rollback.specs.Pointed.{Pointed}
-use Rattle.tpcc_model.specs.Database.{Database}
+use Rattle.tpcc_model.specs.Database.{Database, database}
 use Rattle.tpcc_rows.specs.RowMap.{Rows}
 use Rattle.tpcc_rows.specs.declared.key.RowKey.{RowKey}
 use Rattle.tpcc_rows.specs.declared.key.RowKey.TheVariants as key
@@ -18,18 +18,14 @@ use Rattle.loader.specs.declared.image_record.ImageRecord.TheVariants as said
 use Rattle.loader.specs.declared.tables.Tables.{Tables}
 
 abbrev pub database_of : Tables → Database
-database_of tables = record { cards = tables.cards; rows = tables.rows }
-
--- the database of these cards and rows
-abbrev pub database : Cards → Rows → Database
-database cards rows = record { cards = cards; rows = rows }
+database_of tables = database tables.cards tables.rows
 
 -- the database of a catalog and a store
 abbrev pub loaded : Cards × Pointed → Database
 loaded parts = database parts.0 parts.1.rows
 
 abbrev pub no_tables : Database
-no_tables = record { cards = map.empty; rows = map.empty }
+no_tables = database map.empty map.empty
 
 abbrev pub has_card : Cards → CardKey → Bool
 has_card cards k = is_some (map.get cards k)

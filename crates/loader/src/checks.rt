@@ -9,7 +9,8 @@ ghost use Rattle.tpcc_rows.specs.declared.key.RowKey.TheVariants as row_key;
 ghost use Rattle.records.specs.Fields.{IsWithin};
 ghost use Rattle.loader.specs.Checks.{AreSums, AreWithin, IsShare, card_has_parents, checked, has_line, parents_there, row_has_parents, sum_at, ytd_agrees, ytds_agree};
 ghost use Rattle.loader.specs.Faults.{IsOfText, StopsBy};
-ghost use Rattle.loader.specs.Tables.{database, has_card, has_row};
+ghost use Rattle.loader.specs.Tables.{has_card, has_row};
+ghost use Rattle.tpcc_model.specs.Database.{database};
 
 use crate::books::books_of;
 use crate::districts::{line_counts_agree, next_orders_agree, spans_agree};

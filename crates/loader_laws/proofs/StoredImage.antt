@@ -19,7 +19,7 @@ use Rattle.csv.specs.Writing.{read_back}
 use Rattle.records.specs.Fields.{Fields}
 use Rattle.records.specs.Records.{records_in}
 use Rattle.records.proofs.SpellingLemmas.{records_after-text}
-use Rattle.tpcc_model.specs.Database.{Database}
+use Rattle.tpcc_model.specs.Database.{Database, database}
 use Rattle.tpcc_model.specs.Soundness.{IsSound}
 use Rattle.tpcc_rows.specs.RowMap.{Rows, row_key_cmp}
 use Rattle.tpcc_rows.specs.declared.key.RowKey.{RowKey}
@@ -373,7 +373,7 @@ module _ (db : Database) (sound : IsSound db) where
       row-occurs
 
   tables-back : with_records (said_cards ++ said_rows) no_tables ≡ db
-  tables-back = ap₂ (λ (c : Cards) (r : Rows). let d : Database = record { cards = c; rows = r } in d) cards-back rows-back
+  tables-back = ap₂ (λ (c : Cards) (r : Rows). let d : Database = database c r in d) cards-back rows-back
 
   stored : AllByRecursion IsStored (said_cards ++ said_rows)
   stored = all-map (IsOwn db) IsStored (said_cards ++ said_rows) own (λ s h. h.stored)

@@ -3,12 +3,13 @@ ghost use Rattle.std.specs.Prelude.{◌≡◌, ◌<◌, ◌≤◌, ◌^◌, IfOk
 ghost use Rattle.std.specs.Char.{is_ascii_digit};
 ghost use Rattle.std.specs.List.{list_all};
 ghost use Rattle.csv.specs.Records.{field_at, fields_of};
+ghost use Rattle.tpcc_rows.specs.declared.id.TheConstants.{LAST_REQUEST};
 ghost use Rattle.records.specs.Fields.{IsWithin, below_zero, is_numeral, is_text, number_at, number_in, number_or_null_at, signed_at, signed_in, text_at};
 
 use crate::fault::Slip;
 use csv::ByteRecord;
 use tpcc_rows::id::{
-    CustomerId, DistrictId, ItemId, LineNumber, OrderId, RequestNumber, WarehouseId,
+    CustomerId, DistrictId, ItemId, LAST_REQUEST, LineNumber, OrderId, RequestNumber, WarehouseId,
 };
 use tpcc_rows::number::{
     Amount, Carrier, Cents, Count, LineQuantity, Moment, Price, Rate, StockQuantity,
@@ -150,9 +151,9 @@ pub fn customer(fields: &ByteRecord, i: usize) -> Result<CustomerId, Slip>
 
 /// A request's number.
 pub fn request_number(fields: &ByteRecord, i: usize) -> Result<RequestNumber, Slip>
-    ensures { result ≡ number_at (fields_of fields.now) i 1 999999999999999 }
+    ensures { result ≡ number_at (fields_of fields.now) i 1 LAST_REQUEST }
 {
-    let number = number_at(fields, i, 1, 999_999_999_999_999)?;
+    let number = number_at(fields, i, 1, LAST_REQUEST)?;
     RequestNumber::new(number).ok_or(Slip::OutOfRange)
 }
 

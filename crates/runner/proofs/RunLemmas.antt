@@ -25,6 +25,7 @@ use Rattle.runner.specs.Text.{batch_text, text}
 use Rattle.runner.specs.WholeRuns.{LeavesBehind, LeavesLine}
 use Rattle.runner.specs.declared.fault.RunFault.{RunFault}
 use Rattle.runner.specs.declared.fault.RunFault.TheVariants as run_fault
+use Rattle.tpcc_model.specs.Database.{database}
 use Rattle.tpcc_model.specs.Serial.{State, after_batch, serial}
 use Rattle.tpcc_model.specs.Soundness.{IsSound}
 
@@ -75,7 +76,7 @@ fit-more cards state (b ∷ done) batch all one = (all.0, fit-more cards (after_
 
 -- what one thread completes has the headline where each state on the way is sound
 pub headline_by : (cards : Cards) (state : State) (done : List Batch)
-    → ((count : ℕ) → count ≤ length done → IsSound (record { cards = cards; rows = (serial cards state (take count done)).rows }))
+    → ((count : ℕ) → count ≤ length done → IsSound (database cards (serial cards state (take count done)).rows))
     → Headline cards state done (all_serially cards state done) (serial cards state done)
 headline_by cards state done sound =
     let same = length-all cards state done in
@@ -97,18 +98,18 @@ take-none (suc n) = refl
 
 pub completed-none : (cards : Cards) (state : State) → IsSoundState cards state → AreCompleted cards state []
 completed-none cards state sound =
-    (tt, headline_by cards state no_batch (λ count low. subst (λ (bs : List Batch). IsSound (record { cards = cards; rows = (serial cards state bs).rows })) (sym (take-none count)) sound.database))
+    (tt, headline_by cards state no_batch (λ count low. subst (λ (bs : List Batch). IsSound (database cards (serial cards state bs).rows)) (sym (take-none count)) sound.database))
 
 pub completed-more : (cards : Cards) (state : State) (done : List Batch) (batch : Batch) → AreCompleted cards state done → Completes cards (serial cards state done) batch → AreCompleted cards state (done ++ batch ∷ [])
 completed-more cards state done batch all one = (fit-more cards state done batch all.0 one.0, headline_by cards state (done ++ batch ∷ []) each)
   where
     is_sound : List Batch → Type 0
-    is_sound bs = IsSound (record { cards = cards; rows = (serial cards state bs).rows })
+    is_sound bs = IsSound (database cards (serial cards state bs).rows)
 
     each : (count : ℕ) → count ≤ length (done ++ batch ∷ []) → is_sound (take count (done ++ batch ∷ []))
     each count low = elim (take-more count done batch low) [
       | inl (few, same) ↦ subst is_sound (sym same) (all.1.sound count (let same_length = length-all cards state done in omega (arith, few, same_length)))
-      | inr same ↦ subst is_sound (sym same) (subst (λ (s : State). IsSound (record { cards = cards; rows = s.rows })) (sym (serial-more cards state done batch)) one.1.database)
+      | inr same ↦ subst is_sound (sym same) (subst (λ (s : State). IsSound (database cards s.rows)) (sym (serial-more cards state done batch)) one.1.database)
     ]
 
 pub text-more : (cards : Cards) (state : State) (done : List Batch) (batch : Batch) (old mid new : Taken) → Appends old mid (text cards state done) → Appends mid new (batch_text cards (serial cards state done) batch)

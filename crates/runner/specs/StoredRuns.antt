@@ -17,12 +17,12 @@ use Rattle.runner.specs.declared.store_fault.StoreFault.{StoreFault}
 use Rattle.runner.specs.declared.store_fault.StoreFault.TheVariants as store_fault
 use Rattle.runner.specs.declared.store_fault.StoredRunFault.{StoredRunFault}
 use Rattle.runner.specs.declared.store_fault.StoredRunFault.TheVariants as stored_fault
-use Rattle.tpcc_model.specs.Database.{Database}
+use Rattle.tpcc_model.specs.Database.{Database, database}
 use Rattle.tpcc_model.specs.Serial.{State, opening, serial}
 
 -- the image of a state
 abbrev pub state_image : Cards → State → List ℕ
-state_image cards state = image_text (record { cards = cards; rows = state.rows })
+state_image cards state = image_text (database cards state.rows)
 
 -- the image of the state that one thread leaves after these batches
 abbrev pub image_behind : Cards → State → List Batch → List ℕ

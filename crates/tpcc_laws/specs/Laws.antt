@@ -12,6 +12,7 @@ use Rattle.tpcc_model.specs.Steps.{step}
 use Rattle.tpcc_model.specs.Touches.{Agree, ArePlaced, touch}
 use Rattle.tpcc_rows.specs.Changing.{after}
 use Rattle.tpcc_rows.specs.Limits.{IsBetween}
+use Rattle.tpcc_rows.specs.declared.id.TheConstants.{LAST_REQUEST}
 use Rattle.tpcc_rows.specs.RowMap.{Rows}
 use Rattle.tpcc_rows.specs.declared.granule.Granule.{Granule}
 use Rattle.tpcc_rows.specs.declared.key.RowKey.TheVariants as key
@@ -26,7 +27,7 @@ pub record IsKeptSound (db : Database) (rows : Rows) (number : ℕ) : Type 0 whe
   pub history : KeepsHistory db.rows rows number
 
 abbrev pub StepKeeps : Type 0
-StepKeeps = (db : Database) (request : Request) (number moment : ℕ) → IsSound db → IsRequest request → IsBetween 1 999999999999999 number → IsBetween 0 999999999999 moment
+StepKeeps = (db : Database) (request : Request) (number moment : ℕ) → IsSound db → IsRequest request → IsBetween 1 LAST_REQUEST number → IsBetween 0 999999999999 moment
     → IsKeptSound db (after db.rows (step db request number moment).changes) number
 
 -- what a request reads and writes is all that its step depends on and changes
@@ -44,7 +45,7 @@ pub record StepFrames : Type 0 where
 
 -- number and request are within their limits
 abbrev pub Fits : ℕ → Request → Type 0
-Fits number request = IsBetween 1 999999999999999 number × IsRequest request
+Fits number request = IsBetween 1 LAST_REQUEST number × IsRequest request
 
 -- the transactions are such a machine as the theory of levels asks for, at each moment within its limits
 abbrev pub IsFramedMachine : Type 0

@@ -3,6 +3,7 @@
 use Rattle.std.specs.Prelude.{◌≡◌, ℕ, length, Some, IsSome, IfSome}
 use Rattle.std.specs.FinMap as map
 use Rattle.tpcc_rows.specs.Limits.{IsBetween, IsCents, IsStockQuantity}
+use Rattle.tpcc_rows.specs.declared.id.TheConstants.{LAST_REQUEST}
 use Rattle.tpcc_rows.specs.Texts.{IsText}
 use Rattle.tpcc_rows.specs.RowMap.{Rows}
 use Rattle.tpcc_rows.specs.declared.key.RowKey.{RowKey}
@@ -98,7 +99,7 @@ pub record IsOrderLine (cards : Cards) (rows : Rows) (w d o n : ℕ) (r : OrderL
 
 -- a payment's record, with its customer and the district where it was paid
 pub record IsHistory (cards : Cards) (n : ℕ) (r : HistoryRow) : Type 0 where
-  pub number : IsBetween 1 999999999999999 n
+  pub number : IsBetween 1 LAST_REQUEST n
   pub customer : IsSome (customer_card cards r.customer_warehouse r.customer_district r.customer)
   pub district : IsSome (district_card cards r.warehouse r.district)
   pub date : IsBetween 0 999999999999 r.date

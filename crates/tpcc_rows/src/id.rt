@@ -1,6 +1,7 @@
 //! The numbers that name a row: each a type of its own, within its limits.
 ghost use Rattle.std.specs.Prelude.{◌≡◌, ◌+◌};
 ghost use Rattle.tpcc_rows.specs.Limits.{IsBetween, between, ten};
+ghost use Rattle.tpcc_rows.specs.declared.id.TheConstants.{LAST_REQUEST};
 
 use std::marker::Model;
 
@@ -273,7 +274,10 @@ impl LineNumber {
     }
 }
 
-/// The number of a request, which is also the key of the HISTORY row that it writes: 1 to 999,999,999,999,999.
+/// The last number that a request may have.
+pub const LAST_REQUEST: u64 = 999_999_999_999_999;
+
+/// The number of a request, which is also the key of the HISTORY row that it writes: 1 to `LAST_REQUEST`.
 #[derive(Clone, Copy, Debug, PartialEq, Eq, PartialOrd, Ord)]
 pub struct RequestNumber {
     number: u64,
@@ -282,12 +286,13 @@ pub struct RequestNumber {
 impl Model for RequestNumber {
     ghost use Rattle.std.specs.Prelude.{ℕ};
     ghost use Rattle.tpcc_rows.specs.Limits.{IsBetween};
+    ghost use Rattle.tpcc_rows.specs.declared.id.TheConstants.{LAST_REQUEST};
 
     ghost Value = { ℕ };
 
     ghost view = { λ x. x.number };
 
-    ghost invariant = { λ x. IsBetween 1 999999999999999 x.number };
+    ghost invariant = { λ x. IsBetween 1 LAST_REQUEST x.number };
 
     ghost inverse = { λ n. record { number = n } };
 }
@@ -295,9 +300,9 @@ impl Model for RequestNumber {
 impl RequestNumber {
     /// None outside the limits.
     pub fn new(number: u64) -> Option<RequestNumber>
-        ensures { result ≡ between 1 999999999999999 number }
+        ensures { result ≡ between 1 LAST_REQUEST number }
     {
-        if 1 <= number && number <= 999_999_999_999_999 {
+        if 1 <= number && number <= LAST_REQUEST {
             Some(RequestNumber { number })
         } else {
             None
@@ -306,7 +311,7 @@ impl RequestNumber {
 
     pub fn number(self) -> u64
         ensures value { result ≡ self }
-        ensures range { IsBetween 1 999999999999999 result }
+        ensures range { IsBetween 1 LAST_REQUEST result }
     {
         self.number
     }

@@ -5,7 +5,7 @@ ghost use Rattle.tpcc_rows.specs.Granules.{same_granule};
 
 use crate::view::{RowView, Strayed};
 use rollback::PointedStore;
-use tpcc_rows::footprint::Footprint;
+use tpcc_rows::footprint::{Footprint, is_among};
 use tpcc_rows::granule::{Granule, granule_of};
 use tpcc_rows::id::{CustomerId, DistrictId, OrderId, WarehouseId};
 use tpcc_rows::key::RowKey;
@@ -17,12 +17,6 @@ use tpcc_rows::row::Row;
 pub struct Loan<'a> {
     pub store: &'a PointedStore,
     pub footprint: &'a Footprint,
-}
-
-fn is_among(granule: &Granule, granules: &[Granule]) -> bool
-    ensures { result ≡ list_any (same_granule granule.now) granules.now }
-{
-    granules.iter().any(|other| *granule == *other)
 }
 
 impl Loan<'_> {

@@ -1,13 +1,13 @@
 use Rattle.std.proofs.Common.{rules, ◌≡◌, ◌∙◌, length}
 use Rattle.std.proofs.lemmas.Result.{IfOk-weaker}
-use Rattle.tpcc_model.specs.Database.{Database}
+use Rattle.tpcc_model.specs.Database.{Database, database}
 use Rattle.executor.specs.Footprints.{AreDeclared}
 use Rattle.executor.proofs.Declarations.{all_declared, all_written}
 use Rattle.executor.proofs.declaring.declare_all.Goals as goal
 
 pub returns : goal.returns
 returns g c =
-    let db : Database = record { cards = c.args.catalog.now; rows = c.args.store.now.rows } in
+    let db : Database = database c.args.catalog.now c.args.store.now.rows in
     let requests = c.args.next.now.batch.now.requests in
     let told = c.fill.new.places in
     let declared : AreDeclared db requests told = search rules in

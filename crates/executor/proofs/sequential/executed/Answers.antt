@@ -1,5 +1,6 @@
 use Rattle.std.proofs.Common.{◌≡◌, true, false, None, subst, sym, ◌∙◌}
 use Rattle.serializability.specs.Footprints.{Footprint}
+use Rattle.tpcc_model.specs.Database.{database}
 use Rattle.tpcc_rows.specs.RowMap.{Rows}
 use Rattle.tpcc_rows.specs.declared.granule.Granule.{Granule}
 use Rattle.tpcc_model.specs.Touches.{touch}
@@ -20,4 +21,4 @@ none_strays rows touch e is error =
 pub unreachable-requires : goal.unreachable-requires
 unreachable-requires c =
     let rows = c.args.store.now.rows in
-    none_strays rows (touch (record { cards = c.args.catalog.now; rows = rows }) c.args.request.now) c.in-Err-Strayed.field-0 c.in-Err-Strayed.field-0-is c.in-Err-Strayed.ensures
+    none_strays rows (touch (database c.args.catalog.now rows) c.args.request.now) c.in-Err-Strayed.field-0 c.in-Err-Strayed.field-0-is c.in-Err-Strayed.ensures

@@ -2,7 +2,7 @@ use Rattle.std.proofs.Common.{◌≡◌, true, drop}
 use Rattle.std.specs.List.{list_all}
 use Rattle.std.specs.FinMap as map
 use Rattle.loader.specs.Checks.{card_has_parents, row_has_parents}
-use Rattle.loader.specs.Tables.{database}
+use Rattle.tpcc_model.specs.Database.{database}
 use Rattle.loader.proofs.checks.parents_there.Given as goal
 
 -- what is left decides

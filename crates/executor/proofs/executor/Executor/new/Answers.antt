@@ -1,4 +1,5 @@
 use Rattle.std.proofs.Common.{◌≡◌, ◌∙◌, List, ap, ap₂, length, subst, sym, arith}
+use Rattle.tpcc_model.specs.Database.{database}
 use Rattle.tpcc_model.specs.Serial.{State, opening}
 use Rattle.executor.specs.Lines.{IsKeptState, Line, state_of, states_of}
 use Rattle.executor.specs.States.{IsSoundState}
@@ -17,7 +18,7 @@ invariant_of-result-2 g c =
       stamped = ap length c.new.ensures ∙ sym (ap length c.requires.points);
       earlier = all-none (IsKeptState c.args.catalog) c.args.store.points c.new.result.items c.requires.points;
       present = record {
-        sound = subst (IsSoundState c.args.catalog) (sym state) (c.sound_states.ensures.opening (record { cards = c.args.catalog; rows = rows }) c.requires.sound);
+        sound = subst (IsSoundState c.args.catalog) (sym state) (c.sound_states.ensures.opening (database c.args.catalog rows) c.requires.sound);
         next_within = c.next_number-next.ensures.range;
         sequence_within = omega arith;
       };
@@ -37,4 +38,4 @@ returns-clause-sound g c =
     let stamp : Stamp = record { next = c.next_number-next.result; sequence = 0; token = c.token.result } in
     let state : state_of rows stamp ≡ opening c.args.catalog rows =
     opening_stamp c.args.catalog rows stamp c.digest-digest.result c.root.result c.reply_digest.result c.next_number-next.ensures.value c.digest-digest.ensures (c.root.ensures rows c.in_ok-tree.ensures) c.reply_digest.ensures c.token.ensures in
-    subst (IsSoundState c.args.catalog) (sym state) (c.sound_states.ensures.opening (record { cards = c.args.catalog; rows = rows }) c.requires.sound)
+    subst (IsSoundState c.args.catalog) (sym state) (c.sound_states.ensures.opening (database c.args.catalog rows) c.requires.sound)
