@@ -2,7 +2,9 @@
 use crate::images::{Population, image};
 use crate::timing::{print_ratio, since, start};
 use csv::{ByteRecord, ReaderBuilder, WriterBuilder};
-use loader::{load, make, store_image};
+use loader::load;
+use made_database::make;
+use stored_image::store_image;
 use requests::BytesSource;
 use std::alloc::Global;
 use std::rt::Clock;

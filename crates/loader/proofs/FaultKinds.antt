@@ -5,13 +5,13 @@ use Rattle.records.specs.Records.{records_in}
 use Rattle.records.specs.declared.fault.Slip.{Slip}
 use Rattle.records.specs.declared.fault.Slip.TheVariants as slip
 use Rattle.tpcc_model.specs.Database.{Database}
-use Rattle.loader.specs.Faults.{IsOfText, StopsBy, fault_of}
+use Rattle.image_records.specs.Faults.{IsOfText, StopsBy, fault_of}
 use Rattle.loader.specs.Image.{counts, ended, is_end, is_first, placed, read_all, read_from}
-use Rattle.loader.specs.ImageRecords.{record_at}
+use Rattle.image_records.specs.ImageRecords.{record_at}
 use Rattle.loader.specs.Tables.{is_taken, no_tables, with_record}
-use Rattle.loader.specs.declared.fault.LoadError.{LoadError}
-use Rattle.loader.specs.declared.fault.LoadError.TheVariants as err
-use Rattle.loader.specs.declared.image_record.ImageRecord.{ImageRecord}
+use Rattle.image_records.specs.declared.fault.LoadError.{LoadError}
+use Rattle.image_records.specs.declared.fault.LoadError.TheVariants as err
+use Rattle.image_records.specs.declared.image_record.ImageRecord.{ImageRecord}
 
 -- an answer whose error, if it is one, is of this kind
 abbrev Faults : Result Database LoadError → Type 0

@@ -14,7 +14,7 @@ use Rattle.records.specs.declared.fault.Slip.{Slip}
 use Rattle.records.specs.declared.fault.Slip.TheVariants as slip
 use Rattle.tpcc_rows.specs.Limits.{IsBetween, IsCents, IsStockQuantity}
 use Rattle.tpcc_rows.specs.Texts.{ArePrintable, IsPrintable, IsText, is_printable, is_text}
-use Rattle.loader.specs.Columns.{texts_at}
+use Rattle.image_records.specs.Columns.{texts_at}
 use Rattle.tpcc_rows.proofs.Singles.{and-left, and-right}
 
 -- a field, and what is made of it

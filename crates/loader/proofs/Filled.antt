@@ -26,8 +26,8 @@ use Rattle.tpcc_rows.specs.declared.row.Row.TheVariants as row
 use Rattle.tpcc_rows.proofs.Keys.{exact_keys, row_key_cmp_total}
 use Rattle.tpcc_rows.proofs.Singles.{apart, entry_of, here, same_key}
 use Rattle.loader.specs.Tables.{no_tables, with_record}
-use Rattle.loader.specs.declared.image_record.ImageRecord.{ImageRecord}
-use Rattle.loader.specs.declared.image_record.ImageRecord.TheVariants as said
+use Rattle.image_records.specs.declared.image_record.ImageRecord.{ImageRecord}
+use Rattle.image_records.specs.declared.image_record.ImageRecord.TheVariants as said
 
 -- the key of the card that a row goes with
 abbrev pub card_key_of : RowKey → Option CardKey

@@ -6,14 +6,14 @@ use Rattle.records.specs.Records.{records_in}
 use Rattle.records.specs.declared.fault.Slip.{Slip}
 use Rattle.tpcc_model.specs.Database.{Database}
 use Rattle.tpcc_model.specs.Soundness.{IsSound}
-use Rattle.loader.specs.Checks.{parents_there, ytds_agree}
-use Rattle.loader.specs.Districts.{line_counts_agree, next_orders_agree, spans_agree}
+use Rattle.image_checks.specs.Checks.{parents_there, ytds_agree}
+use Rattle.image_checks.specs.Districts.{line_counts_agree, next_orders_agree, spans_agree}
 use Rattle.loader.specs.Image.{counts, ended, image, is_end, is_first, placed, read_all, read_from, tested}
-use Rattle.loader.specs.ImageRecords.{record_at}
+use Rattle.image_records.specs.ImageRecords.{record_at}
 use Rattle.loader.specs.Tables.{is_taken, no_tables, with_record}
-use Rattle.loader.specs.declared.fault.LoadError.{LoadError}
-use Rattle.loader.specs.declared.fault.LoadError.TheVariants as err
-use Rattle.loader.specs.declared.image_record.ImageRecord.{ImageRecord}
+use Rattle.image_records.specs.declared.fault.LoadError.{LoadError}
+use Rattle.image_records.specs.declared.fault.LoadError.TheVariants as err
+use Rattle.image_records.specs.declared.image_record.ImageRecord.{ImageRecord}
 use Rattle.loader.proofs.Filled.{IsFilled, IsRead, filled-more, filled-none}
 use Rattle.loader.proofs.RecordLimits.{record_at-limits}
 use Rattle.loader.proofs.Sound.{is-sound}

@@ -1,16 +1,6 @@
-pub mod Sums
 pub mod FaultKinds
 pub mod FieldLimits
 pub mod Filled
 pub mod RecordLimits
 pub mod ImageLaws
-pub mod StoredTexts
-pub mod RowKeys
-pub mod BookLemmas
-pub mod DistrictLemmas
 pub mod Sound
-pub mod Texts
-pub mod MadeTexts
-pub mod MadeSteps
-pub mod MadeLimits
-pub mod MadeSound

@@ -8,9 +8,9 @@ use Rattle.records.specs.declared.fault.Slip.{Slip}
 use Rattle.records.specs.declared.fault.Slip.TheVariants as slip
 use Rattle.tpcc_rows.specs.Limits.{IsBetween, IsCents, IsStockQuantity}
 use Rattle.tpcc_rows.specs.Texts.{IsText}
-use Rattle.loader.specs.Columns.{credit_of, texts_at}
-use Rattle.loader.specs.ImageRecords.{customer_fields, district_fields, history_fields, item_fields, new_order_fields, order_fields, order_line_fields, record_at, stock_fields, warehouse_fields}
-use Rattle.loader.specs.declared.image_record.ImageRecord.{ImageRecord}
+use Rattle.image_records.specs.Columns.{credit_of, texts_at}
+use Rattle.image_records.specs.ImageRecords.{customer_fields, district_fields, history_fields, item_fields, new_order_fields, order_fields, order_line_fields, record_at, stock_fields, warehouse_fields}
+use Rattle.image_records.specs.declared.image_record.ImageRecord.{ImageRecord}
 use Rattle.loader.proofs.FieldLimits.{any-gives, cents_at-within, number_at-within, number_or_null_at-within, quantity_at-within, text_at-within, texts_at-within, then-gives}
 use Rattle.loader.proofs.Filled.{IsRead}
 

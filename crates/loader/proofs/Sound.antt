@@ -29,10 +29,10 @@ use Rattle.tpcc_rows.specs.declared.row.Row.{Row}
 use Rattle.tpcc_rows.specs.declared.row.Row.TheVariants as row
 use Rattle.tpcc_rows.proofs.Keys.{exact_keys, row_key_cmp_total}
 use Rattle.tpcc_rows.proofs.Singles.{and-left, and-right, passes}
-use Rattle.loader.specs.Checks.{card_has_parents, has_line, parents_there, row_has_parents, ytd_agrees, ytds_agree}
-use Rattle.loader.specs.Districts.{line_counts_agree, next_orders_agree, spans_agree}
-use Rattle.loader.specs.Tables.{has_card}
-use Rattle.loader.proofs.DistrictLemmas.{consistent}
+use Rattle.image_checks.specs.Checks.{card_has_parents, has_line, parents_there, row_has_parents, ytd_agrees, ytds_agree}
+use Rattle.image_checks.specs.Districts.{line_counts_agree, next_orders_agree, spans_agree}
+use Rattle.image_records.specs.Databases.{has_card}
+use Rattle.image_checks.proofs.DistrictLemmas.{consistent}
 use Rattle.loader.proofs.Filled.{IsFilled, IsLimited}
 
 -- ---- look-ups of cards

@@ -5,13 +5,13 @@ use Rattle.records.specs.Fields.{Fields, is_text}
 use Rattle.records.specs.Records.{records_in}
 use Rattle.records.specs.declared.fault.Slip.{Slip}
 use Rattle.tpcc_model.specs.Database.{Database}
-use Rattle.loader.specs.Checks.{checked}
-use Rattle.loader.specs.Faults.{fault_of}
-use Rattle.loader.specs.ImageRecords.{record_at}
+use Rattle.image_checks.specs.Checks.{checked}
+use Rattle.image_records.specs.Faults.{fault_of}
+use Rattle.image_records.specs.ImageRecords.{record_at}
 use Rattle.loader.specs.Tables.{is_taken, no_tables, with_record}
-use Rattle.loader.specs.declared.fault.LoadError.{LoadError}
-use Rattle.loader.specs.declared.fault.LoadError.TheVariants as err
-use Rattle.loader.specs.declared.image_record.ImageRecord.{ImageRecord}
+use Rattle.image_records.specs.declared.fault.LoadError.{LoadError}
+use Rattle.image_records.specs.declared.fault.LoadError.TheVariants as err
+use Rattle.image_records.specs.declared.image_record.ImageRecord.{ImageRecord}
 
 -- what a database leads to
 abbrev pub Rest : Type 0

@@ -1,11 +1,2 @@
-pub mod Faults
-pub mod Columns
-pub mod ImageRecords
 pub mod Tables
-pub mod Districts
-pub mod Books
-pub mod Checks
 pub mod Image
-pub mod StoredRecords
-pub mod StoredImage
-pub mod Made

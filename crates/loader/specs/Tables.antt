@@ -1,37 +1,23 @@
 -- Cards and rows as they are filled.
-use Rattle.std.specs.Prelude.{◌≡◌, Bool, true, false, Result, MatchResult, is_some}
+use Rattle.std.specs.Prelude.{◌≡◌, Bool, true, false, Result, MatchResult}
 use Rattle.std.specs.FinMap as map
-use Rattle.catalog.specs.CardMap.{Cards}
 use Rattle.catalog.specs.declared.builder.CatalogError.{CatalogError}
 use Rattle.catalog.specs.declared.builder.CatalogError.TheVariants as catalog_error
 use Rattle.catalog.specs.declared.card.Card.TheVariants as card
-use Rattle.catalog.specs.declared.card.CardKey.{CardKey}
 use Rattle.catalog.specs.declared.card.CardKey.TheVariants as card_key
-use Rattle.rollback.specs.Pointed.{Pointed}
 use Rattle.tpcc_model.specs.Database.{Database, database}
-use Rattle.tpcc_rows.specs.RowMap.{Rows}
-use Rattle.tpcc_rows.specs.declared.key.RowKey.{RowKey}
 use Rattle.tpcc_rows.specs.declared.key.RowKey.TheVariants as key
 use Rattle.tpcc_rows.specs.declared.row.Row.TheVariants as row
-use Rattle.loader.specs.declared.image_record.ImageRecord.{ImageRecord}
-use Rattle.loader.specs.declared.image_record.ImageRecord.TheVariants as said
+use Rattle.image_records.specs.Databases.{has_card, has_row}
+use Rattle.image_records.specs.declared.image_record.ImageRecord.{ImageRecord}
+use Rattle.image_records.specs.declared.image_record.ImageRecord.TheVariants as said
 use Rattle.loader.specs.declared.tables.Tables.{Tables}
 
 abbrev pub database_of : Tables → Database
 database_of tables = database tables.cards tables.rows
 
--- the database of a catalog and a store
-abbrev pub loaded : Cards × Pointed → Database
-loaded parts = database parts.0 parts.1.rows
-
 abbrev pub no_tables : Database
 no_tables = database map.empty map.empty
-
-abbrev pub has_card : Cards → CardKey → Bool
-has_card cards k = is_some (map.get cards k)
-
-abbrev pub has_row : Rows → RowKey → Bool
-has_row rows k = is_some (map.get rows k)
 
 -- the key of what a record says came before
 abbrev pub is_taken : Database → ImageRecord → Bool

@@ -2,15 +2,15 @@
 ghost use Rattle.std.specs.Prelude.{◌≡◌, ◌≢◌, ◌⊎◌, ◌+◌, ◌<◌, ◌≤◌, ◌^◌, [], length, Ok, Err, IfOk, IfErr, IfSome, IsErrOf, OnOk};
 ghost use Rattle.tpcc_model.specs.Soundness.{IsSound};
 ghost use Rattle.rollback.specs.Marks.{AreClean};
-ghost use Rattle.loader.specs.Faults.{IsOfReading, IsOfText, StopsBy};
+ghost use Rattle.image_records.specs.Faults.{IsOfReading, IsOfText, StopsBy};
 ghost use Rattle.loader.specs.Image.{image, most_bytes};
-ghost use Rattle.loader.specs.Tables.{loaded};
+ghost use Rattle.image_records.specs.Databases.{loaded};
 
-use crate::checks::check;
-use crate::fault::LoadError;
 use crate::reading::read_tables;
 use crate::tables::on_pages;
 use catalog::Catalog;
+use image_checks::check;
+use image_records::fault::LoadError;
 use records::fault::ReadError;
 use records::io::Source;
 use records::slurp::slurp;

@@ -2,24 +2,10 @@
 //! parents and the consistency conditions are tested.
 #![tactic(auto)]
 
-mod books;
-mod checks;
-mod columns;
-mod districts;
-pub mod fault;
-pub mod image;
-pub mod image_record;
+mod image;
 pub mod laws;
-mod made_records;
-pub mod making;
 mod reading;
-mod record_fault;
-mod row_keys;
-pub mod store;
-mod stored_record;
-mod tables;
+pub mod tables;
 
-pub use fault::LoadError;
 pub use image::load;
-pub use making::make;
-pub use store::store_image;
+pub use tables::{Tables, on_pages};

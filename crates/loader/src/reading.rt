@@ -2,17 +2,17 @@
 ghost use Rattle.std.specs.Prelude.{◌≡◌, ◌+◌, ◌<◌, ◌≤◌, ◌^◌, [], length, Ok, IfOk, IfErr, OnOk};
 ghost use Rattle.csv.specs.Records.{fields_of};
 ghost use Rattle.records.specs.Records.{IsGoing, records_in, records_left};
-ghost use Rattle.loader.specs.Faults.{StopsBy};
+ghost use Rattle.image_records.specs.Faults.{StopsBy};
 ghost use Rattle.loader.specs.Image.{Rest, counts, ended, is_first, placed, read_all, read_from};
-ghost use Rattle.loader.specs.ImageRecords.{record_at};
+ghost use Rattle.image_records.specs.ImageRecords.{record_at};
 ghost use Rattle.loader.specs.Tables.{database_of, no_tables};
 
-use crate::fault::{LoadError, fault};
-use crate::image_record::image_record;
-use crate::record_fault::RecordFault;
 use crate::tables::Tables;
 use catalog::builder::CatalogError;
 use csv::{ByteRecord, Reader};
+use image_records::fault::{LoadError, fault};
+use image_records::image_record::image_record;
+use image_records::record_fault::RecordFault;
 use itoa::Buffer;
 use records::fields::has_text;
 use records::reading::{next_record, records_of};

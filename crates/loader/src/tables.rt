@@ -6,11 +6,11 @@ ghost use Rattle.catalog.specs.declared.builder.CatalogError.TheVariants as cata
 ghost use Rattle.rollback.specs.Marks.{AreClean};
 ghost use Rattle.tpcc_rows.specs.RowKinds.{fits};
 ghost use Rattle.loader.specs.Tables.{Adds, database_of, is_taken, no_tables, with_record};
-ghost use Rattle.loader.specs.declared.image_record.ImageRecord.TheVariants as says;
+ghost use Rattle.image_records.specs.declared.image_record.ImageRecord.TheVariants as says;
 
-use crate::image_record::ImageRecord;
 use catalog::builder::{CatalogBuilder, CatalogError};
 use catalog::card::{Card, CustomerCard, DistrictCard, StockCard, WarehouseCard};
+use image_records::image_record::ImageRecord;
 use rollback::PointedStore;
 use std::alloc::Global;
 use tpcc_rows::id::{DistrictId, LineNumber, OrderId, WarehouseId};
@@ -23,14 +23,14 @@ use tpcc_rows::row::{
 
 /// The cards and the rows of the records so far.
 #[derive(Drop)]
-pub(crate) struct Tables {
-    pub(crate) cards: CatalogBuilder,
-    pub(crate) rows: RowStore,
+pub struct Tables {
+    pub cards: CatalogBuilder,
+    pub rows: RowStore,
     alloc: Global,
 }
 
 /// The rows on the pages of their leaves, of which none has changed, without a point.
-pub(crate) fn on_pages(alloc: Global, rows: RowStore) -> Result<PointedStore, Memory>
+pub fn on_pages(alloc: Global, rows: RowStore) -> Result<PointedStore, Memory>
     ensures rows { IfOk result (λ store. store.rows ≡ rows) }
     ensures points { IfOk result (λ store. store.points ≡ []) }
     ensures clean { IfOk result (λ store. AreClean store.dirty) }
@@ -41,7 +41,7 @@ pub(crate) fn on_pages(alloc: Global, rows: RowStore) -> Result<PointedStore, Me
 
 impl Tables {
     /// No cards and no rows.
-    pub(crate) fn new(alloc: Global) -> Tables
+    pub fn new(alloc: Global) -> Tables
         ensures { database_of result ≡ no_tables }
     {
         Tables {
@@ -174,7 +174,7 @@ impl Tables {
     }
 
     /// Takes in what a record says; `Twice` where its key came before.
-    pub(crate) fn add(&mut self, said: ImageRecord) -> Result<(), CatalogError>
+    pub fn add(&mut self, said: ImageRecord) -> Result<(), CatalogError>
         ensures ok { OnOk result (database_of self.new ≡ with_record (database_of self.old) said) }
         ensures fresh { OnOk result (is_taken (database_of self.old) said ≡ false) }
         ensures twice { IfErr result (λ e. e ≡ catalog_error.Twice

@@ -21,8 +21,8 @@ use Rattle.tpcc_rows.specs.declared.row.Row.{Row}
 use Rattle.tpcc_rows.specs.declared.row.Row.TheVariants as row
 use Rattle.tpcc_rows.proofs.Keys.{exact_keys, row_key_cmp_total}
 use Rattle.tpcc_rows.proofs.Singles.{all-pass}
-use Rattle.loader.specs.Checks.{card_has_parents, parents_there, row_has_parents, ytd_agrees, ytds_agree}
-use Rattle.loader.specs.Tables.{has_card}
+use Rattle.image_checks.specs.Checks.{card_has_parents, parents_there, row_has_parents, ytd_agrees, ytds_agree}
+use Rattle.image_records.specs.Databases.{has_card}
 
 both : (a b : Bool) → a ≡ true → b ≡ true → (a && b) ≡ true
 both a b x y = ap₂ (λ c d. c && d) x y

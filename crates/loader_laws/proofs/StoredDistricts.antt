@@ -16,8 +16,8 @@ use Rattle.tpcc_rows.specs.declared.row.Row.{Row}
 use Rattle.tpcc_rows.specs.declared.row.Row.TheVariants as row
 use Rattle.tpcc_rows.proofs.Keys.{exact_keys, row_key_cmp_total}
 use Rattle.tpcc_rows.proofs.Singles.{all-pass}
-use Rattle.loader.specs.Districts.{are_without_gap, line_count_agrees, line_counts_agree, new_order_numbers, next_order_agrees, next_orders_agree, order_numbers, span_agrees, spans_agree}
-use Rattle.loader.proofs.DistrictLemmas.{greatest-of, least-of, new_orders, of-greatest, orders}
+use Rattle.image_checks.specs.Districts.{are_without_gap, line_count_agrees, line_counts_agree, new_order_numbers, next_order_agrees, next_orders_agree, order_numbers, span_agrees, spans_agree}
+use Rattle.image_checks.proofs.DistrictLemmas.{greatest-of, least-of, new_orders, of-greatest, orders}
 
 same-number : (m n : ℕ) → Some m ≡ Some n → m ≡ n
 same-number m n h = cc

@@ -27,13 +27,14 @@ use Rattle.tpcc_rows.specs.declared.key.RowKey.TheVariants as key
 use Rattle.tpcc_rows.specs.declared.row.Row.{Row}
 use Rattle.tpcc_rows.proofs.Keys.{exact_keys, row_key_cmp_total}
 use Rattle.loader.specs.Image.{is_end, read_all, read_from}
-use Rattle.loader.specs.StoredImage.{card_said, image_records, image_said, image_text, row_said, stands_in}
-use Rattle.loader.specs.StoredRecords.{written_customer, written_district, written_end, written_first, written_history, written_item, written_new_order, written_order, written_order_line, written_record, written_stock, written_warehouse}
-use Rattle.loader.specs.Tables.{has_card, has_row, is_taken, no_tables, with_record}
-use Rattle.loader.specs.declared.image_record.ImageRecord.{ImageRecord}
-use Rattle.loader.specs.declared.image_record.ImageRecord.TheVariants as said
-use Rattle.loader.specs.declared.store.CardPart.{CardPart}
-use Rattle.loader.specs.declared.store.CardPart.TheVariants as part
+use Rattle.stored_image.specs.StoredImage.{card_said, image_records, image_said, image_text, row_said, stands_in}
+use Rattle.stored_image.specs.StoredRecords.{written_customer, written_district, written_end, written_first, written_history, written_item, written_new_order, written_order, written_order_line, written_record, written_stock, written_warehouse}
+use Rattle.image_records.specs.Databases.{has_card, has_row}
+use Rattle.loader.specs.Tables.{is_taken, no_tables, with_record}
+use Rattle.image_records.specs.declared.image_record.ImageRecord.{ImageRecord}
+use Rattle.image_records.specs.declared.image_record.ImageRecord.TheVariants as said
+use Rattle.stored_image.specs.declared.store.CardPart.{CardPart}
+use Rattle.stored_image.specs.declared.store.CardPart.TheVariants as part
 use Rattle.loader.proofs.Filled.{card_key_of}
 use Rattle.loader_laws.proofs.StoredMaps.{AreApart, AreFresh, IsOf, Occurs, all-append, all-filter_map, all-map, all-mapped, apart-append, are-own, found-first, found-right, found-where, fresh-head, fresh-skip, fresh-tail, occurs-left, occurs-made, occurs-right, put_at, puts, puts-others, puts-whole, sorted-apart}
 use Rattle.loader_laws.proofs.StoredRecords.{IsStored, record_at-written}

@@ -32,11 +32,11 @@ use Rattle.tpcc_rows.specs.declared.row.OrderLineRow.{OrderLineRow}
 use Rattle.tpcc_rows.specs.declared.row.OrderRow.{OrderRow}
 use Rattle.tpcc_rows.specs.declared.row.StockRow.{StockRow}
 use Rattle.tpcc_rows.specs.declared.row.WarehouseRow.{WarehouseRow}
-use Rattle.loader.specs.Columns.{credit_of, texts_at}
-use Rattle.loader.specs.ImageRecords.{customer_fields, district_fields, history_fields, item_fields, new_order_fields, order_fields, order_line_fields, record_at, stock_fields, warehouse_fields}
-use Rattle.loader.specs.StoredRecords.{credit_text, written_customer, written_district, written_history, written_item, written_new_order, written_order, written_order_line, written_record, written_stock, written_warehouse}
-use Rattle.loader.specs.declared.image_record.ImageRecord.{ImageRecord}
-use Rattle.loader.specs.declared.image_record.ImageRecord.TheVariants as said
+use Rattle.image_records.specs.Columns.{credit_of, texts_at}
+use Rattle.image_records.specs.ImageRecords.{customer_fields, district_fields, history_fields, item_fields, new_order_fields, order_fields, order_line_fields, record_at, stock_fields, warehouse_fields}
+use Rattle.stored_image.specs.StoredRecords.{credit_text, written_customer, written_district, written_history, written_item, written_new_order, written_order, written_order_line, written_record, written_stock, written_warehouse}
+use Rattle.image_records.specs.declared.image_record.ImageRecord.{ImageRecord}
+use Rattle.image_records.specs.declared.image_record.ImageRecord.TheVariants as said
 use Rattle.loader.proofs.Filled.{IsHistoryRow, IsLineRow, IsOrderKey, IsOrderRow}
 
 -- ---- fields

@@ -15,9 +15,9 @@ use Rattle.tpcc_rows.specs.declared.key.RowKey.TheVariants as key
 use Rattle.tpcc_rows.specs.declared.row.OrderRow.{OrderRow}
 use Rattle.tpcc_rows.specs.declared.row.Row.{Row}
 use Rattle.tpcc_rows.specs.declared.row.Row.TheVariants as row
-use Rattle.loader.specs.StoredImage.{card_said, row_said}
-use Rattle.loader.specs.declared.image_record.ImageRecord.{ImageRecord}
-use Rattle.loader.specs.declared.image_record.ImageRecord.TheVariants as said
+use Rattle.stored_image.specs.StoredImage.{card_said, row_said}
+use Rattle.image_records.specs.declared.image_record.ImageRecord.{ImageRecord}
+use Rattle.image_records.specs.declared.image_record.ImageRecord.TheVariants as said
 use Rattle.loader.proofs.Filled.{IsOrderKey, card_key_of, row_key_of}
 use Rattle.loader_laws.proofs.StoredRecords.{IsStored}
 

@@ -5,7 +5,7 @@ ghost use Rattle.std.specs.Prelude.{◌≡◌, Ok};
 ghost use Rattle.tpcc_model.specs.Database.{Database};
 ghost use Rattle.tpcc_model.specs.Soundness.{IsSound};
 ghost use Rattle.loader.specs.Image.{image};
-ghost use Rattle.loader.specs.StoredImage.{image_text};
+ghost use Rattle.stored_image.specs.StoredImage.{image_text};
 
 /// The image of a sound database is read as that database.
 pub fn image_read_back()

@@ -7,7 +7,9 @@
 
 use executor::Refusal;
 use hashers::Host;
-use loader::{LoadError, make, store_image};
+use image_records::LoadError;
+use made_database::make;
+use stored_image::store_image;
 use requests::{BytesSink, BytesSource, ReadError};
 use runner::{RunFault, check_text, run_text};
 use std::alloc::Global;

@@ -1,8 +1,8 @@
 -- The lines that report faults.
 use Rattle.std.specs.Prelude.{ℕ, List, [], ◌∷◌, ◌++◌, codes, decimal, Option, Some, None}
 use Rattle.executor.specs.Refusals.{refusal_code, refusal_name}
-use Rattle.loader.specs.Faults as image
-use Rattle.loader.specs.declared.fault.LoadError.TheVariants as load_error
+use Rattle.image_records.specs.Faults as image
+use Rattle.image_records.specs.declared.fault.LoadError.TheVariants as load_error
 use Rattle.records.specs.Faults as batches
 use Rattle.runner.specs.declared.fault.RunFault.{RunFault}
 use Rattle.runner.specs.declared.fault.RunFault.TheVariants as run_fault

@@ -4,7 +4,7 @@ use Rattle.std.specs.Prelude.{◌≡◌, ◌⊎◌, ℕ, Bool, true, false, List
 use Rattle.std.specs.Io.KnownBytes.{Appends, Keeps}
 use Rattle.catalog.specs.CardMap.{Cards}
 use Rattle.loader.specs.Image.{image}
-use Rattle.loader.specs.StoredImage.{image_text}
+use Rattle.stored_image.specs.StoredImage.{image_text}
 use Rattle.records.specs.Io.{AppendsFront}
 use Rattle.requests.specs.Batches.{batches}
 use Rattle.requests.specs.declared.request.Batch.{Batch}

@@ -2,8 +2,8 @@
 use Rattle.std.specs.Prelude.{◌≡◌, ◌⊎◌, ℕ, ◌<◌, Bool, true, false, List, [], length, Result, Ok, Err}
 use Rattle.std.specs.Io.KnownBytes.{Keeps}
 use Rattle.loader.specs.Image.{image}
-use Rattle.loader.specs.declared.fault.LoadError.{LoadError}
-use Rattle.loader.specs.declared.fault.LoadError.TheVariants as load_error
+use Rattle.image_records.specs.declared.fault.LoadError.{LoadError}
+use Rattle.image_records.specs.declared.fault.LoadError.TheVariants as load_error
 use Rattle.requests.specs.Batches.{batches}
 use Rattle.requests.specs.declared.request.Batch.{Batch}
 use Rattle.records.specs.declared.fault.ReadError.{ReadError}

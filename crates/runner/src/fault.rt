@@ -4,7 +4,7 @@ ghost use Rattle.runner.specs.FaultText.{code_of, condition_of, fault_text, name
 
 use crate::lines::run_line;
 use executor::Refusal;
-use loader::LoadError;
+use image_records::LoadError;
 use records::fault::ReadError;
 use thiserror::Error;
 use tpcc_rows::memory::Memory;

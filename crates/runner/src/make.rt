@@ -1,14 +1,15 @@
 //! From three numbers to the bytes of an image.
 ghost use Rattle.std.specs.Prelude.{◌≡◌, ◌+◌, ◌<◌, ◌^◌, IfErr, IfOk, OnOk, if◌then◌else◌};
 ghost use Rattle.std.specs.Io.KnownBytes.{Appends};
-ghost use Rattle.loader.specs.Made.{made};
-ghost use Rattle.loader.specs.StoredImage.{image_text};
+ghost use Rattle.made_database.specs.Made.{made};
+ghost use Rattle.stored_image.specs.StoredImage.{image_text};
 ghost use Rattle.runner.specs.MadeTexts.{LeavesImage};
 ghost use Rattle.runner.specs.Runs.{is_write};
 ghost use Rattle.tpcc_rows.specs.Limits.{IsBetween};
 
 use crate::fault::RunFault;
-use loader::{make, store_image};
+use made_database::make;
+use stored_image::store_image;
 use records::io::Sink;
 use records::slurp::push_all;
 use std::alloc::Global;

@@ -3,7 +3,7 @@ ghost use Rattle.std.specs.Prelude.{◌≡◌, ◌+◌, ◌<◌, ◌≤◌, ◌^
 ghost use Rattle.executor.specs.Lines.{opening_line};
 ghost use Rattle.executor.specs.States.{IsSoundState};
 ghost use Rattle.executor.specs.declared.refusal.Refusal.TheVariants as refusal;
-ghost use Rattle.loader.specs.Tables.{loaded};
+ghost use Rattle.image_records.specs.Databases.{loaded};
 ghost use Rattle.runner.specs.Openings.{IsOfOpening, IsOpened, IsUnopened};
 ghost use Rattle.runner.specs.WholeRuns.{is_image_read};
 ghost use Rattle.runner.specs.declared.fault.RunFault.TheVariants as run_fault;

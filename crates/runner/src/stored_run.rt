@@ -14,7 +14,7 @@ use crate::run::run_read;
 use crate::store_fault::{StoreFault, StoredRunFault};
 use executor::Executor;
 use hashers::Host;
-use loader::store_image;
+use stored_image::store_image;
 use records::io::{Sink, Source};
 use records::slurp::push_all;
 use std::alloc::Global;

@@ -2,7 +2,7 @@
 ghost use Rattle.tpcc_rows.specs.Limits.{IsBetween};
 
 use catalog::Catalog;
-use loader::make;
+use made_database::make;
 use mixer::{Cut, mix};
 use profiles::declare;
 use requests::BatchReader;

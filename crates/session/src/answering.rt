@@ -6,7 +6,7 @@ ghost use Rattle.session.specs.AnswerText.{image_answer};
 use crate::answer_text::{commit_text, image_head, refused_text, told_text};
 use commands::{Command, Control};
 use executor::{Executor, Refusal};
-use loader::store_image;
+use stored_image::store_image;
 use requests::request::Batch;
 use runner::text::batch_text;
 use std::alloc::Global;

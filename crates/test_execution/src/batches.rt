@@ -1,6 +1,6 @@
 //! Batches, and the made databases that they are executed on: one warehouse, with few customers in each district or with many.
 use executor::Executor;
-use loader::make;
+use made_database::make;
 use requests::BatchReader;
 use requests::request::{Batch, Delivery, Request, Requests, Verdict};
 use std::alloc::Global;

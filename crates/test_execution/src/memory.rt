@@ -4,7 +4,7 @@
 use crate::batches::{NO_REQUESTS, ORDER, STRAY, batch_of};
 use crate::calls::{execute, text_of};
 use executor::{Executor, Record, Refusal};
-use loader::make;
+use made_database::make;
 use requests::request::Batch;
 use std::alloc::Global;
 use std::thread::Threads;

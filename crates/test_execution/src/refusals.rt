@@ -2,7 +2,9 @@
 use crate::batches::{NO_REQUESTS, ORDER, batch_of, deliveries, opened};
 use crate::calls::{IN_FLIGHT, are_committed, executed, is_refused};
 use executor::{Executor, Refusal};
-use loader::{load, make, store_image};
+use loader::load;
+use made_database::make;
+use stored_image::store_image;
 use requests::BytesSource;
 use requests::request::Batch;
 use std::alloc::Global;

@@ -6,7 +6,8 @@
 ghost use Rattle.std.specs.Prelude.{◌<◌, Some};
 
 use hashers::Host;
-use loader::{make, store_image};
+use made_database::make;
+use stored_image::store_image;
 use records::{BytesSink, BytesSource, ReadError};
 use runner::{RunFault, fault_line};
 use session::serve;

@@ -7,7 +7,8 @@
 ghost use Rattle.std.specs.Prelude.{◌<◌, ◌^◌};
 
 use hashers::Host;
-use loader::{make, store_image};
+use made_database::make;
+use stored_image::store_image;
 use records::{BytesSink, BytesSource, FailAt, Sink};
 use runner::{StoredRunFault, run_and_store, stored_fault_line};
 use std::alloc::Global;

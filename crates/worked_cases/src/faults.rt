@@ -1,6 +1,7 @@
 //! What is wrong with an image or with batches.
 use executor::Refusal;
-use loader::{LoadError, load};
+use image_records::LoadError;
+use loader::load;
 use requests::{BatchReader, BytesSource, ReadError};
 use runner::{RunFault, fault_line};
 use std::alloc::Global;

@@ -1,7 +1,7 @@
 use Rattle.std.proofs.Common.{rules, [], sym, append-nil}
 use Rattle.std.specs.Io.KnownBytes.{Appends}
-use Rattle.loader.specs.Made.{made}
-use Rattle.loader.specs.StoredImage.{image_text}
+use Rattle.made_database.specs.Made.{made}
+use Rattle.stored_image.specs.StoredImage.{image_text}
 use Rattle.runner.proofs.RunLemmas.{then_kept}
 use Rattle.runner.proofs.make.make_text.Goals as goal
 

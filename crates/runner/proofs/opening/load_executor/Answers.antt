@@ -1,6 +1,6 @@
 use Rattle.std.proofs.Common.{sym, subst, IfSome}
 use Rattle.std.proofs.lemmas.Result.{IfErr-weaker, IfOk-weaker}
-use Rattle.loader.specs.Tables.{loaded}
+use Rattle.image_records.specs.Databases.{loaded}
 use Rattle.runner.specs.Openings.{IsUnopened}
 use Rattle.runner.proofs.WholeLemmas.{opened_on, refused_on}
 use Rattle.runner.proofs.opening.load_executor.Goals as goal

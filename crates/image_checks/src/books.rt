@@ -1,0 +1,246 @@
+//! A book for each district, which its rows are entered into one after the other.
+ghost use Rattle.std.specs.Prelude.{◌≡◌, ◌<◌, ◌+◌, ◌*◌, ◌^◌, ◌+ℤ◌, max, min, pos, ℕ, length, IfNone, IfOk, IfSome, Some};
+ghost use Rattle.std.specs.Ordering.{int_eq};
+ghost use Rattle.records.specs.Fields.{IsWithin};
+ghost use Rattle.image_checks.specs.Books.{AreBooks, AreOfRows, IsEntered, IsEntry, IsOfRows, book_of, book_of_row, both, empty_book, one_of};
+ghost use Rattle.image_checks.specs.Districts.{are_without_gap, follows_on};
+ghost use Rattle.image_checks.specs.declared.books.TheConstants.{PLACES};
+
+use std::alloc::Global;
+use tpcc_rows::id::{DistrictId, LineNumber, OrderId, WarehouseId};
+use tpcc_rows::key::RowKey;
+use tpcc_rows::memory::Memory;
+use tpcc_rows::plain::RowStore;
+use tpcc_rows::row::Row;
+
+/// What a district's orders, new orders and order lines come to.
+#[derive(Clone, Copy)]
+pub(crate) struct Book {
+    /// The greatest O_ID.
+    last_order: Option<OrderId>,
+    /// The least NO_O_ID.
+    first_new_order: Option<OrderId>,
+    /// The greatest NO_O_ID.
+    last_new_order: Option<OrderId>,
+    new_orders: i128,
+    /// The sum of O_OL_CNT.
+    promised_lines: i128,
+    lines: i128,
+}
+
+/// The places of the districts of all warehouses.
+pub const PLACES: usize = 1_011;
+
+/// A book for each district, at its place.
+#[derive(Drop)]
+pub(crate) struct Books {
+    places: Vec<Book>,
+    ghost whole: { length places.items ≡ PLACES },
+}
+
+/// The place of a district among those of all warehouses.
+fn place(warehouse: WarehouseId, district: DistrictId) -> usize
+    ensures value { result ≡ warehouse * 10 + district }
+    ensures range { result < PLACES }
+{
+    usize::from(warehouse.number()) * 10 + usize::from(district.number())
+}
+
+/// The later of two orders, where there are two.
+fn later(one: Option<OrderId>, other: Option<OrderId>) -> Option<OrderId>
+    ensures { result ≡ one_of max one other }
+{
+    match (one, other) {
+        (Some(first), Some(second)) if first.number() < second.number() => other,
+        (None, _) => other,
+        _ => one,
+    }
+}
+
+/// The earlier of two orders, where there are two.
+fn earlier(one: Option<OrderId>, other: Option<OrderId>) -> Option<OrderId>
+    ensures { result ≡ one_of min one other }
+{
+    match (one, other) {
+        (Some(first), Some(second)) if second.number() < first.number() => other,
+        (None, _) => other,
+        _ => one,
+    }
+}
+
+fn plus(one: i128, other: i128) -> i128
+    requires one { IsWithin (2 ^ 63 * 15) one }
+    requires other { IsWithin (2 ^ 63 * 15) other }
+    ensures { result ≡ one +ℤ other }
+{
+    one + other
+}
+
+impl Book {
+    const EMPTY: Book = Book {
+        last_order: None,
+        first_new_order: None,
+        last_new_order: None,
+        new_orders: 0,
+        promised_lines: 0,
+        lines: 0,
+    };
+
+    /// The book of an order of so many lines.
+    fn of_order(order: OrderId, lines: LineNumber) -> Book
+        ensures value { result ≡ record empty_book { last_order = Some order; promised_lines = pos lines } }
+        ensures small { IsOfRows 1 result }
+    {
+        Book {
+            last_order: Some(order),
+            promised_lines: i128::from(lines.number()),
+            ..Book::EMPTY
+        }
+    }
+
+    /// The book of a new order.
+    fn of_new_order(order: OrderId) -> Book
+        ensures { result ≡ record empty_book { first_new_order = Some order; last_new_order = Some order; new_orders = pos 1 } }
+    {
+        Book {
+            first_new_order: Some(order),
+            last_new_order: Some(order),
+            new_orders: 1,
+            ..Book::EMPTY
+        }
+    }
+
+    /// The book of an order line.
+    fn of_line() -> Book
+        ensures { result ≡ record empty_book { lines = pos 1 } }
+    {
+        Book {
+            lines: 1,
+            ..Book::EMPTY
+        }
+    }
+
+    /// The book of the rows of both books.
+    fn and(self, other: Book) -> Book
+        requires one { IsOfRows (2 ^ 63) self }
+        requires other { IsOfRows (2 ^ 63) other }
+        ensures { result ≡ both self other }
+    {
+        Book {
+            last_order: later(self.last_order, other.last_order),
+            first_new_order: earlier(self.first_new_order, other.first_new_order),
+            last_new_order: later(self.last_new_order, other.last_new_order),
+            new_orders: plus(self.new_orders, other.new_orders),
+            promised_lines: plus(self.promised_lines, other.promised_lines),
+            lines: plus(self.lines, other.lines),
+        }
+    }
+
+    /// Whether the next order's number follows on the last order, and on the last new order.
+    pub(crate) fn goes_before(self, next: OrderId) -> bool
+        ensures { result ≡ follows_on next self.last_order self.last_new_order }
+    {
+        let last = next.number() - 1;
+        if self.last_order.map_or(0, |order| order.number()) != last {
+            return false;
+        }
+        self.last_new_order
+            .is_none_or(|order| order.number() == last)
+    }
+
+    /// Whether the new orders are as many as their numbers span.
+    pub(crate) fn has_no_gap(self) -> bool
+        ensures { result ≡ are_without_gap self.first_new_order self.last_new_order self.new_orders }
+    {
+        match (self.first_new_order, self.last_new_order) {
+            (Some(first), Some(last)) => {
+                let span = last.number().saturating_sub(first.number()) + 1;
+                self.new_orders == i128::from(span)
+            }
+            _ => true,
+        }
+    }
+
+    /// Whether there are as many lines as the orders promise.
+    pub(crate) fn has_all_lines(self) -> bool
+        ensures { result ≡ int_eq self.promised_lines self.lines }
+    {
+        self.promised_lines == self.lines
+    }
+}
+
+/// The district of an order, a new order or an order line, and the book of that row alone.
+fn entry(key: &RowKey, row: &Row) -> Option<(WarehouseId, DistrictId, Book)>
+    ensures none { IfNone result ((w d : ℕ) → book_of_row w d (key.now, row.now) ≡ empty_book) }
+    ensures some { IfSome result (IsEntry (key.now, row.now)) }
+    ensures small { IfSome result (λ entry. IsOfRows 1 entry.2) }
+{
+    match (key, row) {
+        (
+            RowKey::Order {
+                warehouse,
+                district,
+                order,
+            },
+            Row::Order(row),
+        ) => {
+            let book = Book::of_order(*order, row.line_count);
+            Some((*warehouse, *district, book))
+        }
+        (
+            RowKey::NewOrder {
+                warehouse,
+                district,
+                order,
+            },
+            Row::NewOrder,
+        ) => { Some((*warehouse, *district, Book::of_new_order(*order))) }
+        (
+            RowKey::OrderLine {
+                warehouse,
+                district,
+                ..
+            },
+            Row::OrderLine(_),
+        ) => { Some((*warehouse, *district, Book::of_line())) }
+        _ => None,
+    }
+}
+
+/// Enters a row into the book of its district.
+fn enter(books: &mut Books, key: &RowKey, row: &Row)
+    requires { AreOfRows (2 ^ 63) books.old.places.items }
+    ensures books { IsEntered books.old.places.items (key.now, row.now) books.new.places.items }
+    ensures small { (w d : ℕ) → IsOfRows 1 (book_of_row w d (key.now, row.now)) }
+{
+    if let Some((warehouse, district, book)) = entry(key, row) {
+        let i = place(warehouse, district);
+        books.places[i] = books.places[i].and(book);
+    }
+}
+
+/// The books of all districts.
+pub(crate) fn books_of(alloc: Global, rows: &RowStore) -> Result<Books, Memory>
+    ensures { IfOk result (λ books. AreBooks books.places.items rows.now) }
+{
+    let places = vec![in alloc; Book::EMPTY; PLACES]?;
+    let mut books = Books { places };
+    let _count = rows.len();
+    for (key, row) in rows.iter() {
+        enter(&mut books, key, row);
+    }
+    Ok(books)
+}
+
+/// The book of a district.
+pub(crate) fn book_of(
+    books: &Books,
+    rows: &RowStore,
+    warehouse: WarehouseId,
+    district: DistrictId,
+) -> Book
+    requires { AreBooks books.now.places.items rows.now }
+    ensures { result ≡ book_of warehouse district rows.now }
+{
+    books.places[place(warehouse, district)]
+}

@@ -1,0 +1,291 @@
+//! Parents and consistency conditions.
+ghost use Rattle.std.specs.Prelude.{◌≡◌, ◌<◌, ◌^◌, ◌+ℤ◌, ℕ, pos, IfErr, IfNone, IfSome, OnOk, Ok, Err};
+ghost use Rattle.std.specs.List.{list_all};
+ghost use Rattle.catalog.specs.declared.card.CardKey.TheVariants as card_key;
+ghost use Rattle.tpcc_model.specs.Conditions.{district_share};
+ghost use Rattle.tpcc_rows.specs.Limits.{IsCents, ten};
+ghost use Rattle.tpcc_rows.specs.Rows.{order_row};
+ghost use Rattle.tpcc_rows.specs.declared.key.RowKey.TheVariants as row_key;
+ghost use Rattle.records.specs.Fields.{IsWithin};
+ghost use Rattle.image_checks.specs.Checks.{AreSums, AreWithin, IsShare, card_has_parents, checked, has_line, parents_there, row_has_parents, sum_at, ytd_agrees, ytds_agree};
+ghost use Rattle.image_records.specs.Faults.{IsOfText, StopsBy};
+ghost use Rattle.image_records.specs.Databases.{has_card, has_row};
+ghost use Rattle.tpcc_model.specs.Database.{database};
+
+use crate::books::books_of;
+use crate::districts::{line_counts_agree, next_orders_agree, spans_agree};
+use catalog::Catalog;
+use catalog::card::{Card, CardKey};
+use image_records::fault::LoadError;
+use std::alloc::Global;
+use tpcc_rows::id::{CustomerId, DistrictId, ItemId, LineNumber, OrderId, WarehouseId};
+use tpcc_rows::key::RowKey;
+use tpcc_rows::number::Cents;
+use tpcc_rows::plain::RowStore;
+use tpcc_rows::row::Row;
+
+/// A sum for each warehouse, at its number.
+type Sums = [i128; 101];
+
+fn has_card(catalog: &Catalog, key: CardKey) -> bool
+    ensures { result ≡ has_card catalog.now key }
+{
+    catalog.get(&key).is_some()
+}
+
+fn has_district(catalog: &Catalog, warehouse: WarehouseId, district: DistrictId) -> bool
+    ensures { result ≡ has_card catalog.now (card_key.District warehouse district) }
+{
+    let key = CardKey::District {
+        warehouse,
+        district,
+    };
+    has_card(catalog, key)
+}
+
+fn has_ten_districts(catalog: &Catalog, warehouse: WarehouseId) -> bool
+    ensures { result ≡ list_all (λ d. has_card catalog.now (card_key.District warehouse d)) ten }
+{
+    DistrictId::all()
+        .iter()
+        .all(|district| has_district(catalog, warehouse, *district))
+}
+
+/// Whether the cards are there that a card goes with.
+fn card_has_parents(catalog: &Catalog, key: &CardKey, card: &Card) -> bool
+    ensures { result ≡ card_has_parents catalog.now (key.now, card.now) }
+{
+    match *key {
+        CardKey::Warehouse { warehouse } => has_ten_districts(catalog, warehouse),
+        CardKey::District { warehouse, .. } => {
+            has_card(catalog, CardKey::Warehouse { warehouse })
+        }
+        CardKey::Customer {
+            warehouse,
+            district,
+            ..
+        } => has_district(catalog, warehouse, district),
+        CardKey::Stock { warehouse, item } => {
+            if !has_card(catalog, CardKey::Warehouse { warehouse }) {
+                return false;
+            }
+            has_card(catalog, CardKey::Item { item })
+        }
+        CardKey::Item { .. } => true,
+    }
+}
+
+fn has_customer(
+    catalog: &Catalog,
+    warehouse: WarehouseId,
+    district: DistrictId,
+    customer: CustomerId,
+) -> bool
+    ensures { result ≡ has_card catalog.now (card_key.Customer warehouse district customer) }
+{
+    let key = CardKey::Customer {
+        warehouse,
+        district,
+        customer,
+    };
+    has_card(catalog, key)
+}
+
+fn has_stock(catalog: &Catalog, warehouse: WarehouseId, item: ItemId) -> bool
+    ensures { result ≡ has_card catalog.now (card_key.Stock warehouse item) }
+{
+    has_card(catalog, CardKey::Stock { warehouse, item })
+}
+
+fn has_order(rows: &RowStore, warehouse: WarehouseId, district: DistrictId, order: OrderId) -> bool
+    ensures { result ≡ has_row rows.now (row_key.Order warehouse district order) }
+{
+    let key = RowKey::Order {
+        warehouse,
+        district,
+        order,
+    };
+    rows.get(&key).is_some()
+}
+
+/// Whether the order is there, and has at least so many lines.
+fn has_line(
+    rows: &RowStore,
+    warehouse: WarehouseId,
+    district: DistrictId,
+    order: OrderId,
+    number: LineNumber,
+) -> bool
+    ensures { result ≡ has_line number (order_row rows.now warehouse district order) }
+{
+    let key = RowKey::Order {
+        warehouse,
+        district,
+        order,
+    };
+    match rows.get(&key) {
+        Some(Row::Order(order)) => number <= order.line_count,
+        _ => false,
+    }
+}
+
+/// Whether the cards and the rows are there that a row goes with, besides the card of its own key.
+fn row_has_parents(catalog: &Catalog, rows: &RowStore, key: &RowKey, row: &Row) -> bool
+    ensures { result ≡ row_has_parents (database catalog.now rows.now) (key.now, row.now) }
+{
+    match (key, row) {
+        (
+            RowKey::Order {
+                warehouse,
+                district,
+                ..
+            },
+            Row::Order(row),
+        ) => {
+            has_district(catalog, *warehouse, *district)
+                && has_customer(catalog, *warehouse, *district, row.customer)
+        }
+        (
+            RowKey::NewOrder {
+                warehouse,
+                district,
+                order,
+            },
+            _,
+        ) => has_order(rows, *warehouse, *district, *order),
+        (
+            RowKey::OrderLine {
+                warehouse,
+                district,
+                order,
+                number,
+            },
+            Row::OrderLine(row),
+        ) => {
+            has_line(rows, *warehouse, *district, *order, *number)
+                && has_stock(catalog, row.supply, row.item)
+        }
+        (RowKey::History { .. }, Row::History(row)) => {
+            has_customer(
+                catalog,
+                row.customer_warehouse,
+                row.customer_district,
+                row.customer,
+            ) && has_district(catalog, row.warehouse, row.district)
+        }
+        _ => true,
+    }
+}
+
+/// Whether all parents are there.
+#[tactic(auto, unfolding(crate::specs::Checks::parents_there))]
+fn parents_there(catalog: &Catalog, rows: &RowStore) -> bool
+    ensures { result ≡ parents_there (database catalog.now rows.now) }
+{
+    for (card_key, card) in catalog.cards() {
+        if !card_has_parents(catalog, card_key, card) {
+            return false;
+        }
+    }
+    for (row_key, row) in rows.iter() {
+        if !row_has_parents(catalog, rows, row_key, row) {
+            return false;
+        }
+    }
+    true
+}
+
+fn plus(sum: i128, amount: i64) -> i128
+    requires { IsWithin 9223372036854775808000000000000000 sum }
+    ensures { result ≡ sum +ℤ amount }
+{
+    sum + i128::from(amount)
+}
+
+/// The warehouse of a district's row, and what the row adds to its sum: D_YTD.
+fn share(key: &RowKey, row: &Row) -> Option<(WarehouseId, Cents)>
+    ensures none { IfNone result ((w : ℕ) → district_share w key.now row.now ≡ pos 0) }
+    ensures some { IfSome result (IsShare key.now row.now) }
+{
+    match (key, row) {
+        (RowKey::District { warehouse, .. }, Row::District(row)) => Some((*warehouse, row.ytd)),
+        _ => None,
+    }
+}
+
+/// Adds D_YTD of a district's row to the sum of its warehouse.
+fn add_share(sums: &mut Sums, key: &RowKey, row: &Row)
+    requires { AreWithin (2 ^ 63) sums.old }
+    ensures sums { (w : ℕ) → w < 101 → sum_at sums.new w ≡ sum_at sums.old w +ℤ district_share w key.now row.now }
+    ensures near { (w : ℕ) → w < 101 → IsCents (district_share w key.now row.now) }
+{
+    if let Some((warehouse, ytd)) = share(key, row) {
+        let i = usize::from(warehouse.number());
+        let sum = plus(sums[i], ytd.amount());
+        sums[i] = sum;
+    }
+}
+
+/// The sum of D_YTD over the districts of each warehouse.
+#[tactic(auto, unfolding(tpcc_rows::specs::Totals::total))]
+fn district_sums(rows: &RowStore) -> Sums
+    ensures { AreSums result rows.now }
+{
+    let mut sums = [0i128; 101];
+    let _count = rows.len();
+    for (key, row) in rows.iter() {
+        add_share(&mut sums, key, row);
+    }
+    sums
+}
+
+fn ytd_agrees(sums: &Sums, rows: &RowStore, key: &RowKey, row: &Row) -> bool
+    requires { AreSums sums.now rows.now }
+    ensures { result ≡ ytd_agrees rows.now (key.now, row.now) }
+{
+    match (key, row) {
+        (RowKey::Warehouse { warehouse }, Row::Warehouse(row)) => {
+            i128::from(row.ytd.amount()) == sums[usize::from(warehouse.number())]
+        }
+        _ => true,
+    }
+}
+
+/// Whether W_YTD of each warehouse is the sum of D_YTD over its districts.
+#[tactic(auto, unfolding(crate::specs::Checks::ytds_agree))]
+fn ytds_agree(rows: &RowStore) -> bool
+    ensures { result ≡ ytds_agree rows.now }
+{
+    let sums = district_sums(rows);
+    for (key, row) in rows.iter() {
+        if !ytd_agrees(&sums, rows, key, row) {
+            return false;
+        }
+    }
+    true
+}
+
+/// Whether the tables are sound, whose values are within their limits.
+pub fn check(alloc: Global, catalog: &Catalog, rows: &RowStore) -> Result<(), LoadError>
+    ensures ok { OnOk result (checked (database catalog.now rows.now) ≡ Ok (database catalog.now rows.now)) }
+    ensures err { IfErr result (λ e. StopsBy e (checked (database catalog.now rows.now))) }
+    ensures kinds { IfErr result IsOfText }
+{
+    if !parents_there(catalog, rows) {
+        return Err(LoadError::MissingParent);
+    }
+    if !ytds_agree(rows) {
+        return Err(LoadError::Inconsistent(1));
+    }
+    let books = books_of(alloc, rows)?;
+    if !next_orders_agree(&books, rows) {
+        return Err(LoadError::Inconsistent(2));
+    }
+    if !spans_agree(&books, rows) {
+        return Err(LoadError::Inconsistent(3));
+    }
+    if !line_counts_agree(&books, rows) {
+        return Err(LoadError::Inconsistent(4));
+    }
+    Ok(())
+}

@@ -1,0 +1,87 @@
+//! The consistency conditions of each district's orders.
+ghost use Rattle.std.specs.Prelude.{◌≡◌};
+ghost use Rattle.image_checks.specs.Books.{AreBooks};
+ghost use Rattle.image_checks.specs.Districts.{line_count_agrees, line_counts_agree, next_order_agrees, next_orders_agree, span_agrees, spans_agree};
+
+use crate::books::{Books, book_of};
+use tpcc_rows::key::RowKey;
+use tpcc_rows::plain::RowStore;
+use tpcc_rows::row::Row;
+
+fn next_order_agrees(books: &Books, rows: &RowStore, key: &RowKey, row: &Row) -> bool
+    requires { AreBooks books.now.places.items rows.now }
+    ensures { result ≡ next_order_agrees rows.now (key.now, row.now) }
+{
+    match (key, row) {
+        (
+            RowKey::District {
+                warehouse,
+                district,
+            },
+            Row::District(row),
+        ) => book_of(books, rows, *warehouse, *district).goes_before(row.next_order),
+        _ => true,
+    }
+}
+
+/// Whether D_NEXT_O_ID - 1 of each district is its greatest O_ID, and its greatest NO_O_ID where it has one.
+#[tactic(auto, unfolding(crate::specs::Districts::next_orders_agree))]
+pub(crate) fn next_orders_agree(books: &Books, rows: &RowStore) -> bool
+    requires { AreBooks books.now.places.items rows.now }
+    ensures { result ≡ next_orders_agree rows.now }
+{
+    rows.iter()
+        .all(|(key, row)| next_order_agrees(books, rows, key, row))
+}
+
+fn span_agrees(books: &Books, rows: &RowStore, key: &RowKey, row: &Row) -> bool
+    requires { AreBooks books.now.places.items rows.now }
+    ensures { result ≡ span_agrees rows.now (key.now, row.now) }
+{
+    match (key, row) {
+        (
+            RowKey::District {
+                warehouse,
+                district,
+            },
+            Row::District(_),
+        ) => book_of(books, rows, *warehouse, *district).has_no_gap(),
+        _ => true,
+    }
+}
+
+/// Whether the numbers of each district's new orders are without a gap.
+#[tactic(auto, unfolding(crate::specs::Districts::spans_agree))]
+pub(crate) fn spans_agree(books: &Books, rows: &RowStore) -> bool
+    requires { AreBooks books.now.places.items rows.now }
+    ensures { result ≡ spans_agree rows.now }
+{
+    rows.iter()
+        .all(|(key, row)| span_agrees(books, rows, key, row))
+}
+
+fn line_count_agrees(books: &Books, rows: &RowStore, key: &RowKey, row: &Row) -> bool
+    requires { AreBooks books.now.places.items rows.now }
+    ensures { result ≡ line_count_agrees rows.now (key.now, row.now) }
+{
+    match (key, row) {
+        (
+            RowKey::District {
+                warehouse,
+                district,
+            },
+            Row::District(_),
+        ) => book_of(books, rows, *warehouse, *district).has_all_lines(),
+        _ => true,
+    }
+}
+
+/// Whether the sum of O_OL_CNT of each district is the number of its order lines.
+#[tactic(auto, unfolding(crate::specs::Districts::line_counts_agree))]
+pub(crate) fn line_counts_agree(books: &Books, rows: &RowStore) -> bool
+    requires { AreBooks books.now.places.items rows.now }
+    ensures { result ≡ line_counts_agree rows.now }
+{
+    rows.iter()
+        .all(|(key, row)| line_count_agrees(books, rows, key, row))
+}

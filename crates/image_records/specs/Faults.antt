@@ -1,0 +1,81 @@
+-- Faults of an image.
+use Rattle.std.specs.Prelude.{◌≡◌, ◌⊎◌, ℕ, List, codes, Option, Some, None, Result, Ok, Err, MatchResult}
+use Rattle.records.specs.declared.fault.Slip.{Slip}
+use Rattle.records.specs.declared.fault.Slip.TheVariants as slip
+use Rattle.image_records.specs.declared.fault.LoadError.{LoadError}
+use Rattle.image_records.specs.declared.fault.LoadError.TheVariants as err
+use Rattle.image_records.specs.declared.record_fault.RecordFault.{RecordFault}
+use Rattle.image_records.specs.declared.record_fault.RecordFault.TheVariants as record_fault
+
+abbrev pub code_of : LoadError → ℕ
+code_of (err.BadRecord n) = 1
+code_of (err.Duplicate n) = 2
+code_of err.MissingParent = 3
+code_of (err.Inconsistent k) = 4
+code_of (err.LimitReached n) = 5
+code_of err.Memory = 6
+code_of err.Read = 7
+code_of err.Truncated = 8
+code_of err.InputTooLong = 9
+
+abbrev pub name_of : LoadError → List ℕ
+name_of (err.BadRecord n) = codes "BadRecord"
+name_of (err.Duplicate n) = codes "Duplicate"
+name_of err.MissingParent = codes "MissingParent"
+name_of (err.Inconsistent k) = codes "Inconsistent"
+name_of (err.LimitReached n) = codes "LimitReached"
+name_of err.Memory = codes "Memory"
+name_of err.Read = codes "Read"
+name_of err.Truncated = codes "Truncated"
+name_of err.InputTooLong = codes "InputTooLong"
+
+-- the record at fault
+abbrev pub place_of : LoadError → Option ℕ
+place_of (err.BadRecord n) = Some n
+place_of (err.Duplicate n) = Some n
+place_of err.MissingParent = None
+place_of (err.Inconsistent k) = None
+place_of (err.LimitReached n) = Some n
+place_of err.Memory = None
+place_of err.Read = None
+place_of err.Truncated = None
+place_of err.InputTooLong = None
+
+-- the fault of the record of this number: only a number outside its limits is told from what is no such field
+abbrev pub fault_of : ℕ → Slip → LoadError
+fault_of n slip.OutOfRange = err.LimitReached n
+fault_of n slip.BadField = err.BadRecord n
+fault_of n slip.WrongCount = err.BadRecord n
+fault_of n slip.UnknownKind = err.BadRecord n
+fault_of n slip.BatchTooLong = err.BadRecord n
+
+-- a record's fault is the definition's; memory may be refused at any time
+abbrev pub IsFaultOf : {A : Type 0} → Result A Slip → RecordFault → Type 0
+IsFaultOf definition (record_fault.Slip e) = definition ≡ Err e
+IsFaultOf definition record_fault.Memory = Unit {0}
+
+-- what is read of a record is what the definition says, where memory isn't refused
+abbrev pub Reads : {A : Type 0} → Result A Slip → Result A RecordFault → Type 0
+Reads definition result = MatchResult result (λ x. definition ≡ Ok x) (IsFaultOf definition)
+
+-- the reasons for which the bytes aren't had, or no memory for what they say
+abbrev pub IsOfReading : LoadError → Type 0
+IsOfReading err.Memory = Unit {0}
+IsOfReading err.Read = Unit {0}
+IsOfReading err.InputTooLong = Unit {0}
+IsOfReading (err.BadRecord n) = ⊥
+IsOfReading (err.Duplicate n) = ⊥
+IsOfReading err.MissingParent = ⊥
+IsOfReading (err.Inconsistent k) = ⊥
+IsOfReading (err.LimitReached n) = ⊥
+IsOfReading err.Truncated = ⊥
+
+-- this fault, or want of memory
+abbrev pub StopsBy : {A : Type 0} → LoadError → Result A LoadError → Type 0
+StopsBy e said = (e ≡ err.Memory) ⊎ (said ≡ Err e)
+
+-- the faults of a text that is had, and want of memory
+abbrev pub IsOfText : LoadError → Type 0
+IsOfText err.Read = ⊥
+IsOfText err.InputTooLong = ⊥
+IsOfText _ = Unit {0}

@@ -1,0 +1,183 @@
+-- What a record of an image says.
+use Rattle.std.specs.Prelude.{Bool, true, false, ◌==◌, ℕ, List, Result, Ok, Err, codes, if◌then◌else◌}
+use Rattle.csv.specs.Records.{field_at}
+use Rattle.records.specs.Fields.{Fields, ◌>>=◌, is_text, number_at, number_or_null_at, of_count, signed_at, text_at}
+use Rattle.records.specs.declared.fault.Slip.{Slip}
+use Rattle.records.specs.declared.fault.Slip.TheVariants as slip
+use Rattle.tpcc_rows.specs.declared.id.TheConstants.{LAST_REQUEST}
+use Rattle.image_records.specs.Columns.{credit_of, texts_at}
+use Rattle.image_records.specs.declared.image_record.ImageRecord.{ImageRecord}
+use Rattle.image_records.specs.declared.image_record.ImageRecord.TheVariants as said
+
+-- `W,w,name,tax,ytd`
+unfoldable pub warehouse_fields : Fields → Result ImageRecord Slip
+warehouse_fields fields = do
+  w ← number_at fields 1 1 100
+  name ← text_at fields 2 10
+  tax ← number_at fields 3 0 9999
+  ytd ← signed_at fields 4 1000000000000000
+  Ok (said.Warehouse (record { warehouse = w; name = name; tax = tax }) (record { ytd = ytd }))
+
+-- `D,w,d,name,tax,ytd,next`
+unfoldable pub district_fields : Fields → Result ImageRecord Slip
+district_fields fields = do
+  w ← number_at fields 1 1 100
+  d ← number_at fields 2 1 10
+  name ← text_at fields 3 10
+  tax ← number_at fields 4 0 9999
+  ytd ← signed_at fields 5 1000000000000000
+  next ← number_at fields 6 1 9999999
+  Ok (said.District
+      (record { warehouse = w; district = d; name = name; tax = tax }) (record { ytd = ytd; next_order = next }))
+
+-- `C,w,d,c,last,middle,first,credit,discount,balance,ytd_payment,payment_cnt,delivery_cnt,data`
+unfoldable pub customer_fields : Fields → Result ImageRecord Slip
+customer_fields fields = do
+  w ← number_at fields 1 1 100
+  d ← number_at fields 2 1 10
+  c ← number_at fields 3 1 3000
+  last ← text_at fields 4 16
+  middle ← text_at fields 5 2
+  first ← text_at fields 6 16
+  credit ← credit_of (field_at fields 7)
+  discount ← number_at fields 8 0 9999
+  balance ← signed_at fields 9 1000000000000000
+  ytd_payment ← signed_at fields 10 1000000000000000
+  payments ← number_at fields 11 0 1000000000
+  deliveries ← number_at fields 12 0 1000000000
+  text ← text_at fields 13 500
+  Ok (said.Customer (record {
+    warehouse = w;
+    district = d;
+    customer = c;
+    last = last;
+    middle = middle;
+    first = first;
+    credit = credit;
+    discount = discount;
+  }) (record {
+    balance = balance;
+    ytd_payment = ytd_payment;
+    payment_count = payments;
+    delivery_count = deliveries;
+    «data» = text;
+  }))
+
+-- `I,i,name,price,data`
+unfoldable pub item_fields : Fields → Result ImageRecord Slip
+item_fields fields = do
+  i ← number_at fields 1 1 100000
+  name ← text_at fields 2 24
+  price ← number_at fields 3 0 99999
+  text ← text_at fields 4 50
+  Ok (said.Item (record { item = i; name = name; price = price; «data» = text }))
+
+-- `S,w,i,quantity,ytd,order_cnt,remote_cnt,data,dist01,..,dist10`
+unfoldable pub stock_fields : Fields → Result ImageRecord Slip
+stock_fields fields = do
+  w ← number_at fields 1 1 100
+  i ← number_at fields 2 1 100000
+  quantity ← signed_at fields 3 9999
+  ytd ← number_at fields 4 0 1000000000
+  orders ← number_at fields 5 0 1000000000
+  remotes ← number_at fields 6 0 1000000000
+  text ← text_at fields 7 50
+  infos ← texts_at fields 8 10 24
+  Ok (said.Stock
+      (record { warehouse = w; item = i; «data» = text; district_infos = infos })
+      (record { quantity = quantity; ytd = ytd; order_count = orders; remote_count = remotes }))
+
+-- `O,w,d,o,c,entry,carrier,ol_cnt,all_local`
+unfoldable pub order_fields : Fields → Result ImageRecord Slip
+order_fields fields = do
+  w ← number_at fields 1 1 100
+  d ← number_at fields 2 1 10
+  o ← number_at fields 3 1 9999998
+  c ← number_at fields 4 1 3000
+  entry ← number_at fields 5 0 999999999999
+  carrier ← number_or_null_at fields 6 1 10
+  lines ← number_at fields 7 1 15
+  local ← number_at fields 8 0 1
+  Ok (said.Order w d o (record {
+    customer = c;
+    entry = entry;
+    carrier = carrier;
+    line_count = lines;
+    all_local = local == 1;
+  }))
+
+-- `N,w,d,o`
+unfoldable pub new_order_fields : Fields → Result ImageRecord Slip
+new_order_fields fields = do
+  w ← number_at fields 1 1 100
+  d ← number_at fields 2 1 10
+  o ← number_at fields 3 1 9999998
+  Ok (said.NewOrder w d o)
+
+-- `L,w,d,o,number,item,supply,delivery,quantity,amount,info`
+unfoldable pub order_line_fields : Fields → Result ImageRecord Slip
+order_line_fields fields = do
+  w ← number_at fields 1 1 100
+  d ← number_at fields 2 1 10
+  o ← number_at fields 3 1 9999998
+  number ← number_at fields 4 1 15
+  i ← number_at fields 5 1 100000
+  supply ← number_at fields 6 1 100
+  delivery ← number_or_null_at fields 7 0 999999999999
+  quantity ← number_at fields 8 0 99
+  amount ← number_at fields 9 0 999999
+  info ← text_at fields 10 24
+  Ok (said.OrderLine w d o number (record {
+    item = i;
+    supply = supply;
+    delivery = delivery;
+    quantity = quantity;
+    amount = amount;
+    district_info = info;
+  }))
+
+-- `H,number,c,cd,cw,d,w,date,amount,data`
+unfoldable pub history_fields : Fields → Result ImageRecord Slip
+history_fields fields = do
+  number ← number_at fields 1 1 LAST_REQUEST
+  c ← number_at fields 2 1 3000
+  cd ← number_at fields 3 1 10
+  cw ← number_at fields 4 1 100
+  d ← number_at fields 5 1 10
+  w ← number_at fields 6 1 100
+  date ← number_at fields 7 0 999999999999
+  amount ← number_at fields 8 0 999999
+  text ← text_at fields 9 24
+  Ok (said.History number (record {
+    customer = c;
+    customer_district = cd;
+    customer_warehouse = cw;
+    district = d;
+    warehouse = w;
+    date = date;
+    amount = amount;
+    «data» = text;
+  }))
+
+-- whether a record is of the kind with this first field, whose records have so many fields
+abbrev pub is_kind : List ℕ → ℕ → Fields → Result Bool Slip
+is_kind kind count fields = if is_text kind (field_at fields 0) then of_count count fields (Ok true) else Ok false
+
+-- what a record says of a row that goes with no card
+abbrev pub row_record_at : Fields → Result ImageRecord Slip
+row_record_at fields =
+    if is_text (codes "O") (field_at fields 0) then of_count 9 fields (order_fields fields)
+    else if is_text (codes "N") (field_at fields 0) then of_count 4 fields (new_order_fields fields)
+    else if is_text (codes "L") (field_at fields 0) then of_count 11 fields (order_line_fields fields)
+    else if is_text (codes "H") (field_at fields 0) then of_count 10 fields (history_fields fields)
+    else Err slip.UnknownKind
+
+-- what a record says: its kind is told by its first field, and each kind has its number of fields
+abbrev pub record_at : Fields → Result ImageRecord Slip
+record_at fields =
+    if is_text (codes "W") (field_at fields 0) then of_count 5 fields (warehouse_fields fields)
+    else if is_text (codes "D") (field_at fields 0) then of_count 7 fields (district_fields fields)
+    else if is_text (codes "C") (field_at fields 0) then of_count 14 fields (customer_fields fields)
+    else if is_text (codes "I") (field_at fields 0) then of_count 5 fields (item_fields fields)
+    else if is_text (codes "S") (field_at fields 0) then of_count 18 fields (stock_fields fields)
+    else row_record_at fields

@@ -1,0 +1,4 @@
+pub mod Faults
+pub mod Columns
+pub mod ImageRecords
+pub mod Databases

@@ -1,0 +1,10 @@
+//! What the records of an image say, and why an image gives no database.
+#![tactic(auto)]
+
+mod columns;
+pub mod fault;
+pub mod image_record;
+pub mod record_fault;
+
+pub use fault::LoadError;
+pub use image_record::ImageRecord;

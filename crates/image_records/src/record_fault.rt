@@ -1,0 +1,37 @@
+//! Why a record isn't taken in.
+ghost use Rattle.std.specs.Prelude.{◌≡◌};
+ghost use Rattle.image_records.specs.declared.record_fault.RecordFault.TheVariants as record_fault;
+
+use records::fault::Slip;
+use std::alloc::{AllocError, AllocFailed};
+
+/// Why a record isn't taken in: what is wrong with it, or that memory was refused.
+#[derive(Clone, Copy)]
+pub enum RecordFault {
+    Slip(Slip),
+    Memory,
+}
+
+impl From<Slip> for RecordFault {
+    ghost from_gives = { λ e fault. fault ≡ record_fault.Slip e };
+
+    fn from(slip: Slip) -> RecordFault {
+        RecordFault::Slip(slip)
+    }
+}
+
+impl From<AllocError> for RecordFault {
+    ghost from_gives = { λ _ fault. fault ≡ record_fault.Memory };
+
+    fn from(_: AllocError) -> RecordFault {
+        RecordFault::Memory
+    }
+}
+
+impl<T: Drop> From<AllocFailed<T>> for RecordFault {
+    ghost from_gives = { λ _ fault. fault ≡ record_fault.Memory };
+
+    fn from(_: AllocFailed<T>) -> RecordFault {
+        RecordFault::Memory
+    }
+}

@@ -1,7 +1,0 @@
-use Rattle.std.proofs.Common.{◌≡◌, map, take}
-use Rattle.tpcc_rows.specs.Limits.{ten}
-use Rattle.loader.specs.Made.{made_info}
-use Rattle.loader.proofs.made_records.made_infos.Given as goal
-
-abbrev pub invariant-loop-district : goal.invariant-loop-district
-invariant-loop-district l = (l.district-items ≡ ten) × (l.infos.items ≡ map made_info (take l.district-index ten))

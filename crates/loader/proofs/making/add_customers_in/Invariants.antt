@@ -1,8 +1,0 @@
-use Rattle.std.proofs.Common.{◌≡◌, ◌-◌}
-use Rattle.catalog.specs.declared.card.CardKey.TheVariants as card_key
-use Rattle.loader.specs.Made.{AreBefore, made_customer, with_each, with_records}
-use Rattle.loader.specs.Tables.{database_of}
-use Rattle.loader.proofs.making.add_customers_in.Given as goal
-
-abbrev pub invariant-loop-d : goal.invariant-loop-d
-invariant-loop-d l = (database_of l.tables ≡ with_each (l.d - 1) (λ d. with_records l.count (made_customer l.warehouse d)) (database_of l.fn.tables)) × AreBefore (card_key.Customer l.warehouse l.d 1) (database_of l.tables)

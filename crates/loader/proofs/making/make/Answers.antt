@@ -1,7 +1,0 @@
-use Rattle.std.proofs.Common.{rules, subst}
-use Rattle.tpcc_model.specs.Soundness.{IsSound}
-use Rattle.loader.proofs.MadeSound.{made-sound}
-use Rattle.loader.proofs.making.make.Goals as goal
-
-pub returns-clause-sound : goal.returns-clause-sound
-returns-clause-sound c = subst IsSound (search rules) (made-sound c.args.warehouses c.args.customers c.args.items c.requires.warehouses.1 c.requires.customers.1 c.requires.items.1)

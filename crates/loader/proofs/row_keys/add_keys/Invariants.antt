@@ -1,7 +1,0 @@
-use Rattle.std.proofs.Common.{drop}
-use Rattle.std.specs.FinMap as map
-use Rattle.loader.proofs.RowKeys.{IsAdding}
-use Rattle.loader.proofs.row_keys.add_keys.Given as goal
-
-abbrev pub invariant-loop-key : goal.invariant-loop-key
-invariant-loop-key l = IsAdding l.fn.keys (map.entries l.page) (drop l.key-index l.key-items) l.keys

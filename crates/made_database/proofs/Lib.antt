@@ -1,0 +1,4 @@
+pub mod MadeTexts
+pub mod MadeSteps
+pub mod MadeLimits
+pub mod MadeSound

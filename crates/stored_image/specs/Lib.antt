@@ -1,0 +1,2 @@
+pub mod StoredRecords
+pub mod StoredImage
