@@ -4,11 +4,11 @@ use crate::timing::{print_ratio, since, start};
 use csv::{ByteRecord, ReaderBuilder, WriterBuilder};
 use loader::load;
 use made_database::make;
-use stored_image::store_image;
 use requests::BytesSource;
 use std::alloc::Global;
 use std::rt::Clock;
 use std::time::Duration;
+use stored_image::store_image;
 
 /// The records of a text.
 fn records_in(alloc: Global, text: &[u8]) -> Option<Vec<ByteRecord>> {

@@ -9,12 +9,12 @@ use executor::Refusal;
 use hashers::Host;
 use image_records::LoadError;
 use made_database::make;
-use stored_image::store_image;
 use requests::{BytesSink, BytesSource, ReadError};
 use runner::{RunFault, check_text, run_text};
 use std::alloc::Global;
 use std::process::ExitCode;
 use std::thread::Threads;
+use stored_image::store_image;
 use tpcc_rows::memory::Memory;
 use workers::{NoGate, Workers};
 

@@ -9,10 +9,10 @@ ghost use Rattle.tpcc_rows.specs.Limits.{IsBetween};
 
 use crate::fault::RunFault;
 use made_database::make;
-use stored_image::store_image;
 use records::io::Sink;
 use records::slurp::push_all;
 use std::alloc::Global;
+use stored_image::store_image;
 use tpcc_rows::memory::Memory;
 
 /// The image of the database that is made of these numbers.

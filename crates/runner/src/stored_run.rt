@@ -14,10 +14,10 @@ use crate::run::run_read;
 use crate::store_fault::{StoreFault, StoredRunFault};
 use executor::Executor;
 use hashers::Host;
-use stored_image::store_image;
 use records::io::{Sink, Source};
 use records::slurp::push_all;
 use std::alloc::Global;
+use stored_image::store_image;
 use tpcc_rows::memory::Memory;
 use workers::{Gate, Workers};
 

@@ -6,11 +6,11 @@ ghost use Rattle.session.specs.AnswerText.{image_answer};
 use crate::answer_text::{commit_text, image_head, refused_text, told_text};
 use commands::{Command, Control};
 use executor::{Executor, Refusal};
-use stored_image::store_image;
 use requests::request::Batch;
 use runner::text::batch_text;
 use std::alloc::Global;
 use std::thread::Threads;
+use stored_image::store_image;
 use tpcc_rows::memory::Memory;
 use workers::{Gate, Workers};
 

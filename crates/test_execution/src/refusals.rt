@@ -4,11 +4,11 @@ use crate::calls::{IN_FLIGHT, are_committed, executed, is_refused};
 use executor::{Executor, Refusal};
 use loader::load;
 use made_database::make;
-use stored_image::store_image;
 use requests::BytesSource;
 use requests::request::Batch;
 use std::alloc::Global;
 use std::thread::Threads;
+use stored_image::store_image;
 
 /// The number after the last that a request can have.
 const PAST_NUMBERS: u64 = 1_000_000_000_000_000;

@@ -7,13 +7,13 @@ ghost use Rattle.std.specs.Prelude.{◌<◌, Some};
 
 use hashers::Host;
 use made_database::make;
-use stored_image::store_image;
 use records::{BytesSink, BytesSource, ReadError};
 use runner::{RunFault, fault_line};
 use session::serve;
 use std::alloc::Global;
 use std::io::Read;
 use std::{io, str};
+use stored_image::store_image;
 use tpcc_rows::memory::Memory;
 use workers::{NoGate, Workers};
 

@@ -8,11 +8,11 @@ ghost use Rattle.std.specs.Prelude.{◌<◌, ◌^◌};
 
 use hashers::Host;
 use made_database::make;
-use stored_image::store_image;
 use records::{BytesSink, BytesSource, FailAt, Sink};
 use runner::{StoredRunFault, run_and_store, stored_fault_line};
 use std::alloc::Global;
 use std::str;
+use stored_image::store_image;
 use tpcc_rows::memory::Memory;
 use workers::{NoGate, Workers};
 

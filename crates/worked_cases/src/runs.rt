@@ -5,11 +5,11 @@ use crate::text::is_line_end;
 use executor::Executor;
 use hashers::Host;
 use loader::load;
-use stored_image::store_image;
 use requests::{BatchReader, BytesSink, BytesSource};
 use runner::{check_text, fault_line, make_text, run_text};
 use std::alloc::Global;
 use std::thread::Threads;
+use stored_image::store_image;
 use tpcc_rows::memory::Memory;
 use workers::{NoGate, Workers};
 
