@@ -3,6 +3,7 @@ use Rattle.std.specs.Prelude.{◌≤◌, codes, Result, Ok, if◌then◌else◌}
 use Rattle.csv.specs.Records.{field_at}
 use Rattle.commands.specs.declared.command.Control.{Control}
 use Rattle.commands.specs.declared.command.Control.TheVariants as control
+use Rattle.commands.specs.declared.command_record.TheConstants.{LAST_SEQUENCE}
 use Rattle.commands.specs.declared.command_record.Opening.{Opening}
 use Rattle.commands.specs.declared.command_record.Opening.TheVariants as opening
 use Rattle.records.specs.Fields.{Fields, ◌>>=◌, is_text, number_at, of_count}
@@ -15,7 +16,7 @@ alone_at fields c = of_count 1 fields (Ok c)
 
 -- `R,sequence`
 abbrev pub rollback_at : Fields → Result Control Slip
-rollback_at fields = of_count 2 fields (number_at fields 1 0 999999999999999 >>= (λ n. Ok (control.RollbackTo n)))
+rollback_at fields = of_count 2 fields (number_at fields 1 0 LAST_SEQUENCE >>= (λ n. Ok (control.RollbackTo n)))
 
 -- `C`, `R,sequence`, `T`, `I`, or the record that begins a batch
 abbrev pub opening_at : Fields → Result Opening Slip

@@ -11,7 +11,7 @@ use Rattle.executor.specs.declared.path.Path.TheVariants as path
 use Rattle.executor.specs.declared.record.Record.{Record}
 use Rattle.executor.specs.declared.refusal.Refusal.{Refusal}
 use Rattle.executor.specs.declared.refusal.Refusal.TheVariants as refusal
-use Rattle.workers.specs.declared.batch_level.TheConstants.{END_OF_NUMBERS}
+use Rattle.tpcc_rows.specs.declared.id.TheConstants.{END_OF_NUMBERS}
 
 -- the number of the batch, or that of one of its requests, would pass its limit
 abbrev pub exhausts : State → Batch → Bool

@@ -1,6 +1,6 @@
 -- The run of a batch in levels. Each request declares what it touches as the batch begins; by that the batch is cut into
 -- levels, and each level is run on the rows that the one before it left.
-use Rattle.std.specs.Prelude.{◌≡◌, ◌<◌, ◌≤◌, ℕ, Bool, List, length, map, Some, slice_get}
+use Rattle.std.specs.Prelude.{◌≡◌, ◌<◌, ◌≤◌, ℕ, Bool, List, length, Some, slice_get}
 use Rattle.std.specs.List.Sorted.{IsStrictlyIncreasing}
 use Rattle.serializability.specs.Footprints.{Footprint, Has}
 use Rattle.serializability.specs.Levels as levels
@@ -16,7 +16,7 @@ use Rattle.requests.specs.declared.request.Request.{Request}
 use Rattle.requests.specs.declared.reply.Reply.{Reply}
 use Rattle.tpcc_model.specs.Machine.{tpcc}
 use Rattle.tpcc_model.specs.Serial.{State}
-use Rattle.tpcc_model.specs.Touches.{touch}
+use Rattle.tpcc_model.specs.Touches.{declared}
 
 -- ---- any footprints
 -- one writes what the other reads or writes, as far as bits tell
@@ -43,7 +43,7 @@ levels_by first requests footprints = levels.batch_levels meets first requests f
 -- ---- those that the requests of a batch declare
 -- what each of them touches as the batch begins
 abbrev pub declared_footprints : Cards → State → Batch → List (Footprint Granule)
-declared_footprints cards state batch = map (touch (database cards state.rows)) batch.requests
+declared_footprints cards state batch = declared (database cards state.rows) batch.requests
 
 abbrev pub declared_levels : Cards → State → Batch → List (List (Job Granule Request))
 declared_levels cards state batch = levels_by state.next batch.requests (declared_footprints cards state batch)

@@ -11,7 +11,7 @@ use Rattle.executor.specs.States.{IsSoundState}
 use Rattle.executor.specs.declared.engine.Engine.{Engine}
 use Rattle.executor.specs.declared.next_batch.TheConstants.{LAST_NUMBER}
 use Rattle.executor.specs.declared.stamp.Stamp.{Stamp}
-use Rattle.workers.specs.declared.batch_level.TheConstants.{END_OF_NUMBERS}
+use Rattle.tpcc_rows.specs.declared.id.TheConstants.{END_OF_NUMBERS}
 
 -- the cards; the last committed state and those after it, the oldest first, without the present one; the present state
 pub record Line : Type 0 where

@@ -12,7 +12,7 @@ use Rattle.requests.specs.declared.request.Request.{Request}
 use Rattle.tpcc_model.specs.Serial.{State, after_batch}
 use Rattle.tpcc_model.specs.Soundness.{IsSound}
 use Rattle.transactions.specs.Requests.{IsRequest}
-use Rattle.workers.specs.declared.batch_level.TheConstants.{END_OF_NUMBERS}
+use Rattle.tpcc_rows.specs.declared.id.TheConstants.{END_OF_NUMBERS}
 
 -- each row of HISTORY has a number below this one
 abbrev pub HasHistoryBelow : Rows → ℕ → Type 0

@@ -24,9 +24,10 @@ use rollback::{POINTS, PointedStore};
 use std::alloc::Global;
 use std::thread::Threads;
 use token::{TokenParts, reply_digest};
+use tpcc_rows::id::END_OF_NUMBERS;
 use tpcc_rows::memory::Memory;
 use transactions::ExecError;
-use workers::{END_OF_NUMBERS, Gate, Workers};
+use workers::{Gate, Workers};
 
 /// The present rows become the newest point, for which there is a place.
 fn mark(store: &mut PointedStore)

@@ -28,8 +28,9 @@ use std::alloc::Global;
 use std::marker::Model;
 use std::thread::Threads;
 use token::{TokenParts, reply_digest};
+use tpcc_rows::id::END_OF_NUMBERS;
 use tpcc_rows::memory::Memory;
-use workers::{END_OF_NUMBERS, Gate, NoGate, Workers};
+use workers::{Gate, NoGate, Workers};
 
 /// A database between two batches, and the states before its uncommitted ones. A batch is uncommitted from its execution
 /// until it is committed.

@@ -2,7 +2,7 @@
 ghost use Rattle.std.specs.Prelude.{◌≡◌, ◌+◌, ◌<◌, ◌≤◌, All, length};
 ghost use Rattle.std.specs.List.Sorted.{IsStrictlyIncreasing};
 ghost use Rattle.executor.specs.declared.next_batch.TheConstants.{MOST_REQUESTS};
-ghost use Rattle.workers.specs.declared.batch_level.TheConstants.{END_OF_NUMBERS};
+ghost use Rattle.tpcc_rows.specs.declared.id.TheConstants.{END_OF_NUMBERS};
 
 use requests::request::Batch;
 use tpcc_rows::footprint::Footprint;

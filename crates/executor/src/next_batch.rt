@@ -1,7 +1,7 @@
 //! A batch that is to be executed next.
 ghost use Rattle.std.specs.Prelude.{◌+◌, ◌<◌, ◌≤◌, length};
 ghost use Rattle.executor.specs.declared.next_batch.TheConstants.{LAST_NUMBER, MOST_REQUESTS};
-ghost use Rattle.workers.specs.declared.batch_level.TheConstants.{END_OF_NUMBERS};
+ghost use Rattle.tpcc_rows.specs.declared.id.TheConstants.{END_OF_NUMBERS};
 ghost use Rattle.executor.specs.States.{AreWithinLimits};
 
 use crate::limits::requests_within;

@@ -8,8 +8,8 @@ use crate::next_batch::LAST_NUMBER;
 use leaf_rows::LeafRows;
 use rollback::PointedStore;
 use tpcc_rows::codes::LEAVES;
+use tpcc_rows::id::END_OF_NUMBERS;
 use tpcc_rows::key::RowKey;
-use workers::END_OF_NUMBERS;
 
 /// The greatest number of HISTORY on a page, 0 where there is none.
 #[tactic(auto, unfolding(tpcc_rows::specs::Picks::picked))]

@@ -27,10 +27,10 @@ use std::alloc::Global;
 use std::thread::Threads;
 use tpcc_rows::delta::Delta;
 use tpcc_rows::footprint::Footprint;
-use tpcc_rows::id::RequestNumber;
+use tpcc_rows::id::{END_OF_NUMBERS, RequestNumber};
 use tpcc_rows::memory::Memory;
 use transactions::ExecError;
-use workers::{END_OF_NUMBERS, Gate, LevelEnd, PlaceOutcome, run_level};
+use workers::{Gate, LevelEnd, PlaceOutcome, run_level};
 
 /// Files the replies of a level of a batch, whose first request has this number. The changes are left, in their order.
 fn file_replies(

@@ -10,7 +10,7 @@ use Rattle.catalog.specs.declared.card.CardKey.TheVariants as card_key
 use Rattle.records.specs.Fields.{IsWithin}
 use Rattle.tpcc_model.specs.Conditions.{district_share}
 use Rattle.tpcc_model.specs.Database.{Database}
-use Rattle.tpcc_rows.specs.Limits.{ten}
+use Rattle.tpcc_rows.specs.Limits.{most_cents, ten}
 use Rattle.tpcc_rows.specs.RowMap.{Rows}
 use Rattle.tpcc_rows.specs.Rows.{order_row}
 use Rattle.tpcc_rows.specs.Totals.{sum_entries, total}
@@ -90,7 +90,7 @@ IsShare k x share = (w : ℕ) → district_share w k x ≡ (if share.0 == w then
 
 -- each is within so many times the greatest amount
 abbrev pub AreWithin : ℕ → List ℤ → Type 0
-AreWithin n sums = (w : ℕ) → w < 101 → IsWithin (n * 1000000000000000) (sum_at sums w)
+AreWithin n sums = (w : ℕ) → w < 101 → IsWithin (n * most_cents) (sum_at sums w)
 
 abbrev pub AreSums : List ℤ → Rows → Type 0
 AreSums sums rows = (w : ℕ) → w < 101 → sum_at sums w ≡ total (district_share w) rows

@@ -4,6 +4,7 @@ use Rattle.csv.specs.Records.{field_at}
 use Rattle.records.specs.Fields.{Fields, ◌>>=◌, is_text, number_at, number_or_null_at, of_count, signed_at, text_at}
 use Rattle.records.specs.declared.fault.Slip.{Slip}
 use Rattle.records.specs.declared.fault.Slip.TheVariants as slip
+use Rattle.tpcc_rows.specs.Limits.{most_cents}
 use Rattle.tpcc_rows.specs.declared.id.TheConstants.{LAST_REQUEST}
 use Rattle.image_records.specs.Columns.{credit_of, texts_at}
 use Rattle.image_records.specs.declared.image_record.ImageRecord.{ImageRecord}
@@ -15,7 +16,7 @@ warehouse_fields fields = do
   w ← number_at fields 1 1 100
   name ← text_at fields 2 10
   tax ← number_at fields 3 0 9999
-  ytd ← signed_at fields 4 1000000000000000
+  ytd ← signed_at fields 4 most_cents
   Ok (said.Warehouse (record { warehouse = w; name = name; tax = tax }) (record { ytd = ytd }))
 
 -- `D,w,d,name,tax,ytd,next`
@@ -25,7 +26,7 @@ district_fields fields = do
   d ← number_at fields 2 1 10
   name ← text_at fields 3 10
   tax ← number_at fields 4 0 9999
-  ytd ← signed_at fields 5 1000000000000000
+  ytd ← signed_at fields 5 most_cents
   next ← number_at fields 6 1 9999999
   Ok (said.District
       (record { warehouse = w; district = d; name = name; tax = tax }) (record { ytd = ytd; next_order = next }))
@@ -41,8 +42,8 @@ customer_fields fields = do
   first ← text_at fields 6 16
   credit ← credit_of (field_at fields 7)
   discount ← number_at fields 8 0 9999
-  balance ← signed_at fields 9 1000000000000000
-  ytd_payment ← signed_at fields 10 1000000000000000
+  balance ← signed_at fields 9 most_cents
+  ytd_payment ← signed_at fields 10 most_cents
   payments ← number_at fields 11 0 1000000000
   deliveries ← number_at fields 12 0 1000000000
   text ← text_at fields 13 500

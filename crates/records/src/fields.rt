@@ -3,6 +3,7 @@ ghost use Rattle.std.specs.Prelude.{◌≡◌, ◌<◌, ◌≤◌, ◌^◌, IfOk
 ghost use Rattle.std.specs.Char.{is_ascii_digit};
 ghost use Rattle.std.specs.List.{list_all};
 ghost use Rattle.csv.specs.Records.{field_at, fields_of};
+ghost use Rattle.tpcc_rows.specs.Limits.{most_cents};
 ghost use Rattle.tpcc_rows.specs.declared.id.TheConstants.{LAST_REQUEST};
 ghost use Rattle.records.specs.Fields.{IsWithin, below_zero, is_numeral, is_text, number_at, number_in, number_or_null_at, signed_at, signed_in, text_at};
 
@@ -175,9 +176,9 @@ pub fn rate(fields: &ByteRecord, i: usize) -> Result<Rate, Slip>
 
 /// W_YTD, D_YTD, C_BALANCE or C_YTD_PAYMENT.
 pub fn cents(fields: &ByteRecord, i: usize) -> Result<Cents, Slip>
-    ensures { result ≡ signed_at (fields_of fields.now) i 1000000000000000 }
+    ensures { result ≡ signed_at (fields_of fields.now) i most_cents }
 {
-    let amount = signed_at(fields, i, 1_000_000_000_000_000)?;
+    let amount = signed_at(fields, i, Cents::LIMIT as u64)?;
     Cents::new(amount).ok_or(Slip::OutOfRange)
 }
 

@@ -18,7 +18,7 @@ use Rattle.runner.specs.Runs.{Completes, NumbersFit}
 use Rattle.runner.specs.Text.{batch_record_text, batch_text, completed_text, replies_text}
 use Rattle.tpcc_model.specs.Serial.{State}
 use Rattle.tpcc_model.specs.Steps.{steps_at}
-use Rattle.workers.specs.declared.batch_level.TheConstants.{END_OF_NUMBERS}
+use Rattle.tpcc_rows.specs.declared.id.TheConstants.{END_OF_NUMBERS}
 
 -- ---- admitted
 -- where none of three reasons holds, the second doesn't

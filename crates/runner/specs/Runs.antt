@@ -16,7 +16,7 @@ use Rattle.runner.specs.Text.{batch_text, text}
 use Rattle.runner.specs.declared.fault.RunFault.{RunFault}
 use Rattle.runner.specs.declared.fault.RunFault.TheVariants as run_fault
 use Rattle.tpcc_model.specs.Serial.{State, after_batch, serial}
-use Rattle.workers.specs.declared.batch_level.TheConstants.{END_OF_NUMBERS}
+use Rattle.tpcc_rows.specs.declared.id.TheConstants.{END_OF_NUMBERS}
 
 -- the bytes that a sink took, where they are known
 abbrev pub Taken : Type 0

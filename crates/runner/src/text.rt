@@ -13,9 +13,8 @@ use records::record_writer::{record_writer, write_record, written_text};
 use requests::reply::Reply;
 use requests::reply_text::reply_record;
 use std::alloc::Global;
-use tpcc_rows::id::RequestNumber;
+use tpcc_rows::id::{END_OF_NUMBERS, RequestNumber};
 use tpcc_rows::memory::Memory;
-use workers::END_OF_NUMBERS;
 
 /// Writes the records of replies, the first with this number.
 fn write_replies(

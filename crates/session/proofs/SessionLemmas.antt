@@ -19,7 +19,7 @@ use Rattle.runner.specs.declared.fault.RunFault.{RunFault}
 use Rattle.runner.specs.declared.fault.RunFault.TheVariants as run_fault
 use Rattle.session.specs.Answers.{Answers, AnswersAll, AnswersBatch}
 use Rattle.session.specs.Sessions.{LeavesAnswer, LeavesSession, Served}
-use Rattle.tpcc_rows.specs.declared.memory.Memory.{Memory}
+use Rattle.memory_refusal.specs.declared.Memory.{Memory}
 
 -- ---- commands given
 -- these were given of all, and the others are left

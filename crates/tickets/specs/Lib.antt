@@ -4,3 +4,4 @@ pub mod Playing
 pub mod Entries
 pub mod Rule
 pub mod Seats
+pub mod Crews

@@ -7,8 +7,8 @@ use crate::rule::{Deals, Draws, Looks, Raises, ShowsWorld};
 use crate::seat::Seat;
 use crate::size::Size;
 use atomic_table::Table;
+use memory_refusal::Memory;
 use std::alloc::Global;
-use tpcc_rows::memory::Memory;
 
 /// The word that counts tickets.
 const TICKET: usize = 0;

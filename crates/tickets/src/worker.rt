@@ -3,8 +3,8 @@ ghost use Rattle.std.specs.Prelude.{◌≡◌, ◌<◌, IfOk, length, vec_capaci
 ghost use Rattle.tickets.specs.Playing.{HasRoom, KeepsRoom, worker_of};
 ghost use Rattle.tickets.specs.World.{finishing, fresh, raising, stopping, taking};
 
+use memory_refusal::Memory;
 use std::alloc::Global;
-use tpcc_rows::memory::Memory;
 
 /// What one worker has. All memory is taken when it is made.
 #[derive(Drop)]

@@ -1,6 +1,6 @@
 //! How many workers there are.
 ghost use Rattle.std.specs.Prelude.{◌≡◌};
-ghost use Rattle.tpcc_rows.specs.Limits.{IsBetween, between};
+ghost use Rattle.tickets.specs.Crews.{IsCrew, crew_of};
 
 use crate::size::MOST_WORKERS;
 use std::marker::Model;
@@ -13,14 +13,13 @@ pub struct Workers {
 
 impl Model for Workers {
     ghost use Rattle.std.specs.Prelude.{ℕ};
-    ghost use Rattle.tickets.specs.declared.size.TheConstants.{MOST_WORKERS};
-    ghost use Rattle.tpcc_rows.specs.Limits.{IsBetween};
+    ghost use Rattle.tickets.specs.Crews.{IsCrew};
 
     ghost Value = { ℕ };
 
     ghost view = { λ x. x.count };
 
-    ghost invariant = { λ x. IsBetween 1 MOST_WORKERS x.count };
+    ghost invariant = { λ x. IsCrew x.count };
 
     ghost inverse = { λ n. record { count = n } };
 }
@@ -28,7 +27,7 @@ impl Model for Workers {
 impl Workers {
     /// None outside the limits.
     pub fn new(count: usize) -> Option<Workers>
-        ensures { result ≡ between 1 MOST_WORKERS count }
+        ensures { result ≡ crew_of count }
     {
         if 1 <= count && count <= MOST_WORKERS {
             Some(Workers { count })
@@ -39,7 +38,7 @@ impl Workers {
 
     pub fn count(self) -> usize
         ensures value { result ≡ self }
-        ensures range { IsBetween 1 MOST_WORKERS result }
+        ensures range { IsCrew result }
     {
         self.count
     }

@@ -7,9 +7,9 @@ ghost use Rattle.tickets.specs.declared.event.Event.TheVariants.{Draw, Finish, L
 
 use crate::event::Event;
 use crate::worker::Worker;
+use memory_refusal::Memory;
 use std::alloc::Global;
 use std::marker::Model;
-use tpcc_rows::memory::Memory;
 
 /// The places of a level, and what its workers have. All memory is taken when it is made.
 #[derive(Drop)]

@@ -10,7 +10,6 @@ mod level;
 mod part;
 mod placed_request;
 
-pub use batch_level::END_OF_NUMBERS;
 pub use gate::{Gate, NoGate};
 pub use level::{LevelEnd, run_level};
 pub use part::{Outcome, run_seat};

@@ -1,7 +1,7 @@
 use Rattle.std.proofs.Common.{rules, ◌≡◌, ◌+◌, ◌<◌, ◌≤◌, List, [], ◌∷◌, ℕ, IsOk, map, subst, arith}
 use Rattle.gather.specs.Books.{with_reply}
 use Rattle.requests.specs.declared.reply.Reply.{Reply}
-use Rattle.workers.specs.declared.batch_level.TheConstants.{END_OF_NUMBERS}
+use Rattle.tpcc_rows.specs.declared.id.TheConstants.{END_OF_NUMBERS}
 use Rattle.workers.specs.declared.placed_request.PlaceOutcome.{PlaceOutcome}
 use Rattle.executor.specs.Filing.{Awaits, FilesEach}
 use Rattle.executor.proofs.Filing.{FilesRest, all_behind, awaited_behind, file_one, files_more, first_awaited, is_ok_where_awaited, kept_more, not_filed, rising_behind, where_ok}

@@ -1,6 +1,6 @@
 use Rattle.std.proofs.Common.{◌≡◌, ◌+◌, ◌++◌, ◌<◌, map}
 use Rattle.std.specs.List.{All, AllPairs}
-use Rattle.workers.specs.declared.batch_level.TheConstants.{END_OF_NUMBERS}
+use Rattle.tpcc_rows.specs.declared.id.TheConstants.{END_OF_NUMBERS}
 use Rattle.executor.specs.Filing.{Awaits}
 use Rattle.executor.proofs.Filing.{FilesRest}
 use Rattle.executor.proofs.parallel.file_replies.Given as goal
