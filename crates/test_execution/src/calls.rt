@@ -1,88 +1,90 @@
-//! Calls of an executor, and what they answer.
+//! Calls of an executor, and what their records say.
 use executor::{Executor, Record, Refusal};
 use requests::request::Batch;
 use requests::write_reply;
 use std::alloc::Global;
 use std::thread::Threads;
 use tpcc_rows::id::RequestNumber;
-use workers::{NoGate, Workers};
+use tpcc_rows::key::RowKey;
+use workers::{Gate, NoGate, Workers};
 
-/// The most batches that may be uncommitted.
-pub const IN_FLIGHT: u64 = 8;
-
-/// Executes a batch on two workers.
-pub fn execute<R: Threads + Sync>(
+/// Executes a batch on so many workers, or one request after the other where there is none.
+pub fn execute<R: Threads + Sync, G: Gate>(
     rt: &R,
     alloc: Global,
     executor: &mut Executor,
     batch: &Batch,
-) -> Option<Record> {
-    let workers = Workers::new(2)?;
-    executor.execute(rt, alloc, batch, workers, &NoGate).ok()
-}
-
-/// The numbers of the batch and of its first request, where it is executed.
-pub fn executed<R: Threads + Sync>(
-    rt: &R,
-    alloc: Global,
-    executor: &mut Executor,
-    batch: &Batch,
-) -> Option<(u64, u64)> {
-    let record = execute(rt, alloc, executor, batch)?;
-    Some((record.sequence, record.first))
-}
-
-/// Executes a batch as often as batches may be uncommitted.
-pub fn execute_all<R: Threads + Sync>(
-    rt: &R,
-    alloc: Global,
-    executor: &mut Executor,
-    batch: &Batch,
-) -> Option<Vec<Record>> {
-    let mut records = Vec::new(alloc);
-    for _ in 0..IN_FLIGHT {
-        records.push(execute(rt, alloc, executor, batch)?).ok()?;
+    count: usize,
+    gate: &G,
+) -> Result<Record, Refusal> {
+    match Workers::new(count) {
+        Some(workers) => executor.execute(rt, alloc, batch, workers, gate),
+        None => executor.execute_sequential(rt, alloc, batch),
     }
-    Some(records)
 }
 
-/// Whether the batch is refused for this, on workers and without them.
-pub fn is_refused<R: Threads + Sync>(
+/// How many batches of a run on two workers are executed, and why the next one isn't.
+pub fn run<R: Threads + Sync>(
     rt: &R,
     alloc: Global,
     executor: &mut Executor,
-    batch: &Batch,
-    refusal: Refusal,
-) -> Option<bool> {
+    batches: &[Batch],
+) -> Option<(usize, Option<Refusal>)> {
     let workers = Workers::new(2)?;
-    let on_workers = executor.execute(rt, alloc, batch, workers, &NoGate).err()?;
-    let alone = executor.execute_sequential(rt, alloc, batch).err()?;
-    Some(on_workers == refusal && alone == refusal)
+    let end = executor.run(rt, alloc, batches, workers, &NoGate);
+    Some((end.records.len(), end.stop))
 }
 
-/// Whether the batches of these numbers are the next that are committed, and then none is left.
-pub fn are_committed(executor: &mut Executor, first: u64, last: u64) -> bool {
-    let mut all = true;
-    for sequence in first..=last {
-        all = executor.commit() == Ok(sequence) && all;
-    }
-    all && executor.commit() == Err(Refusal::NoSuchPoint)
-}
-
-/// The text of a record's replies, but for so many that come first.
-pub fn text_of(alloc: Global, record: &Record, skipped: usize) -> Option<Vec<u8>> {
-    let mut text = Vec::new(alloc);
-    for (place, reply) in record.replies.as_slice().iter().enumerate() {
+/// Appends the text of a record's replies, but for so many that come first.
+fn push_replies(alloc: Global, record: &Record, skipped: u64, text: &mut Vec<u8>) -> Option<()> {
+    let mut place = 0u64;
+    for reply in &record.replies {
         if place >= skipped {
-            let number = RequestNumber::new(record.first.saturating_add(place as u64))?;
-            write_reply(alloc, number, reply, &mut text).ok()?;
+            let number = RequestNumber::new(record.first.saturating_add(place))?;
+            write_reply(alloc, number, reply, text).ok()?;
         }
+        place = place.saturating_add(1);
     }
-    Some(text)
+    Some(())
+}
+
+/// Whether a text is the wanted one, in which `;` stands for a line end.
+fn is_text(text: &[u8], wanted: &[u8]) -> bool {
+    let mut all = text.len() == wanted.len();
+    for (byte, other) in text.iter().zip(wanted) {
+        all = all && (byte == other || (*byte == b'\n' && *other == b';'));
+    }
+    all
 }
 
 /// Whether a record's replies, but for so many that come first, have this text.
-pub fn says(alloc: Global, record: &Record, skipped: usize, wanted: &str) -> Option<bool> {
-    let text = text_of(alloc, record, skipped)?;
-    Some(text.as_slice() == wanted.as_bytes())
+pub fn says(alloc: Global, record: &Record, skipped: u64, wanted: &str) -> Option<bool> {
+    let mut text = Vec::new(alloc);
+    push_replies(alloc, record, skipped, &mut text)?;
+    Some(is_text(&text, wanted.as_bytes()))
+}
+
+/// Whether two records say the same.
+pub fn are_same(alloc: Global, record: &Record, other: &Record) -> Option<bool> {
+    let mut text = Vec::new(alloc);
+    let mut other_text = Vec::new(alloc);
+    push_replies(alloc, record, 0, &mut text)?;
+    push_replies(alloc, other, 0, &mut other_text)?;
+    Some(
+        (record.sequence, record.first) == (other.sequence, other.first)
+            && text == other_text
+            && record.token == other.token
+            && record.path == other.path,
+    )
+}
+
+/// Whether of the requests 1 to 8 those up to this number, and no others, have a row of the history.
+pub fn has_paid_up_to(executor: &Executor, last: u64) -> Option<bool> {
+    let mut all = true;
+    for paid in 1..9u64 {
+        let number = RequestNumber::new(paid)?;
+        let has_row = executor.store().get(&RowKey::History { number }).is_some();
+        all = has_row == (paid <= last) && all;
+    }
+    Some(all)
 }

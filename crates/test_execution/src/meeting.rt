@@ -1,5 +1,5 @@
 //! Two requests of a level are executed at the same time.
-use crate::batches::{TEN_ORDERS, batch_of, opened};
+use crate::calls::execute;
 use executor::Executor;
 use executor::path::Path;
 use requests::request::Batch;
@@ -7,7 +7,7 @@ use std::alloc::Global;
 use std::hint::spin_loop;
 use std::sync::atomic::{AtomicBool, Ordering};
 use std::thread::Threads;
-use workers::{Gate, Workers};
+use workers::Gate;
 
 /// The most turns that a place is held.
 const TURNS: u64 = 50_000_000;
@@ -55,23 +55,15 @@ impl MeetingGate {
 
 /// Whether the batch of which places 0 and 1 meet on two workers is executed in parallel; None where they don't meet, as where the
 /// memory of a second thread is refused.
-fn meets<R: Threads + Sync>(
+pub fn meets<R: Threads + Sync>(
     rt: &R,
     alloc: Global,
     executor: &mut Executor,
     batch: &Batch,
-    gate: &MeetingGate,
 ) -> Option<bool> {
-    let workers = Workers::new(2)?;
-    let record = executor.execute(rt, alloc, batch, workers, gate).ok()?;
-    if !gate.has_met() {
-        return None;
+    let gate = MeetingGate::new();
+    match execute(rt, alloc, executor, batch, 2, &gate) {
+        Ok(record) if gate.has_met() => Some(record.path == Path::Parallel),
+        _ => None,
     }
-    Some(record.path == Path::Parallel)
-}
-
-pub fn two_at_once<R: Threads + Sync>(rt: &R, alloc: Global) -> Option<bool> {
-    let batch = batch_of(alloc, TEN_ORDERS)?;
-    let mut executor = opened(rt, alloc)?;
-    meets(rt, alloc, &mut executor, &batch, &MeetingGate::new())
 }
