@@ -1,11 +1,13 @@
 #!/usr/bin/env python3
-"""refused.py PROGRAM WANTED [FIRST [LAST]]: runs a built program with each of its growths refused in turn.
+"""refused.py PROGRAM WANTED [FIRST [LAST]] [-- WORD ..]: runs a built program with each of its growths refused in turn.
 
 PROGRAM is what `rt run` built, as crates/test_execution/out/test_execution, and WANTED the text that it prints with ample memory,
 as crates/test_execution/stdout. A growth is a call of malloc, calloc or realloc; FIRST and LAST are the numbers of the first and of
-the last one to be refused, without which all are. With one growth refused the program must end with status 0 and the whole text,
-where it does without the growth, or with status 1 and some lines of the text in their order; and it says nothing on standard error.
-The library that refuses is compiled by `cc` (Linux with glibc alone). Ends with status 1 where any run does anything else."""
+the last one to be refused, without which all are. The program is run with the WORDs; where there are any, what it prints with
+ample memory is a part of WANTED, lines that stand there one behind the other. With one growth refused it must end with status 0
+and the whole of that text, where it does without the growth, or with status 1 and some lines of the text in their order; and it says
+nothing on standard error. The library that refuses is compiled by `cc` (Linux with glibc alone). Ends with status 1 where any run
+does anything else."""
 import os
 import subprocess
 import sys
@@ -85,13 +87,20 @@ def kind_of(ended, wanted):
     return 'wrong'
 
 
-def main(program, wanted, first=1, last=None):
+def stands_in(part, whole):
+    """Whether the part is some lines of the whole, one behind the other."""
+    return part.endswith(b'\n') and b'\n' + part in b'\n' + whole
+
+
+def main(program, wanted, first=1, last=None, words=()):
     with open(wanted, 'rb') as file:
         wanted = file.read()
     counts = {'whole': 0, 'refused': 0, 'wrong': 0}
     with tempfile.TemporaryDirectory() as folder:
-        tried = Tried([program], folder)
+        tried = Tried([program, *words], folder)
         ended, growths = tried.run(0)
+        if words and stands_in(ended.stdout, wanted):
+            wanted = ended.stdout
         if kind_of(ended, wanted) != 'whole':
             sys.exit('with ample memory the program prints something else')
         last = growths if last is None else last
@@ -109,4 +118,5 @@ def main(program, wanted, first=1, last=None):
 
 
 if __name__ == '__main__':
-    sys.exit(0 if main(*sys.argv[1:3], *map(int, sys.argv[3:5])) else 1)
+    split = sys.argv.index('--') if '--' in sys.argv else len(sys.argv)
+    sys.exit(0 if main(*sys.argv[1:3], *map(int, sys.argv[3:split][:2]), words=sys.argv[split + 1:]) else 1)

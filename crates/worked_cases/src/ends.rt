@@ -1,18 +1,25 @@
-//! Ends that fail: in runs, and by themselves.
-ghost use Rattle.std.specs.Prelude.{◌<◌, ◌^◌};
-
-use crate::faults::answer_of;
+//! Runs and checks in which each call of an end fails in turn.
+use crate::faults::put_answer;
+use crate::runs::{End, Given, Outcome, check, run};
+use crate::text::Text;
 use hashers::Host;
-use requests::{BytesSink, BytesSource, FailAt, Sink, Source};
-use runner::{RunFault, check_text, run_text};
-use std::alloc::Global;
-use tpcc_rows::memory::Memory;
-use workers::{NoGate, Workers};
 
 /// More calls than any end of a case has.
 const MOST_CALLS: u64 = 100;
 
-/// Whether what a sink took is the whole text.
+/// Ends of a run, and of a check.
+const OF_RUNS: [(&str, End); 3] = [
+    ("image", End::Image),
+    ("batches", End::Batches),
+    ("sink", End::Text),
+];
+
+const OF_CHECKS: [(&str, End); 2] = [
+    ("checked image", End::Image),
+    ("sink of a check", End::Text),
+];
+
+/// What a sink took of the whole text.
 fn part_of(taken: &[u8], whole: &[u8]) -> &'static str {
     if taken == whole {
         "the whole text"
@@ -23,199 +30,76 @@ fn part_of(taken: &[u8], whole: &[u8]) -> &'static str {
     }
 }
 
-/// What is run or checked, and the text that it writes where no call fails. A call of an end moves so many bytes at most.
-#[derive(Clone, Copy)]
-pub struct Case<'a> {
-    pub image: &'a [u8],
-    pub batches: &'a [u8],
-    pub whole: &'a [u8],
-    pub step: usize,
-    pub ghost moves: { 0 < step },
-}
-
-/// What came where a call of an end failed: how many failed from then on, the fault, and what the sink took.
-#[derive(Drop)]
-struct Failing<'a> {
-    end: &'static str,
-    call: u64,
-    failures: u64,
-    fault: Option<RunFault>,
-    taken: &'a [u8],
-}
-
 /// Shows what came where a call failed, and how much of the whole text the sink took.
-fn show(
-    alloc: Global,
-    out: &mut Vec<u8>,
-    failing: Failing<'_>,
-    whole: &[u8],
-) -> Result<(), Memory> {
-    let Failing {
-        end,
-        call,
-        failures,
-        fault,
-        taken,
-    } = failing;
-    let answer = answer_of(alloc, fault)?;
-    let head = format!(in alloc; "{end}, call {call}: {failures} failed, ")?;
-    out.extend_from_slice(head.as_bytes())?;
-    out.extend_from_slice(answer.as_slice())?;
-    let (count, part) = (taken.len(), part_of(taken, whole));
-    let tail = format!(in alloc; ", {count} bytes, {part}\n")?;
-    out.extend_from_slice(tail.as_bytes())?;
-    Ok(())
+fn show_failed(out: &mut Text, call: u64, outcome: &Outcome, whole: &[u8]) {
+    out.number(", call ", call as usize);
+    out.number(": ", outcome.failures as usize);
+    out.put(b" failed, ");
+    put_answer(out, outcome.fault);
+    out.number(", ", outcome.text.len());
+    out.put(b" bytes, ");
+    out.line(part_of(outcome.text.as_slice(), whole));
 }
 
-/// The fault of a run between these ends.
-fn run_between<R: Host + AllocGlobal, I: Source, B: Source, S: Sink>(
-    rt: &R,
-    image: &mut I,
-    batches: &mut B,
-    sink: &mut S,
-) -> Option<RunFault>
-    requires image { I.failed image.old < 2 ^ 63 }
-    requires batches { B.failed batches.old < 2 ^ 63 }
-    requires sink { S.failed sink.old < 2 ^ 63 }
-{
-    let workers = Workers::new(2)?;
-    run_text(rt, rt.alloc(), image, batches, sink, workers, &NoGate).err()
+/// A run or a check, and the text that is written where no call fails.
+#[derive(Clone, Copy)]
+struct Case<'a> {
+    given: &'a Given<'a>,
+    is_check: bool,
+    whole: &'a [u8],
 }
 
-/// Shows what comes where each call of the image fails in turn.
-pub fn fail_image<R: Host + AllocGlobal>(
-    rt: &R,
-    out: &mut Vec<u8>,
-    case: &Case<'_>,
-) -> Result<(), Memory> {
+fn tried<R: Host + AllocGlobal>(rt: &R, given: &Given<'_>, is_check: bool) -> Outcome {
+    if is_check {
+        check(rt, given)
+    } else {
+        run(rt, given)
+    }
+}
+
+/// Shows what comes where each call of an end fails in turn, the flush too.
+fn fail_end<R: Host + AllocGlobal>(rt: &R, out: &mut Text, case: &Case<'_>, name: &str, end: End) {
     for call in 0..MOST_CALLS {
-        let mut image = FailAt::new(BytesSource::new(case.image, case.step), call);
-        let mut batches = BytesSource::new(case.batches, case.step);
-        let mut sink = BytesSink::new(rt.alloc(), case.step);
-        let fault = run_between(rt, &mut image, &mut batches, &mut sink);
-        let failures = image.failures();
-        let taken = sink.bytes.as_slice();
-        let failing = Failing {
-            end: "image",
+        let given = Given {
+            end,
             call,
-            failures,
-            fault,
-            taken,
+            ..*case.given
         };
-        show(rt.alloc(), out, failing, case.whole)?;
-        if failures == 0 {
+        let outcome = tried(rt, &given, case.is_check);
+        out.put(name.as_bytes());
+        show_failed(out, call, &outcome, case.whole);
+        if outcome.failures == 0 {
             break;
         }
     }
-    Ok(())
 }
 
-/// Shows what comes where each call of the batches fails in turn.
-pub fn fail_batches<R: Host + AllocGlobal>(
-    rt: &R,
-    out: &mut Vec<u8>,
-    case: &Case<'_>,
-) -> Result<(), Memory> {
-    for call in 0..MOST_CALLS {
-        let mut image = BytesSource::new(case.image, case.step);
-        let mut batches = FailAt::new(BytesSource::new(case.batches, case.step), call);
-        let mut sink = BytesSink::new(rt.alloc(), case.step);
-        let fault = run_between(rt, &mut image, &mut batches, &mut sink);
-        let failures = batches.failures();
-        let taken = sink.bytes.as_slice();
-        let failing = Failing {
-            end: "batches",
-            call,
-            failures,
-            fault,
-            taken,
-        };
-        show(rt.alloc(), out, failing, case.whole)?;
-        if failures == 0 {
-            break;
-        }
+fn fail_ends<R: Host + AllocGlobal>(rt: &R, out: &mut Text, case: &Case<'_>, ends: &[(&str, End)]) {
+    for &(name, end) in ends {
+        fail_end(rt, out, case, name, end);
     }
-    Ok(())
 }
 
-/// Shows what comes where each call of the sink fails in turn, the flush too.
-pub fn fail_sink<R: Host + AllocGlobal>(
+/// Shows what comes of a run, or of a check, where each call of each of these ends fails in turn.
+fn show_case<R: Host + AllocGlobal>(
     rt: &R,
-    out: &mut Vec<u8>,
-    case: &Case<'_>,
-) -> Result<(), Memory> {
-    for call in 0..MOST_CALLS {
-        let mut image = BytesSource::new(case.image, case.step);
-        let mut batches = BytesSource::new(case.batches, case.step);
-        let mut sink = FailAt::new(BytesSink::new(rt.alloc(), case.step), call);
-        let fault = run_between(rt, &mut image, &mut batches, &mut sink);
-        let failures = sink.failures();
-        let taken = sink.inner.bytes.as_slice();
-        let failing = Failing {
-            end: "sink",
-            call,
-            failures,
-            fault,
-            taken,
-        };
-        show(rt.alloc(), out, failing, case.whole)?;
-        if failures == 0 {
-            break;
-        }
-    }
-    Ok(())
+    out: &mut Text,
+    given: &Given<'_>,
+    is_check: bool,
+    ends: &[(&str, End)],
+) {
+    let outcome = tried(rt, given, is_check);
+    let whole = outcome.text.as_slice();
+    let case = Case {
+        given,
+        is_check,
+        whole,
+    };
+    fail_ends(rt, out, &case, ends);
 }
 
-/// Shows what comes of a check where each call of the image fails in turn.
-pub fn fail_checked_image<R: Host + AllocGlobal>(
-    rt: &R,
-    out: &mut Vec<u8>,
-    case: &Case<'_>,
-) -> Result<(), Memory> {
-    for call in 0..MOST_CALLS {
-        let mut image = FailAt::new(BytesSource::new(case.image, case.step), call);
-        let mut sink = BytesSink::new(rt.alloc(), case.step);
-        let fault = check_text(rt, rt.alloc(), &mut image, &mut sink).err();
-        let failures = image.failures();
-        let taken = sink.bytes.as_slice();
-        let failing = Failing {
-            end: "checked image",
-            call,
-            failures,
-            fault,
-            taken,
-        };
-        show(rt.alloc(), out, failing, case.whole)?;
-        if failures == 0 {
-            break;
-        }
-    }
-    Ok(())
-}
-
-/// Shows what comes of a check where each call of the sink fails in turn, the flush too.
-pub fn fail_checked_sink<R: Host + AllocGlobal>(
-    rt: &R,
-    out: &mut Vec<u8>,
-    case: &Case<'_>,
-) -> Result<(), Memory> {
-    for call in 0..MOST_CALLS {
-        let mut image = BytesSource::new(case.image, case.step);
-        let mut sink = FailAt::new(BytesSink::new(rt.alloc(), case.step), call);
-        let fault = check_text(rt, rt.alloc(), &mut image, &mut sink).err();
-        let failures = sink.failures();
-        let taken = sink.inner.bytes.as_slice();
-        let failing = Failing {
-            end: "sink of a check",
-            call,
-            failures,
-            fault,
-            taken,
-        };
-        show(rt.alloc(), out, failing, case.whole)?;
-        if failures == 0 {
-            break;
-        }
-    }
-    Ok(())
+/// Shows what comes of a run and of a check where each call of each end fails in turn.
+pub fn show_failing<R: Host + AllocGlobal>(rt: &R, out: &mut Text, given: &Given<'_>) {
+    show_case(rt, out, given, false, &OF_RUNS);
+    show_case(rt, out, given, true, &OF_CHECKS);
 }

@@ -1,53 +1,68 @@
 //! What is wrong with an image or with batches.
+use crate::text::Text;
 use executor::Refusal;
 use image_records::LoadError;
 use loader::load;
 use requests::{BatchReader, BytesSource, ReadError};
-use runner::{RunFault, fault_line};
+use runner::{RunFault, StoredRunFault, fault_line, stored_fault_line, stored_line};
 use std::alloc::Global;
-use tpcc_rows::memory::Memory;
 
 /// The most bytes that batches are read of.
 const MOST: usize = 1_000_000;
 
 /// Which of the two texts is edited.
-#[derive(Clone, Copy, PartialEq, Eq)]
+#[derive(Clone, Copy)]
 pub enum Side {
     Image,
     Batches,
 }
 
 /// The fault of an image, None where it loads.
-pub fn fault_of_image(alloc: Global, image: &[u8]) -> Option<RunFault> {
-    load(alloc, &mut BytesSource::new(image, 1000))
-        .err()
-        .map(RunFault::Load)
+fn fault_of_image(alloc: Global, image: &[u8]) -> Option<StoredRunFault> {
+    match load(alloc, &mut BytesSource::new(image, 1000)) {
+        Ok(_) => None,
+        Err(error) => Some(StoredRunFault::Run(RunFault::Load(error))),
+    }
 }
 
-/// How many batches a text gives, and the fault that it then has. The fault stays: it is answered again.
-pub fn read_all(alloc: Global, text: &[u8]) -> (usize, Option<RunFault>) {
-    if text.len() > MOST {
-        return (0, None);
+/// The fault of a reader.
+pub fn read_fault(error: Option<ReadError>) -> Option<StoredRunFault> {
+    match error {
+        Some(error) => Some(StoredRunFault::Run(RunFault::Read(error))),
+        None => None,
     }
-    let mut reader = match BatchReader::new(alloc, text) {
-        Ok(reader) => reader,
-        Err(error) => return (0, Some(RunFault::Read(error))),
-    };
-    for count in 0..text.len() {
+}
+
+/// How many batches a reader gives, at most so many, and the error that it then has. The error stays: it is answered again.
+fn read_batches(
+    alloc: Global,
+    reader: &mut BatchReader<'_>,
+    most: usize,
+) -> (usize, Option<ReadError>) {
+    for count in 0..most {
         match reader.next_batch(alloc) {
             Ok(Some(_)) => {}
             Ok(None) => return (count, None),
-            Err(_) => {
-                let again = reader.next_batch(alloc).err();
-                return (count, again.map(RunFault::Read));
-            }
+            Err(_) => return (count, reader.next_batch(alloc).err()),
         }
     }
-    (text.len(), None)
+    (most, None)
+}
+
+/// How many batches a text gives, and the fault that it then has.
+pub fn read_all(alloc: Global, text: &[u8]) -> (usize, Option<StoredRunFault>) {
+    if text.len() > MOST {
+        return (0, None);
+    }
+    let (count, error) = match BatchReader::new(alloc, text) {
+        Ok(mut reader) => read_batches(alloc, &mut reader, text.len()),
+        Err(error) => (0, Some(error)),
+    };
+    (count, read_fault(error))
 }
 
 /// The fault of one of the two texts.
-pub fn fault_of(alloc: Global, side: Side, text: &[u8]) -> Option<RunFault> {
+pub fn fault_of(alloc: Global, side: Side, text: &[u8]) -> Option<StoredRunFault> {
     match side {
         Side::Image => fault_of_image(alloc, text),
         Side::Batches => read_all(alloc, text).1,
@@ -57,16 +72,25 @@ pub fn fault_of(alloc: Global, side: Side, text: &[u8]) -> Option<RunFault> {
 /// The words that begin a fault's line.
 const HEAD: &[u8] = b"eve-tpcc: ";
 
-/// A fault's line without its beginning and its end, and `no fault` where there is none.
-pub fn answer_of(alloc: Global, fault: Option<RunFault>) -> Result<Vec<u8>, Memory> {
+/// Puts a fault's line without its beginning and its end, and `no fault` where there is none.
+pub fn put_answer(out: &mut Text, fault: Option<StoredRunFault>) {
     let Some(fault) = fault else {
-        return Ok(b"no fault".to_vec(alloc)?);
+        out.put(b"no fault");
+        return;
     };
-    let mut line = Vec::new(alloc);
-    fault_line(&fault, &mut line)?;
+    let line = stored_line(&fault);
     let text = line.as_slice();
     let text = text.strip_prefix(HEAD).unwrap_or(text);
-    Ok(text.strip_suffix(b"\n").unwrap_or(text).to_vec(alloc)?)
+    out.put(text.strip_suffix(b"\n").unwrap_or(text));
+}
+
+/// Puts the lines of a fault, where there is one.
+pub fn put_fault(out: &mut Text, fault: Option<StoredRunFault>) {
+    if let Some(fault) = fault {
+        if stored_fault_line(&fault, &mut out.bytes).is_err() {
+            out.is_whole = false;
+        }
+    }
 }
 
 /// Each fault.
@@ -97,10 +121,16 @@ const FAULTS: [RunFault; 24] = [
     RunFault::Memory,
 ];
 
-/// Shows the line of each fault.
-pub fn show_faults(out: &mut Vec<u8>) -> Result<(), Memory> {
-    for fault in FAULTS {
-        fault_line(&fault, out)?;
+/// Puts the line of each of these faults.
+fn put_lines(out: &mut Text, faults: &[RunFault]) {
+    for fault in faults {
+        if fault_line(fault, &mut out.bytes).is_err() {
+            out.is_whole = false;
+        }
     }
-    Ok(())
+}
+
+/// Shows the line of each fault.
+pub fn show_faults(out: &mut Text) {
+    put_lines(out, &FAULTS);
 }

@@ -1,5 +1,16 @@
-//! Worked cases, from the bytes of images and of batches to the bytes that come of them. The cases stand in the files of
-//! `data`, which `data/index` names in order; a case is a few lines, of a word and what it is about:
+//! Runs of the whole program below its command line, in four parts. With no word it shows all of them; with the name of a part
+//! that part alone.
+//!
+//! | Part | What it shows |
+//! |---|---|
+//! | `cases` | worked cases, from the bytes of images and of batches to the bytes that come of them |
+//! | `sessions` | a session whose commands come in pieces, and reads that fail |
+//! | `stored-runs` | runs that go on from the image that one before stored, and ends that fail |
+//! | `refused-growths` | a check and a run, to be tried with each growth refused |
+//!
+//! Where memory is refused nothing is written, and the status is 1.
+//!
+//! The cases stand in the files of `data`, which `data/index` names in order; a case is a few lines, of a word and what it is about:
 //!
 //! | Line | What it does |
 //! |---|---|
@@ -32,72 +43,111 @@
 //! In a record and in a value, `\` and two hexadecimal digits stand for a byte.
 #![tactic(auto)]
 
+mod compared;
+mod edits;
 mod ends;
 mod faults;
 mod files;
 mod inputs;
+mod numbers;
+mod pieces;
+mod refused_growths;
 mod runs;
 mod script;
+mod sessions;
+mod stored_runs;
 mod tables;
 mod text;
 
 use crate::files::read;
+use crate::refused_growths::show_refused_growths;
+use crate::runs::made;
 use crate::script::Script;
+use crate::sessions::show_sessions;
+use crate::stored_runs::show_stored_runs;
+use crate::text::Text;
 use hashers::Host;
 use requests::{Counting, push_all};
 use std::process::ExitCode;
-use std::rt::Files;
-use std::{io, str};
-use tpcc_rows::memory::Memory;
+use std::rt::{Env, Files};
+use std::{env, io, str};
 
-/// Follows the cases of a file.
+/// Follows the lines of a file.
 fn follow_file<R: Files + AllocGlobal + Host>(
     rt: &R,
+    out: &mut Text,
     script: &mut Script,
     name: &str,
-) -> Result<(), Memory>
+) -> Option<()>
 where
     R::File: Drop,
 {
-    let Some(bytes) = read(rt, name) else {
-        return script.say("no such file");
-    };
-    let Ok(text) = str::from_utf8(bytes.as_slice()) else {
-        return script.say("no text");
-    };
-    for line in text.lines() {
-        script.follow(rt, line)?;
+    let bytes = read(rt, name)?;
+    for line in str::from_utf8(bytes.as_slice()).ok()?.lines() {
+        script.follow(rt, out, line);
     }
-    Ok(())
+    Some(())
 }
 
-/// Follows the cases of all files that a file names.
-fn follow_all<R: Files + AllocGlobal + Host>(
-    rt: &R,
-    script: &mut Script,
-    names: &[u8],
-) -> Result<(), Memory>
+/// Follows the cases of all files that the index names.
+fn show_cases<R: Files + AllocGlobal + Host>(rt: &R, out: &mut Text) -> Option<()>
 where
     R::File: Drop,
 {
-    let Ok(names) = str::from_utf8(names) else {
-        return script.say("no text");
-    };
-    for name in names.lines() {
-        follow_file(rt, script, name)?;
+    let mut script = Script::new(rt.alloc());
+    let names = read(rt, "index")?;
+    for name in str::from_utf8(names.as_slice()).ok()?.lines() {
+        follow_file(rt, out, &mut script, name)?;
     }
-    Ok(())
+    Some(())
+}
+
+/// Shows the parts that are asked for: all where no word is given.
+fn show_parts<R: Files + AllocGlobal + Host>(rt: &R, out: &mut Text, asked: &str) -> Option<()>
+where
+    R::File: Drop,
+{
+    let is_all = asked.is_empty();
+    if is_all || asked == "cases" {
+        show_cases(rt, out)?;
+    }
+    let image = made(rt.alloc(), 1, 1, 5)?;
+    if is_all || asked == "sessions" {
+        show_sessions(rt, out, image.as_slice());
+    }
+    if is_all || asked == "stored-runs" {
+        show_stored_runs(rt, out, image.as_slice());
+    }
+    if is_all || asked == "refused-growths" {
+        show_refused_growths(rt, out, image.as_slice());
+    }
+    Some(())
+}
+
+/// The word that names a part, empty where there is none.
+fn word<R: Env + AllocGlobal>(rt: &R) -> Option<String> {
+    let mut words = env::args(rt).ok()?;
+    let _program = words.next();
+    Some(words.next().unwrap_or(String::new(rt.alloc())))
+}
+
+/// Writes the text, where it is whole and there is any.
+fn written<R: Print>(rt: &R, text: &Text) -> bool {
+    let mut output = Counting::new(io::writer(rt));
+    let bytes = text.bytes.as_slice();
+    text.is_whole && !bytes.is_empty() && push_all(&mut output, bytes).is_ok()
+}
+
+fn shown<R: Files + Env + AllocGlobal + Host>(rt: &R, out: &mut Text) -> Option<()>
+where
+    R::File: Drop,
+{
+    show_parts(rt, out, word(rt)?.as_str())
 }
 
 fn main(rt: HostRuntime) -> ExitCode {
-    let mut script = Script::new(rt.alloc());
-    let Some(names) = read(&rt, "index") else {
-        return ExitCode::FAILURE;
-    };
-    let followed = follow_all(&rt, &mut script, names.as_slice());
-    let mut output = Counting::new(io::writer(&rt));
-    let written = push_all(&mut output, script.out.as_slice());
-    if followed.is_ok() && written.is_ok() {
+    let mut out = Text::new(rt.alloc());
+    if shown(&rt, &mut out).is_some() && written(&rt, &out) {
         ExitCode::SUCCESS
     } else {
         ExitCode::FAILURE

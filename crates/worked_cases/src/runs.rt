@@ -1,20 +1,147 @@
-//! Runs of batches on images, and what images say of themselves.
-ghost use Rattle.std.specs.Prelude.{◌<◌};
+//! Runs and checks over bytes in memory, between ends of which one may fail.
+ghost use Rattle.std.specs.Prelude.{◌≡◌, ◌<◌, ◌^◌};
 
-use crate::text::is_line_end;
-use executor::Executor;
+use crate::faults::put_fault;
+use crate::text::{Text, is_line_end};
 use hashers::Host;
-use loader::load;
-use requests::{BatchReader, BytesSink, BytesSource};
-use runner::{check_text, fault_line, make_text, run_text};
+use requests::{BytesSink, BytesSource, FailAt};
+use runner::{StoredRunFault, check_text, make_text, run_and_store, run_text};
 use std::alloc::Global;
 use std::thread::Threads;
-use stored_image::store_image;
-use tpcc_rows::memory::Memory;
 use workers::{NoGate, Workers};
 
-/// The most bytes of batches whose changes are shown.
-const MOST: usize = 1_000_000;
+/// An end of a run: the sources of the image and of the batches, and the sinks of the text and of the image that is stored.
+#[derive(Clone, Copy, PartialEq)]
+pub enum End {
+    Image,
+    Batches,
+    Text,
+    Stored,
+}
+
+/// A call that no end comes to.
+pub const NEVER: u64 = u64::MAX;
+
+/// What is run or checked, between ends whose calls move so many bytes at most, and one at least. A call of one end fails, by its
+/// number from 0 on.
+#[derive(Clone, Copy)]
+pub struct Given<'a> {
+    pub image: &'a [u8],
+    pub batches: &'a [u8],
+    pub workers: Workers,
+    pub step: usize,
+    pub end: End,
+    pub call: u64,
+}
+
+/// What came of a run: the text and the image that were written, how it ended, how many batches were executed, and how many calls
+/// of its ends failed.
+#[derive(Drop)]
+pub struct Outcome {
+    pub text: Vec<u8>,
+    pub stored: Vec<u8>,
+    pub fault: Option<StoredRunFault>,
+    pub count: u64,
+    pub failures: u64,
+}
+
+/// The call of an end that fails.
+fn call_of(given: &Given<'_>, end: End) -> u64 {
+    if given.end == end { given.call } else { NEVER }
+}
+
+fn source_of<'a>(given: &Given<'_>, bytes: &'a [u8], end: End) -> FailAt<BytesSource<'a>>
+    ensures { result.failures ≡ 0 }
+{
+    FailAt::new(
+        BytesSource::new(bytes, given.step.max(1)),
+        call_of(given, end),
+    )
+}
+
+fn sink_of(alloc: Global, given: &Given<'_>, end: End) -> FailAt<BytesSink>
+    ensures { result.failures ≡ 0 }
+{
+    FailAt::new(
+        BytesSink::new(alloc, given.step.max(1)),
+        call_of(given, end),
+    )
+}
+
+/// Runs the batches on the image.
+pub fn run<R: Host + AllocGlobal>(rt: &R, given: &Given<'_>) -> Outcome {
+    let alloc = rt.alloc();
+    let mut image = source_of(given, given.image, End::Image);
+    let mut batches = source_of(given, given.batches, End::Batches);
+    let mut sink = sink_of(alloc, given, End::Text);
+    let (count, fault) = match run_text(
+        rt,
+        alloc,
+        &mut image,
+        &mut batches,
+        &mut sink,
+        given.workers,
+        &NoGate,
+    ) {
+        Ok(count) => (count, None),
+        Err(fault) => (0, Some(StoredRunFault::Run(fault))),
+    };
+    let of_sources = image.failures.saturating_add(batches.failures);
+    Outcome {
+        failures: of_sources.saturating_add(sink.failures),
+        text: sink.inner.bytes,
+        stored: Vec::new(alloc),
+        fault,
+        count,
+    }
+}
+
+/// Checks the image.
+pub fn check<R: Threads + Sync + AllocGlobal>(rt: &R, given: &Given<'_>) -> Outcome {
+    let alloc = rt.alloc();
+    let mut image = source_of(given, given.image, End::Image);
+    let mut sink = sink_of(alloc, given, End::Text);
+    let fault = match check_text(rt, alloc, &mut image, &mut sink) {
+        Ok(()) => None,
+        Err(fault) => Some(StoredRunFault::Run(fault)),
+    };
+    Outcome {
+        failures: image.failures.saturating_add(sink.failures),
+        text: sink.inner.bytes,
+        stored: Vec::new(alloc),
+        fault,
+        count: 0,
+    }
+}
+
+/// Runs the batches on the image, and stores the image of the last state.
+pub fn run_stored<R: Host + AllocGlobal>(rt: &R, given: &Given<'_>) -> Outcome {
+    let alloc = rt.alloc();
+    let mut image = source_of(given, given.image, End::Image);
+    let mut batches = source_of(given, given.batches, End::Batches);
+    let mut sink = sink_of(alloc, given, End::Text);
+    let mut stored = sink_of(alloc, given, End::Stored);
+    let (count, fault) = match run_and_store(
+        rt,
+        alloc,
+        &mut image,
+        &mut batches,
+        &mut sink,
+        &mut stored,
+        given.workers,
+        &NoGate,
+    ) {
+        Ok(count) => (count, None),
+        Err(fault) => (0, Some(fault)),
+    };
+    Outcome {
+        text: sink.inner.bytes,
+        stored: stored.inner.bytes,
+        fault,
+        count,
+        failures: stored.failures,
+    }
+}
 
 /// The image of a made database, None where a number is out of its range.
 pub fn made(alloc: Global, warehouses: u8, customers: u16, items: u32) -> Option<Vec<u8>> {
@@ -27,128 +154,46 @@ pub fn made(alloc: Global, warehouses: u8, customers: u16, items: u32) -> Option
     Some(sink.bytes)
 }
 
-/// What a run prints: its text, and behind it the line of its fault.
-pub fn printed<R: Host + AllocGlobal>(
-    rt: &R,
-    image: &[u8],
-    batches: &[u8],
-    workers: Workers,
-    step: usize,
-) -> Result<Vec<u8>, Memory>
-    requires { 0 < step }
-{
-    let mut sink = BytesSink::new(rt.alloc(), step);
-    let answer = run_text(
-        rt,
-        rt.alloc(),
-        &mut BytesSource::new(image, step),
-        &mut BytesSource::new(batches, step),
-        &mut sink,
-        workers,
-        &NoGate,
-    );
-    let mut text = sink.bytes;
-    if let Err(fault) = answer {
-        fault_line(&fault, &mut text)?;
-    }
-    Ok(text)
+/// Whether two runs wrote the same and ended in the same way.
+pub fn are_same(one: &Outcome, other: &Outcome) -> bool {
+    one.fault == other.fault
+        && one.text.as_slice() == other.text.as_slice()
+        && one.stored.as_slice() == other.stored.as_slice()
 }
 
-/// What the check of an image prints.
-pub fn checked<R: Threads + Sync + AllocGlobal>(
-    rt: &R,
-    image: &[u8],
-    step: usize,
-) -> Result<Vec<u8>, Memory>
-    requires { 0 < step }
-{
-    let mut sink = BytesSink::new(rt.alloc(), step);
-    let answer = check_text(
-        rt,
-        rt.alloc(),
-        &mut BytesSource::new(image, step),
-        &mut sink,
-    );
-    let mut text = sink.bytes;
-    if let Err(fault) = answer {
-        fault_line(&fault, &mut text)?;
-    }
-    Ok(text)
+/// Puts what a run or a check prints: its text, and behind it the line of its fault.
+pub fn put_printed(out: &mut Text, outcome: &Outcome) {
+    out.put(outcome.text.as_slice());
+    put_fault(out, outcome.fault);
 }
 
-/// The image that is stored of the database of an image.
-pub fn stored(alloc: Global, image: &[u8]) -> Option<Vec<u8>> {
-    let (catalog, rows) = load(alloc, &mut BytesSource::new(image, 1000)).ok()?;
-    let mut text = Vec::new(alloc);
-    store_image(alloc, &catalog, &rows, &mut text).ok()?;
-    Some(text)
-}
-
-fn opened<R: Threads + Sync + AllocGlobal>(rt: &R, image: &[u8]) -> Option<Executor> {
-    let Ok((catalog, rows)) = load(rt.alloc(), &mut BytesSource::new(image, 1000)) else {
-        return None;
-    };
-    Executor::new(rt, rt.alloc(), catalog, rows).ok()
-}
-
-/// Executes and commits all batches.
-fn execute_all<R: Threads + Sync + AllocGlobal>(
-    rt: &R,
-    executor: &mut Executor,
-    batches: &[u8],
-) -> Option<()> {
-    if batches.len() > MOST {
-        return None;
-    }
-    let mut reader = BatchReader::new(rt.alloc(), batches).ok()?;
-    for _ in 0..batches.len() {
-        let Some(batch) = reader.next_batch(rt.alloc()).ok()? else {
-            break;
-        };
-        let workers = Workers::new(2)?;
-        executor
-            .execute(rt, rt.alloc(), &batch, workers, &NoGate)
-            .ok()?;
-        executor.commit().ok()?;
-    }
-    Some(())
-}
-
-/// The image after all batches.
-fn image_after<R: Threads + Sync + AllocGlobal>(
-    rt: &R,
-    image: &[u8],
-    batches: &[u8],
-) -> Option<Vec<u8>> {
-    let mut executor = opened(rt, image)?;
-    execute_all(rt, &mut executor, batches)?;
-    let mut text = Vec::new(rt.alloc());
-    store_image(rt.alloc(), executor.catalog(), executor.store(), &mut text).ok()?;
-    Some(text)
-}
-
-/// Adds the lines of a text that aren't in another one, each behind a mark.
-fn push_missing(out: &mut Vec<u8>, mark: &[u8], text: &[u8], other: &[u8]) -> Result<(), Memory> {
-    for line in text.split_inclusive(is_line_end) {
-        if !other.split_inclusive(is_line_end).any(|one| one == line) {
-            out.extend_from_slice(mark)?;
-            out.extend_from_slice(line)?;
+/// Whether a text has a line.
+fn has_line(text: &[u8], line: &[u8]) -> bool {
+    for one in text.split_inclusive(is_line_end) {
+        if one == line {
+            return true;
         }
     }
-    Ok(())
+    false
+}
+
+/// Puts the lines of a text that aren't in another one, each behind a mark.
+fn put_missing(out: &mut Text, mark: &[u8], text: &[u8], other: &[u8]) {
+    for line in text.split_inclusive(is_line_end) {
+        if !has_line(other, line) {
+            out.put(mark);
+            out.put(line);
+        }
+    }
 }
 
 /// Shows the records that batches take from the image of a database, and those that they put in.
-pub fn show_changes<R: Threads + Sync + AllocGlobal>(
-    rt: &R,
-    out: &mut Vec<u8>,
-    image: &[u8],
-    batches: &[u8],
-) -> Result<(), Memory> {
-    let Some(after) = image_after(rt, image, batches) else {
-        out.extend_from_slice(b"no image after these batches\n")?;
-        return Ok(());
-    };
-    push_missing(out, b"- ", image, after.as_slice())?;
-    push_missing(out, b"+ ", after.as_slice(), image)
+pub fn show_changes<R: Host + AllocGlobal>(rt: &R, out: &mut Text, given: &Given<'_>) {
+    let after = run_stored(rt, given);
+    if after.fault.is_some() {
+        out.line("no image after these batches");
+        return;
+    }
+    put_missing(out, b"- ", given.image, after.stored.as_slice());
+    put_missing(out, b"+ ", after.stored.as_slice(), given.image);
 }

@@ -1,433 +1,217 @@
 //! The lines of cases, followed one after the other.
-ghost use Rattle.std.specs.Prelude.{◌<◌};
-
-use crate::ends::{
-    Case, fail_batches, fail_checked_image, fail_checked_sink, fail_image, fail_sink,
-};
-use crate::faults::{Side, answer_of, fault_of, read_all, show_faults};
+use crate::compared::{show_last, show_run, show_same, show_stored};
+use crate::edits::{Edited, with_bytes};
+use crate::ends::show_failing;
+use crate::faults::{Side, show_faults};
 use crate::files::read;
 use crate::inputs::show_ends;
-use crate::runs::{checked, made, printed, show_changes, stored};
-use crate::tables::{show_cuts, show_field, show_record};
-use crate::text::{Text, bytes_of, is_line_end, with_bytes};
+use crate::numbers::{first_word, number_of};
+use crate::runs::{End, Given, NEVER, check, made, put_printed, show_changes};
+use crate::tables::{Tried, show_cuts, show_fault, show_field, show_record};
+use crate::text::Text;
 use hashers::Host;
 use std::alloc::Global;
 use std::rt::Files;
-use tpcc_rows::memory::Memory;
 use workers::Workers;
 
-/// What the lines of cases made so far, and what they showed.
+/// What the lines of cases made so far.
 #[derive(Drop)]
 pub struct Script {
     alloc: Global,
-    image: Text,
-    batches: Text,
+    image: Edited,
+    batches: Edited,
     /// Which of the two is edited.
     side: Side,
     /// Values that fields are tried with, behind those of their own.
     also: String,
     /// How many bytes ends give and take a call.
     step: usize,
-    pub out: Vec<u8>,
 }
 
-/// A number, 0 where a text is none.
-fn number_of(text: &str) -> usize {
-    text.parse().unwrap_or(0)
-}
-
-/// The first word of a text, and the rest.
-fn first_word(text: &str) -> (&str, &str) {
-    text.split_once(' ').unwrap_or((text, ""))
+/// The image of the made database of these numbers.
+fn made_of(alloc: Global, numbers: &str) -> Option<Vec<u8>> {
+    let (warehouses, rest) = first_word(numbers);
+    let (customers, items) = first_word(rest);
+    made(
+        alloc,
+        warehouses.parse().unwrap_or(0),
+        customers.parse().unwrap_or(0),
+        items.parse().unwrap_or(0),
+    )
 }
 
 impl Script {
     pub fn new(alloc: Global) -> Script {
         Script {
             alloc,
-            image: Text::new(Vec::new(alloc)),
-            batches: Text::new(Vec::new(alloc)),
+            image: Edited::new(Vec::new(alloc)),
+            batches: Edited::new(Vec::new(alloc)),
             side: Side::Image,
             also: String::new(alloc),
             step: 4096,
-            out: Vec::new(alloc),
         }
     }
 
-    /// How many bytes ends give and take a call: one at least.
-    fn step(&self) -> usize
-        ensures { 0 < result }
-    {
-        if self.step == 0 { 1 } else { self.step }
-    }
-
-    /// Shows a line.
-    pub fn say(&mut self, text: &str) -> Result<(), Memory> {
-        self.out.extend_from_slice(text.as_bytes())?;
-        self.out.push(b'\n')?;
-        Ok(())
-    }
-
-    fn edited(&mut self) -> &mut Text {
+    /// The text that is edited.
+    fn edited(&mut self) -> &mut Edited {
         match self.side {
             Side::Image => &mut self.image,
             Side::Batches => &mut self.batches,
         }
     }
 
-    fn begin(&mut self, side: Side, bytes: Vec<u8>) {
-        self.side = side;
-        *self.edited() = Text::new(bytes);
-    }
-
-    fn make(&mut self, numbers: &str) -> Result<(), Memory> {
-        let (warehouses, rest) = first_word(numbers);
-        let (customers, items) = first_word(rest);
-        let image = made(
-            self.alloc,
-            warehouses.parse().unwrap_or(0),
-            customers.parse().unwrap_or(0),
-            items.parse().unwrap_or(0),
-        );
-        match image {
-            Some(image) => self.begin(Side::Image, image),
-            None => self.say("no database is made")?,
-        }
-        Ok(())
-    }
-
-    fn open<R: Files + AllocGlobal>(&mut self, rt: &R, name: &str) -> Result<(), Memory>
-    where
-        R::File: Drop,
-    {
-        match read(rt, name) {
-            Some(image) => self.begin(Side::Image, image),
-            None => self.say("no such file")?,
-        }
-        Ok(())
-    }
-
-    fn remove(&mut self, record: &str) -> Result<(), Memory> {
-        let alloc = self.alloc;
-        let bytes = bytes_of(alloc, record)?;
-        if self.edited().remove(alloc, bytes.as_slice())? {
-            Ok(())
-        } else {
-            self.say("no such record")
+    /// The text that is edited, to be tried.
+    fn tried(&self) -> Tried<'_> {
+        let edited = match self.side {
+            Side::Image => &self.image,
+            Side::Batches => &self.batches,
+        };
+        Tried {
+            alloc: self.alloc,
+            side: self.side,
+            text: edited.bytes(),
         }
     }
 
-    fn insert(&mut self, record: &str) -> Result<(), Memory> {
-        let alloc = self.alloc;
-        let bytes = bytes_of(alloc, record)?;
-        self.edited().insert(alloc, bytes.as_slice())
+    /// The batches on the image, by two workers.
+    fn given(&self) -> Given<'_> {
+        Given {
+            image: self.image.bytes(),
+            batches: self.batches.bytes(),
+            workers: Workers::new(2).unwrap(),
+            step: self.step,
+            end: End::Image,
+            call: NEVER,
+        }
     }
 
-    fn repeat(&mut self, numbers: &str) -> Result<(), Memory> {
-        let alloc = self.alloc;
-        let (times, lines) = first_word(numbers);
-        self.edited()
-            .repeat(alloc, number_of(times), number_of(lines))
+    fn begin(&mut self, out: &mut Text, side: Side, bytes: Option<Vec<u8>>) {
+        match bytes {
+            Some(bytes) => {
+                self.side = side;
+                *self.edited() = Edited::new(bytes);
+            }
+            None => out.line("no such text"),
+        }
     }
 
-    fn end_lines_by(&mut self, end: &str) -> Result<(), Memory> {
-        let alloc = self.alloc;
-        let bytes = bytes_of(alloc, end)?;
-        self.edited().end_lines_by(alloc, bytes.as_slice())
+    fn try_also(&mut self, out: &mut Text, values: &str) {
+        match values.to_string(self.alloc) {
+            Ok(values) => self.also = values,
+            Err(_) => out.is_whole = false,
+        }
     }
 
     /// Whether a line is one that makes images or batches, and then follows it.
     fn edit<R: Files + AllocGlobal>(
         &mut self,
         rt: &R,
+        out: &mut Text,
         word: &str,
         rest: &str,
-    ) -> Result<bool, Memory>
+    ) -> bool
     where
         R::File: Drop,
     {
-        match word {
-            "make" => self.make(rest)?,
-            "file" => self.open(rt, rest)?,
-            "image" => self.begin(Side::Image, Vec::new(self.alloc)),
-            "batches" => self.begin(Side::Batches, Vec::new(self.alloc)),
-            "-" => self.remove(rest)?,
-            "+" => self.insert(rest)?,
-            "repeat" => self.repeat(rest)?,
-            "line-ends" => self.end_lines_by(rest)?,
-            "chop" => {
-                self.edited().bytes.pop();
-            }
-            "step" => self.step = number_of(rest),
-            "also" => self.also = rest.to_string(self.alloc)?,
-            _ => return Ok(false),
-        }
-        Ok(true)
-    }
-
-    /// What the run prints by the first of these numbers of workers. Shows those by which it prints other bytes.
-    fn printed_by_all<R: Host + AllocGlobal>(
-        &mut self,
-        rt: &R,
-        numbers: &str,
-    ) -> Result<Vec<u8>, Memory> {
-        let step = self.step();
-        let mut first = None;
-        for number in numbers.split(' ') {
-            let Some(workers) = Workers::new(number_of(number)) else {
-                self.say("no such number of workers")?;
-                continue;
-            };
-            let image = self.image.bytes.as_slice();
-            let batches = self.batches.bytes.as_slice();
-            let text = printed(rt, image, batches, workers, step)?;
-            match &first {
-                None => first = Some(text),
-                Some(one) if *one == text => {}
-                Some(_) => self.say("other bytes")?,
-            }
-        }
-        Ok(first.unwrap_or(Vec::new(self.alloc)))
-    }
-
-    fn run<R: Host + AllocGlobal>(&mut self, rt: &R, numbers: &str) -> Result<(), Memory> {
-        let text = self.printed_by_all(rt, numbers)?;
-        let head = format!(in self.alloc; "by {numbers} workers the same:")?;
-        self.say(head.as_str())?;
-        self.out.extend_from_slice(text.as_slice())?;
-        Ok(())
-    }
-
-    fn run_last<R: Host + AllocGlobal>(&mut self, rt: &R, numbers: &str) -> Result<(), Memory> {
-        let (last, numbers) = first_word(numbers);
-        let text = self.printed_by_all(rt, numbers)?;
-        let count = text.as_slice().split_inclusive(is_line_end).count();
-        let hidden = count.saturating_sub(number_of(last));
-        let head = format!(in self.alloc;
-            "by {numbers} workers the same: {count} records, the last ones are"
-        )?;
-        self.say(head.as_str())?;
-        for (i, line) in text.as_slice().split_inclusive(is_line_end).enumerate() {
-            if i >= hidden {
-                self.out.extend_from_slice(line)?;
-            }
-        }
-        Ok(())
-    }
-
-    fn show_check<R: Host + AllocGlobal>(&mut self, rt: &R) -> Result<(), Memory> {
-        let step = self.step();
-        let text = checked(rt, self.image.bytes.as_slice(), step)?;
-        self.out.extend_from_slice(text.as_slice())?;
-        Ok(())
-    }
-
-    fn show_stored(&mut self) -> Result<(), Memory> {
-        match stored(self.alloc, self.image.bytes.as_slice()) {
-            Some(text) => self.out.extend_from_slice(text.as_slice())?,
-            None => self.say("no database")?,
-        }
-        Ok(())
-    }
-
-    /// Tells whether the image is stored as the one of a file.
-    fn compare<R: Files + AllocGlobal>(&mut self, rt: &R, name: &str) -> Result<(), Memory>
-    where
-        R::File: Drop,
-    {
-        let wanted = read(rt, name);
-        let text = stored(self.alloc, self.image.bytes.as_slice());
-        let same = if text.is_some() && text == wanted {
-            "stored as"
-        } else {
-            "not stored as"
-        };
-        let line = format!(in self.alloc; "{same} {name}")?;
-        self.say(line.as_str())
-    }
-
-    /// Shows the fault of the text that is edited, and how many batches are read of batches.
-    fn try_text(&mut self) -> Result<(), Memory> {
         let alloc = self.alloc;
-        let (count, fault) = match self.side {
-            Side::Image => (0, fault_of(alloc, Side::Image, self.image.bytes.as_slice())),
-            Side::Batches => read_all(alloc, self.batches.bytes.as_slice()),
-        };
-        let answer = answer_of(alloc, fault)?;
-        if self.side == Side::Batches {
-            let head = format!(in alloc; "{count} batches, ")?;
-            self.out.extend_from_slice(head.as_bytes())?;
+        match word {
+            "make" => self.begin(out, Side::Image, made_of(alloc, rest)),
+            "file" => self.begin(out, Side::Image, read(rt, rest)),
+            "image" => self.begin(out, Side::Image, Some(Vec::new(alloc))),
+            "batches" => self.begin(out, Side::Batches, Some(Vec::new(alloc))),
+            "step" => self.step = number_of(rest),
+            "also" => self.try_also(out, rest),
+            _ => return self.edited().follow(alloc, out, word, rest),
         }
-        self.out.extend_from_slice(answer.as_slice())?;
-        self.say("")
-    }
-
-    /// The text that is edited.
-    fn edited_text(&self) -> Result<Vec<u8>, Memory> {
-        Ok(match self.side {
-            Side::Image => self.image.bytes.as_slice().to_vec(self.alloc)?,
-            Side::Batches => self.batches.bytes.as_slice().to_vec(self.alloc)?,
-        })
-    }
-
-    fn show_record(&mut self, words: &str) -> Result<(), Memory> {
-        let (number, record) = first_word(words);
-        let (alloc, side) = (self.alloc, self.side);
-        let text = self.edited_text()?;
-        let number = number_of(number);
-        show_record(alloc, &mut self.out, side, text.as_slice(), number, record)
-    }
-
-    fn show_field(&mut self, words: &str) -> Result<(), Memory> {
-        let (number, rest) = first_word(words);
-        let (field, values) = first_word(rest);
-        let (alloc, side) = (self.alloc, self.side);
-        let (number, field) = (number_of(number), number_of(field));
-        let text = self.edited_text()?;
-        let also = self.also.as_str();
-        let bar = if also.is_empty() { "" } else { "|" };
-        let all = format!(in alloc; "{values}{bar}{also}")?;
-        let out = &mut self.out;
-        show_field(
-            alloc,
-            out,
-            side,
-            text.as_slice(),
-            number,
-            field,
-            all.as_str(),
-        )
-    }
-
-    fn show_cuts(&mut self) -> Result<(), Memory> {
-        let (alloc, side) = (self.alloc, self.side);
-        let text = self.edited_text()?;
-        show_cuts(alloc, &mut self.out, side, text.as_slice())
-    }
-
-    /// Shows what comes of runs where each call of each end fails in turn.
-    fn show_failing_runs<R: Host + AllocGlobal>(&mut self, rt: &R) -> Result<(), Memory> {
-        let step = self.step();
-        let text = self.printed_by_all(rt, "1")?;
-        let case = Case {
-            image: self.image.bytes.as_slice(),
-            batches: self.batches.bytes.as_slice(),
-            whole: text.as_slice(),
-            step,
-        };
-        let out = &mut self.out;
-        fail_image(rt, out, &case)?;
-        fail_batches(rt, out, &case)?;
-        fail_sink(rt, out, &case)
-    }
-
-    /// Shows what comes of checks where each call of each end fails in turn.
-    fn show_failing_checks<R: Host + AllocGlobal>(&mut self, rt: &R) -> Result<(), Memory> {
-        let step = self.step();
-        let image = self.image.bytes.as_slice();
-        let line = checked(rt, image, step)?;
-        let case = Case {
-            image,
-            batches: &[],
-            whole: line.as_slice(),
-            step,
-        };
-        let out = &mut self.out;
-        fail_checked_image(rt, out, &case)?;
-        fail_checked_sink(rt, out, &case)
+        true
     }
 
     /// Shows what comes of the text in which other bytes stand in the place of some.
-    fn show_spoilt<R: Host + AllocGlobal>(&mut self, rt: &R, words: &str) -> Result<(), Memory> {
+    fn show_spoilt<R: Host + AllocGlobal>(&self, rt: &R, out: &mut Text, words: &str) {
         let (at, rest) = first_word(words);
         let (count, piece) = first_word(rest);
-        let alloc = self.alloc;
-        let piece = bytes_of(alloc, piece)?;
-        let whole = self.edited_text()?;
-        let (at, count) = (number_of(at), number_of(count));
-        let spoilt = with_bytes(alloc, whole.as_slice(), at, count, piece.as_slice())?;
-        let head = format!(in alloc; "{words}: ")?;
-        self.out.extend_from_slice(head.as_bytes())?;
-        self.edited().bytes = spoilt;
-        let shown = match self.side {
-            Side::Image => self.show_check(rt),
-            Side::Batches => self.try_text(),
-        };
-        self.edited().bytes = whole;
-        shown
+        let tried = self.tried();
+        let spoilt = with_bytes(
+            tried.alloc,
+            tried.text,
+            number_of(at),
+            number_of(count),
+            piece,
+        );
+        let text = spoilt.bytes.as_slice();
+        out.put(words.as_bytes());
+        out.put(b": ");
+        match self.side {
+            Side::Image => put_printed(
+                out,
+                &check(
+                    rt,
+                    &Given {
+                        image: text,
+                        ..self.given()
+                    },
+                ),
+            ),
+            Side::Batches => show_fault(out, &Tried { text, ..tried }),
+        }
+        out.is_whole = out.is_whole && spoilt.is_whole;
     }
 
     /// Whether a line is one that shows what comes of a run, and then follows it.
-    fn show_run<R: Host + AllocGlobal>(
-        &mut self,
+    fn show_run<R: Files + Host + AllocGlobal>(
+        &self,
         rt: &R,
+        out: &mut Text,
         word: &str,
         rest: &str,
-    ) -> Result<bool, Memory> {
-        match word {
-            "run" => self.run(rt, rest)?,
-            "last" => self.run_last(rt, rest)?,
-            "changes" => show_changes(
-                rt,
-                &mut self.out,
-                self.image.bytes.as_slice(),
-                self.batches.bytes.as_slice(),
-            )?,
-            "check" => self.show_check(rt)?,
-            "spoil" => self.show_spoilt(rt, rest)?,
-            "failing" => {
-                self.show_failing_runs(rt)?;
-                self.show_failing_checks(rt)?;
-            }
-            _ => return Ok(false),
-        }
-        Ok(true)
-    }
-
-    /// Whether a line is one that shows what comes of a text, and then follows it.
-    fn show_text<R: Files + AllocGlobal>(
-        &mut self,
-        rt: &R,
-        word: &str,
-        rest: &str,
-    ) -> Result<bool, Memory>
+    ) -> bool
     where
         R::File: Drop,
     {
+        let given = self.given();
         match word {
-            "stored" => self.show_stored()?,
-            "same" => self.compare(rt, rest)?,
-            "try" => self.try_text()?,
-            "record" => self.show_record(rest)?,
-            "field" => self.show_field(rest)?,
-            "cuts" => self.show_cuts()?,
-            "ends" => show_ends(self.alloc, &mut self.out)?,
-            "faults" => show_faults(&mut self.out)?,
-            _ => return Ok(false),
+            "run" => show_run(rt, out, &given, rest),
+            "last" => show_last(rt, out, &given, rest),
+            "changes" => show_changes(rt, out, &given),
+            "check" => put_printed(out, &check(rt, &given)),
+            "stored" => show_stored(rt, out, &given),
+            "same" => show_same(rt, out, &given, rest),
+            "spoil" => self.show_spoilt(rt, out, rest),
+            "failing" => show_failing(rt, out, &given),
+            _ => return false,
         }
-        Ok(true)
+        true
+    }
+
+    /// Whether a line is one that shows what comes of a text, and then follows it.
+    fn show_text(&self, out: &mut Text, word: &str, rest: &str) -> bool {
+        let tried = self.tried();
+        match word {
+            "try" => show_fault(out, &tried),
+            "record" => show_record(out, &tried, rest),
+            "field" => show_field(out, &tried, rest, self.also.as_str()),
+            "cuts" => show_cuts(out, &tried),
+            "ends" => show_ends(self.alloc, out),
+            "faults" => show_faults(out),
+            _ => return false,
+        }
+        true
     }
 
     /// Follows a line.
-    pub fn follow<R: Files + Host + AllocGlobal>(
-        &mut self,
-        rt: &R,
-        line: &str,
-    ) -> Result<(), Memory>
+    pub fn follow<R: Files + Host + AllocGlobal>(&mut self, rt: &R, out: &mut Text, line: &str)
     where
         R::File: Drop,
     {
         let (word, rest) = first_word(line);
+        let is_followed = line.is_empty()
+            || self.edit(rt, out, word, rest)
+            || self.show_run(rt, out, word, rest)
+            || self.show_text(out, word, rest);
         if word == "#" {
-            return self.say(line);
+            out.line(line);
+        } else if !is_followed {
+            out.line("no such line");
         }
-        if line.is_empty()
-            || self.edit(rt, word, rest)?
-            || self.show_run(rt, word, rest)?
-            || self.show_text(rt, word, rest)?
-        {
-            return Ok(());
-        }
-        self.say("no such line")
     }
 }

@@ -1,112 +1,112 @@
 //! Tables of faults: many texts that differ little, and the fault of each.
-use crate::faults::{Side, answer_of, fault_of};
-use crate::text::{bytes_of, with_field, with_record};
+use crate::edits::with_value;
+use crate::faults::{Side, fault_of, put_answer, read_all};
+use crate::numbers::{first_word, number_of};
+use crate::text::Text;
+use runner::StoredRunFault;
 use std::alloc::Global;
-use tpcc_rows::memory::Memory;
 
-/// A table of faults, in which what has the same fault as the one before stands behind it.
-#[derive(Drop)]
-struct Table {
-    rows: Vec<u8>,
-    last: Vec<u8>,
+/// A text of records in which values are tried, and which of the two texts it is.
+#[derive(Clone, Copy)]
+pub struct Tried<'a> {
+    pub alloc: Global,
+    pub side: Side,
+    pub text: &'a [u8],
 }
 
-impl Table {
-    fn new(alloc: Global) -> Table {
-        Table {
-            rows: Vec::new(alloc),
-            last: Vec::new(alloc),
-        }
-    }
+/// The fault of the last row of a table, None before the first row.
+type Last = Option<Option<StoredRunFault>>;
 
-    /// Adds a fault, and what has it.
-    fn push(&mut self, answer: Vec<u8>, what: &[u8]) -> Result<(), Memory> {
-        if self.last.as_slice() == answer.as_slice() {
-            self.rows.push(b'|')?;
-        } else {
-            self.rows.extend_from_slice(b"\n  ")?;
-            self.rows.extend_from_slice(answer.as_slice())?;
-            self.rows.extend_from_slice(b": ")?;
-            self.last = answer;
-        }
-        self.rows.extend_from_slice(what)?;
-        Ok(())
+/// Puts the head of a row; what has the same fault as what is before it stands behind that.
+fn put_head(out: &mut Text, last: Last, fault: Option<StoredRunFault>) -> Last {
+    if last == Some(fault) {
+        out.put(b"|");
+    } else {
+        out.put(b"\n  ");
+        put_answer(out, fault);
+        out.put(b": ");
     }
+    Some(fault)
 }
 
-/// Shows the fault of a text in which this record stands in the place of the one of this number.
-pub fn show_record(
-    alloc: Global,
-    out: &mut Vec<u8>,
-    side: Side,
-    text: &[u8],
+/// The fault of the text with another value in a field of a record.
+fn fault_with(
+    out: &mut Text,
+    tried: &Tried<'_>,
     number: usize,
-    record: &str,
-) -> Result<(), Memory> {
-    let bytes = bytes_of(alloc, record)?;
-    let text = with_record(alloc, text, number, bytes.as_slice())?;
-    let answer = answer_of(alloc, fault_of(alloc, side, text.as_slice()))?;
-    let line = format!(in alloc; "record {number} {record}\n  ")?;
-    out.extend_from_slice(line.as_bytes())?;
-    out.extend_from_slice(answer.as_slice())?;
-    out.push(b'\n')?;
-    Ok(())
+    field: usize,
+    value: &str,
+) -> Option<StoredRunFault> {
+    let edited = with_value(tried.alloc, tried.text, number, field, value);
+    out.is_whole = out.is_whole && edited.is_whole;
+    fault_of(tried.alloc, tried.side, edited.bytes.as_slice())
 }
 
-/// Adds the faults of a text with each of these values in a field.
-fn push_values(
-    alloc: Global,
-    table: &mut Table,
-    side: Side,
-    text: &[u8],
+/// Shows the fault of a text, and how many batches are read of batches.
+pub fn show_fault(out: &mut Text, tried: &Tried<'_>) {
+    match tried.side {
+        Side::Image => put_answer(out, fault_of(tried.alloc, Side::Image, tried.text)),
+        Side::Batches => {
+            let (count, fault) = read_all(tried.alloc, tried.text);
+            out.number("", count);
+            out.put(b" batches, ");
+            put_answer(out, fault);
+        }
+    }
+    out.put(b"\n");
+}
+
+/// Shows the fault of a text in which another record stands in the place of the one of a number.
+pub fn show_record(out: &mut Text, tried: &Tried<'_>, words: &str) {
+    let (number, record) = first_word(words);
+    out.put(b"record ");
+    out.line(words);
+    out.put(b"  ");
+    let fault = fault_with(out, tried, number_of(number), 0, record);
+    put_answer(out, fault);
+    out.put(b"\n");
+}
+
+/// Shows the faults of a text with each of these values in a field, behind the rows that there are.
+fn put_values(
+    out: &mut Text,
+    tried: &Tried<'_>,
     number: usize,
     field: usize,
     values: &str,
-) -> Result<(), Memory> {
+    before: Last,
+) -> Last {
+    let mut last = before;
     for value in values.split('|') {
-        let bytes = bytes_of(alloc, value)?;
-        let text = with_field(alloc, text, number, field, bytes.as_slice())?;
-        let answer = answer_of(alloc, fault_of(alloc, side, text.as_slice()))?;
-        table.push(answer, value.as_bytes())?;
+        let fault = fault_with(out, tried, number, field, value);
+        last = put_head(out, last, fault);
+        out.put(value.as_bytes());
     }
-    Ok(())
+    last
 }
 
-/// Shows the faults of a text with each of these values in a field.
-pub fn show_field(
-    alloc: Global,
-    out: &mut Vec<u8>,
-    side: Side,
-    text: &[u8],
-    number: usize,
-    field: usize,
-    values: &str,
-) -> Result<(), Memory> {
-    let head = format!(in alloc; "field {field} of record {number}")?;
-    out.extend_from_slice(head.as_bytes())?;
-    let mut table = Table::new(alloc);
-    push_values(alloc, &mut table, side, text, number, field, values)?;
-    out.extend_from_slice(table.rows.as_slice())?;
-    out.push(b'\n')?;
-    Ok(())
-}
-
-/// Adds the fault of each beginning of a text, by its length.
-fn push_cuts(alloc: Global, table: &mut Table, side: Side, text: &[u8]) -> Result<(), Memory> {
-    for length in 0..=text.len() {
-        let answer = answer_of(alloc, fault_of(alloc, side, &text[..length]))?;
-        let number = format!(in alloc; "{length}")?;
-        table.push(answer, number.as_bytes())?;
+/// Shows the faults of a text with each of these values in a field, and with each of the others.
+pub fn show_field(out: &mut Text, tried: &Tried<'_>, words: &str, also: &str) {
+    let (number, rest) = first_word(words);
+    let (field, values) = first_word(rest);
+    let (number, field) = (number_of(number), number_of(field));
+    out.number("field ", field);
+    out.number(" of record ", number);
+    let last = put_values(out, tried, number, field, values, None);
+    if !also.is_empty() {
+        let _ = put_values(out, tried, number, field, also, last);
     }
-    Ok(())
+    out.put(b"\n");
 }
 
 /// Shows the fault of each beginning of a text, by its length.
-pub fn show_cuts(alloc: Global, out: &mut Vec<u8>, side: Side, text: &[u8]) -> Result<(), Memory> {
-    out.extend_from_slice(b"cuts")?;
-    let mut table = Table::new(alloc);
-    push_cuts(alloc, &mut table, side, text)?;
-    out.extend_from_slice(table.rows.as_slice())?;
-    out.push(b'\n')?;
-    Ok(())
+pub fn show_cuts(out: &mut Text, tried: &Tried<'_>) {
+    out.put(b"cuts");
+    let mut last = None;
+    for length in 0..=tried.text.len() {
+        let fault = fault_of(tried.alloc, tried.side, &tried.text[..length]);
+        last = put_head(out, last, fault);
+        out.number("", length);
+    }
+    out.put(b"\n");
 }
