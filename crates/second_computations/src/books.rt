@@ -1,14 +1,11 @@
-//! What requests touch on a made database, computed a second time: from its rows by their keys, and from the numbers that it
-//! was made of.
-use crate::granules::{Touch, book, customer_row, district_row, stock_row, warehouse_row};
-use requests::request::{
-    CustomerChoice, Delivery, NewOrder, OrderStatus, OrderedLine, Payment, Request, StockLevel,
-};
+//! What requests touch on a made database, computed a second time: from their lines, from the database's rows by their keys, and
+//! from the numbers that it was made of.
+use crate::columns::{byte, column, short, word};
+use crate::granules::{BOOK, CUSTOMER, DISTRICT, STOCK, Touch, WAREHOUSE, packed};
 use rollback::PointedStore;
 use std::alloc::Global;
 use tpcc_rows::id::{DistrictId, LineNumber, OrderId, WarehouseId};
 use tpcc_rows::key::RowKey;
-use tpcc_rows::row::Row;
 
 /// The rows of a database that was made of so many warehouses, 45 customers in each district, and 100 items.
 #[derive(Clone, Copy)]
@@ -18,16 +15,68 @@ pub struct Books<'a> {
 }
 
 impl Books<'_> {
+    /// What the request of a line touches, in order.
+    pub fn touch(&self, alloc: Global, line: &str) -> Option<Touch> {
+        let mut touch = Touch::new(alloc);
+        if byte(line, 1) <= self.warehouses {
+            self.add(alloc, line, &mut touch)?;
+        }
+        touch.sort();
+        Some(touch)
+    }
+
+    fn add(&self, alloc: Global, line: &str, touch: &mut Touch) -> Option<()> {
+        match column(line, 0) {
+            "N" => self.order(line, touch),
+            "P" => self.pay(alloc, line, touch),
+            "O" => tell(alloc, line, touch),
+            "D" => self.deliver(WarehouseId::new(byte(line, 1))?, touch),
+            _ => self.look(line, touch),
+        }
+    }
+
+    /// The lines are of known items and warehouses.
+    fn are_known(&self, line: &str) -> bool {
+        for place in 1..16usize {
+            if 100 < word(line, 3 * place + 1) || self.warehouses < byte(line, 3 * place + 2) {
+                return false;
+            }
+        }
+        45 >= short(line, 3)
+    }
+
+    fn order(&self, line: &str, touch: &mut Touch) -> Option<()> {
+        if !self.are_known(line) {
+            return Some(());
+        }
+        touch.write(packed(DISTRICT, byte(line, 1), byte(line, 2), 0))?;
+        touch.write(packed(BOOK, byte(line, 1), byte(line, 2), 0))?;
+        for place in 1..16usize {
+            let item = word(line, 3 * place + 1);
+            if item != 0 {
+                touch.write(packed(STOCK, byte(line, 3 * place + 2), 0, item))?;
+            }
+        }
+        Some(())
+    }
+
+    fn pay(&self, alloc: Global, line: &str, touch: &mut Touch) -> Option<()> {
+        let customer = chosen(alloc, line, 5)?;
+        if self.warehouses < byte(line, 3) || customer == 0 {
+            return Some(());
+        }
+        touch.write(packed(WAREHOUSE, byte(line, 1), 0, 0))?;
+        touch.write(packed(DISTRICT, byte(line, 1), byte(line, 2), 0))?;
+        touch.write(packed(CUSTOMER, byte(line, 3), byte(line, 4), customer))
+    }
+
     /// D_NEXT_O_ID.
-    fn next_order(&self, warehouse: WarehouseId, district: DistrictId) -> u32 {
+    fn next_order(&self, warehouse: WarehouseId, district: DistrictId) -> Option<u32> {
         let key = RowKey::District {
             warehouse,
             district,
         };
-        match self.store.get(&key) {
-            Some(Row::District(row)) => row.next_order.number(),
-            _ => 0,
-        }
+        Some(self.store.get(&key)?.as_district()?.next_order.number())
     }
 
     fn is_new(&self, warehouse: WarehouseId, district: DistrictId, order: OrderId) -> bool {
@@ -39,111 +88,33 @@ impl Books<'_> {
         self.store.get(&key).is_some()
     }
 
-    /// The oldest new order of a district.
-    fn oldest(&self, warehouse: WarehouseId, district: DistrictId) -> Option<OrderId> {
-        for number in 1..self.next_order(warehouse, district) {
+    /// The customer, O_C_ID, of the oldest new order of a district, 0 where there is none.
+    fn oldest_customer(&self, warehouse: WarehouseId, district: DistrictId) -> Option<u32> {
+        for number in 1..self.next_order(warehouse, district)? {
             let order = OrderId::new(number)?;
             if self.is_new(warehouse, district, order) {
-                return Some(order);
+                let key = RowKey::Order {
+                    warehouse,
+                    district,
+                    order,
+                };
+                let customer = self.store.get(&key)?.as_order()?.customer;
+                return Some(u32::from(customer.number()));
             }
         }
-        None
+        Some(0)
     }
 
-    /// O_C_ID.
-    fn customer_of(&self, warehouse: WarehouseId, district: DistrictId, order: OrderId) -> u16 {
-        let key = RowKey::Order {
-            warehouse,
-            district,
-            order,
-        };
-        match self.store.get(&key) {
-            Some(Row::Order(row)) => row.customer.number(),
-            _ => 0,
-        }
-    }
-
-    /// What the request touches, in order.
-    pub fn touch(&self, alloc: Global, request: &Request) -> Option<Touch> {
-        let mut touch = Touch::new(alloc);
-        self.add(alloc, request, &mut touch)?;
-        touch.sort();
-        Some(touch)
-    }
-
-    fn add(&self, alloc: Global, request: &Request, touch: &mut Touch) -> Option<()> {
-        match request {
-            Request::NewOrder(p) => self.order(p, touch),
-            Request::Payment(p) => self.pay(alloc, p, touch),
-            Request::OrderStatus(p) => self.tell(alloc, p, touch),
-            Request::Delivery(p) => self.deliver(p, touch),
-            Request::StockLevel(p) => self.look(p, touch),
-        }
-    }
-
-    fn are_known(&self, lines: &[OrderedLine]) -> bool {
-        for line in lines {
-            if 100 < line.item.number() || self.warehouses < line.supply.number() {
-                return false;
+    fn deliver(&self, warehouse: WarehouseId, touch: &mut Touch) -> Option<()> {
+        let w = warehouse.number();
+        for d in 1..11u8 {
+            let customer = self.oldest_customer(warehouse, DistrictId::new(d)?)?;
+            if customer == 0 {
+                touch.read(packed(BOOK, w, d, 0))?;
+            } else {
+                touch.write(packed(BOOK, w, d, 0))?;
+                touch.write(packed(CUSTOMER, w, d, customer))?;
             }
-        }
-        true
-    }
-
-    fn order(&self, p: &NewOrder, touch: &mut Touch) -> Option<()> {
-        let (w, d, lines) = (
-            p.warehouse.number(),
-            p.district.number(),
-            p.lines.as_slice(),
-        );
-        if self.warehouses < w || 45 < p.customer.number() || !self.are_known(lines) {
-            return Some(());
-        }
-        touch.write(district_row(w, d))?;
-        touch.write(book(w, d))?;
-        for line in lines {
-            touch.write(stock_row(line.supply.number(), line.item.number()))?;
-        }
-        Some(())
-    }
-
-    fn pay(&self, alloc: Global, p: &Payment, touch: &mut Touch) -> Option<()> {
-        let (w, d) = (p.warehouse.number(), p.district.number());
-        let (cw, cd) = (p.customer_warehouse.number(), p.customer_district.number());
-        let customer = chosen(alloc, &p.customer)?;
-        if self.warehouses < w || self.warehouses < cw || customer == 0 {
-            return Some(());
-        }
-        touch.write(warehouse_row(w))?;
-        touch.write(district_row(w, d))?;
-        touch.write(customer_row(cw, cd, customer))
-    }
-
-    fn tell(&self, alloc: Global, p: &OrderStatus, touch: &mut Touch) -> Option<()> {
-        let (w, d) = (p.warehouse.number(), p.district.number());
-        let customer = chosen(alloc, &p.customer)?;
-        if self.warehouses < w || customer == 0 {
-            return Some(());
-        }
-        touch.read(customer_row(w, d, customer))?;
-        touch.read(book(w, d))
-    }
-
-    fn deliver_in(&self, w: WarehouseId, d: DistrictId, touch: &mut Touch) -> Option<()> {
-        let granule = book(w.number(), d.number());
-        let Some(order) = self.oldest(w, d) else {
-            return touch.read(granule);
-        };
-        touch.write(granule)?;
-        touch.write(customer_row(w.number(), d.number(), self.customer_of(w, d, order)))
-    }
-
-    fn deliver(&self, p: &Delivery, touch: &mut Touch) -> Option<()> {
-        if self.warehouses < p.warehouse.number() {
-            return Some(());
-        }
-        for district in 1..11 {
-            self.deliver_in(p.warehouse, DistrictId::new(district)?, touch)?;
         }
         Some(())
     }
@@ -163,46 +134,51 @@ impl Books<'_> {
                 order,
                 number: LineNumber::new(line)?,
             };
-            if let Some(Row::OrderLine(row)) = self.store.get(&key) {
-                touch.read(stock_row(warehouse.number(), row.item.number()))?;
+            if let Some(row) = self.store.get(&key) {
+                let item = row.as_order_line()?.item.number();
+                touch.read(packed(STOCK, warehouse.number(), 0, item))?;
             }
         }
         Some(())
     }
 
-    fn look(&self, p: &StockLevel, touch: &mut Touch) -> Option<()> {
-        let (w, d) = (p.warehouse.number(), p.district.number());
-        if self.warehouses < w {
-            return Some(());
-        }
-        touch.read(district_row(w, d))?;
-        touch.read(book(w, d))?;
-        let next = self.next_order(p.warehouse, p.district);
+    fn look(&self, line: &str, touch: &mut Touch) -> Option<()> {
+        let (w, d) = (byte(line, 1), byte(line, 2));
+        let (warehouse, district) = (WarehouseId::new(w)?, DistrictId::new(d)?);
+        touch.read(packed(DISTRICT, w, d, 0))?;
+        touch.read(packed(BOOK, w, d, 0))?;
+        let next = self.next_order(warehouse, district)?;
         for order in next.saturating_sub(20).max(1)..next {
-            self.look_at(p.warehouse, p.district, OrderId::new(order)?, touch)?;
+            self.look_at(warehouse, district, OrderId::new(order)?, touch)?;
         }
         Some(())
     }
 }
 
-/// The number of the customer whom a request means, 0 where there is none.
-fn chosen(alloc: Global, choice: &CustomerChoice) -> Option<u16> {
-    match choice {
-        CustomerChoice::Number(c) if c.number() <= 45 => Some(c.number()),
-        CustomerChoice::Number(_) => Some(0),
-        CustomerChoice::LastName(last) => middle(alloc, last.as_bytes()),
+fn tell(alloc: Global, line: &str, touch: &mut Touch) -> Option<()> {
+    let customer = chosen(alloc, line, 3)?;
+    if customer == 0 {
+        return Some(());
     }
+    touch.read(packed(CUSTOMER, byte(line, 1), byte(line, 2), customer))?;
+    touch.read(packed(BOOK, byte(line, 1), byte(line, 2), 0))
 }
 
-fn is_named(customer: u16, last: &[u8]) -> bool {
-    last == [b'N', b'A', b'M', b'E', b'0' + (customer % 10) as u8].as_slice()
+/// The number of the customer whom a request means at these columns, 0 where there is none.
+fn chosen(alloc: Global, line: &str, place: usize) -> Option<u32> {
+    let name = column(line, place.saturating_add(1));
+    if column(line, place) == "L" {
+        return middle(alloc, name.strip_prefix("NAME")?.parse().ok()?);
+    }
+    let customer = name.parse().ok()?;
+    Some(if customer <= 45 { customer } else { 0 })
 }
 
-/// Of the customers of a last name, by first name and number, the one in the middle.
-fn middle(alloc: Global, last: &[u8]) -> Option<u16> {
+/// Of the customers whose last name ends with this number, by first name and number, the one in the middle, 0 where there is none.
+fn middle(alloc: Global, ending: u32) -> Option<u32> {
     let mut holders = Vec::new(alloc);
-    for customer in 1..46u16 {
-        if is_named(customer, last) {
+    for customer in 1..46u32 {
+        if customer % 10 == ending {
             holders.push((9 - customer / 20 % 10, customer)).ok()?;
         }
     }

@@ -1,32 +1,35 @@
 //! Batches that look random: what is declared and how it is cut, against the second computation.
 use crate::books::Books;
-use crate::database::{Database, Plan};
-use crate::dice::Dice;
-use crate::granules::Touch;
+use crate::database::{Scene, scene_of};
+use crate::drawn::{Dice, random_requests};
+use crate::granules::{Touch, touch_of};
 use crate::levels::{places_of, second_levels};
 use crate::printing::print_agreeing;
-use crate::random::random_batch;
 use mixer::Cut;
-use requests::request::Batch;
 use std::alloc::Global;
 use tpcc_rows::footprint::Footprint;
 
 /// How many batches are compared.
-const BATCHES: u64 = 64;
+const BATCHES: u32 = 64;
 
-/// Whether what each request is declared to touch is what it touches by the second computation, which is appended.
-fn are_touches(
-    alloc: Global,
-    books: &Books<'_>,
-    batch: &Batch,
-    footprints: &[Footprint],
-    touches: &mut Vec<Touch>,
-) -> Option<bool> {
-    let mut all = footprints.len() == batch.requests.len();
-    for (request, footprint) in batch.requests.as_slice().iter().zip(footprints.iter()) {
-        let touch = books.touch(alloc, request)?;
-        all = touch.is_declared(alloc, footprint)? && all;
-        touches.push(touch).ok()?;
+/// What each request touches by the second computation.
+fn touches(alloc: Global, books: &Books<'_>, requests: &str) -> Option<Vec<Touch>> {
+    let mut touches = Vec::new(alloc);
+    for line in requests.lines() {
+        touches.push(books.touch(alloc, line)?).ok()?;
+    }
+    Some(touches)
+}
+
+fn is_declared(alloc: Global, touch: &Touch, footprint: &Footprint) -> Option<bool> {
+    let declared = touch_of(alloc, footprint)?;
+    Some(touch.reads == declared.reads && touch.writes == declared.writes)
+}
+
+fn are_declared(alloc: Global, touches: &[Touch], footprints: &[Footprint]) -> Option<bool> {
+    let mut all = touches.len() == footprints.len();
+    for (touch, footprint) in touches.iter().zip(footprints.iter()) {
+        all = is_declared(alloc, touch, footprint)? && all;
     }
     Some(all)
 }
@@ -36,41 +39,35 @@ fn is_cut(alloc: Global, cut: &Cut, levels: &[usize]) -> Option<bool> {
     let mut all = true;
     let mut count = 0usize;
     for level in 0..cut.depth() {
-        let places = places_of(alloc, levels, level).ok()?;
+        let places = places_of(alloc, levels, level)?;
         all = !places.is_empty() && cut.level(level) == Some(places.as_slice()) && all;
         count = count.saturating_add(places.len());
     }
     Some(all && count == levels.len())
 }
 
-fn is_plan(alloc: Global, books: &Books<'_>, batch: &Batch, plan: &Plan) -> Option<bool> {
-    let mut touches = Vec::new(alloc);
-    let are_declared = are_touches(alloc, books, batch, &plan.footprints, &mut touches)?;
-    let levels = second_levels(alloc, &touches).ok()?;
-    Some(is_cut(alloc, &plan.cut, &levels)? && are_declared)
-}
-
-fn agree_on(alloc: Global, database: &Database, batch: &Batch) -> Option<bool> {
+fn agree_on(alloc: Global, scene: &Scene, requests: &str) -> Option<bool> {
     let books = Books {
         warehouses: 2,
-        store: &database.store,
+        store: &scene.database.store,
     };
-    is_plan(alloc, &books, batch, &database.plan(alloc, batch)?)
+    let touches = touches(alloc, &books, requests)?;
+    let levels = second_levels(alloc, &touches)?;
+    Some(are_declared(alloc, &touches, &scene.footprints)? && is_cut(alloc, &scene.cut, &levels)?)
 }
 
 /// Whether the computations agree on thirty requests after forty others.
 fn agree(alloc: Global, seed: u64) -> Option<bool> {
-    let mut dice = Dice::new(seed);
-    let earlier = random_batch(alloc, &mut dice, 40)?;
-    let batch = random_batch(alloc, &mut dice, 30)?;
-    let database = Database::after(alloc, 2, &earlier)?;
-    agree_on(alloc, &database, &batch)
+    let mut dice = Dice { state: seed };
+    let earlier = random_requests(alloc, &mut dice, 40)?;
+    let requests = random_requests(alloc, &mut dice, 30)?;
+    agree_on(alloc, &scene_of(alloc, 2, &earlier, &requests)?, &requests)
 }
 
 pub fn show(rt: &impl Print, alloc: Global) -> Option<()> {
-    let mut agreeing = 0u64;
-    for seed in 1..BATCHES + 1 {
-        agreeing = agreeing.saturating_add(u64::from(agree(alloc, seed)?));
+    let mut agreeing = 0u32;
+    for seed in 0..BATCHES {
+        agreeing = agreeing.saturating_add(u32::from(agree(alloc, u64::from(seed))?));
     }
     print_agreeing(
         rt,

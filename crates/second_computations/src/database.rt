@@ -1,132 +1,154 @@
 //! Made databases, and what batches do to them.
-ghost use Rattle.tpcc_rows.specs.Limits.{IsBetween};
-
 use catalog::Catalog;
 use made_database::make;
+use merkle::Tree;
 use mixer::{Cut, mix};
 use profiles::declare;
-use requests::BatchReader;
 use requests::reply::Reply;
-use requests::request::Batch;
+use requests::request::{Batch, Request};
+use requests::{BatchReader, write_reply};
 use rollback::PointedStore;
+use sha2::{Digest, Sha256};
 use std::alloc::Global;
+use std::thread::Threads;
 use tpcc_rows::delta::Delta;
 use tpcc_rows::footprint::Footprint;
 use tpcc_rows::id::RequestNumber;
-use transactions::{ExecError, execute};
-use worker_rows::{RowView, Whole};
-
-/// The most requests that a batch may have.
-const MOST_REQUESTS: usize = 1_024;
+use transactions::execute;
+use worker_rows::Whole;
 
 /// The batch of these requests, each of them a record on a line of its own.
-pub fn batch_of(alloc: Global, requests: &str) -> Option<Batch> {
+fn batch_of(alloc: Global, requests: &str) -> Option<Batch> {
     let count = requests.lines().count();
     let text = format!(in alloc; "B,0,commit,{count}\n{requests}").ok()?;
     let mut reader = BatchReader::new(alloc, text.as_bytes()).ok()?;
     reader.next_batch(alloc).ok()?
 }
 
-/// What each request of a batch is declared to touch, and the cut of the batch.
-#[derive(Drop)]
-pub struct Plan {
-    pub footprints: Vec<Footprint>,
-    pub cut: Cut,
-}
-
-/// The made database of so many warehouses after these requests.
-pub fn after_requests(alloc: Global, warehouses: u8, earlier: &str) -> Option<Database>
-    requires { IsBetween 1 100 warehouses }
-{
-    let earlier = batch_of(alloc, earlier)?;
-    Database::after(alloc, warehouses, &earlier)
-}
-
-/// A database, and the number of the next request.
+/// A database.
 #[derive(Drop)]
 pub struct Database {
     pub catalog: Catalog,
     pub store: PointedStore,
+    /// The number of the first request of the next batch.
     next: u64,
+    /// The digest of each reply, which begins with its request's number.
+    replies: Vec<[u8; 32]>,
 }
 
 impl Database {
-    /// The made database of so many warehouses, 45 customers in each district, and 100 items.
-    fn made(alloc: Global, warehouses: u8) -> Option<Database>
-        requires { IsBetween 1 100 warehouses }
-    {
-        let (catalog, store) = make(alloc, warehouses, 45, 100).ok()?;
-        Some(Database {
-            catalog,
-            store,
-            next: 1,
-        })
-    }
-
-    /// The made database of so many warehouses, after this batch.
-    pub fn after(alloc: Global, warehouses: u8, earlier: &Batch) -> Option<Database>
-        requires { IsBetween 1 100 warehouses }
-    {
-        let mut database = Database::made(alloc, warehouses)?;
-        database.execute(alloc, earlier)?;
-        Some(database)
-    }
-
-    /// The number of the request of a place of the batch that is executed next.
+    /// The number of the request of a place of the next batch.
     pub fn number(&self, place: usize) -> Option<RequestNumber> {
         RequestNumber::new(self.next.saturating_add(place as u64))
     }
 
-    /// What the request of a place does on a view of rows.
-    pub fn step_on<V: RowView>(
-        &self,
-        alloc: Global,
-        batch: &Batch,
-        place: usize,
-        view: &V,
-    ) -> Option<Result<(Reply, Delta), ExecError>> {
+    /// What the request of a place does on all rows.
+    pub fn step(&self, alloc: Global, batch: &Batch, place: usize) -> Option<(Reply, Delta)> {
         let request = batch.requests.as_slice().get(place)?;
         let number = self.number(place)?;
-        Some(execute(alloc, &self.catalog, request, number, batch.moment, view))
-    }
-
-    /// The reply to the request of a place, and the rows that it changes.
-    pub fn step(&self, alloc: Global, batch: &Batch, place: usize) -> Option<(Reply, Delta)> {
         let view = Whole { store: &self.store };
-        self.step_on(alloc, batch, place, &view)?.ok()
+        execute(alloc, &self.catalog, request, number, batch.moment, &view).ok()
     }
 
-    /// Executes a batch, one request after the other.
-    fn execute(&mut self, alloc: Global, batch: &Batch) -> Option<()> {
-        for place in 0..batch.requests.len() {
-            let (_, delta) = self.step(alloc, batch, place)?;
-            self.store.apply(&delta).ok()?;
+    /// The changes of the request of a place, whose reply is noted.
+    fn noted_step(&mut self, alloc: Global, batch: &Batch, place: usize) -> Option<Delta> {
+        let (reply, delta) = self.step(alloc, batch, place)?;
+        let mut text = Vec::new(alloc);
+        write_reply(alloc, self.number(place)?, &reply, &mut text).ok()?;
+        self.replies.push(Sha256::digest(text.as_slice())).ok()?;
+        Some(delta)
+    }
+
+    fn apply(&mut self, deltas: &[Delta]) -> Option<()> {
+        for delta in deltas {
+            self.store.apply(delta).ok()?;
         }
-        self.next = self.next.saturating_add(batch.requests.len() as u64);
         Some(())
     }
 
-    /// What the request of a place is declared to touch.
-    pub fn declare(&self, alloc: Global, batch: &Batch, place: usize) -> Option<Footprint> {
-        let request = batch.requests.as_slice().get(place)?;
+    /// Executes each of these requests on the rows as they are; then all changes are made.
+    pub fn execute(&mut self, alloc: Global, batch: &Batch, places: &[usize]) -> Option<()> {
+        let mut deltas = Vec::new(alloc);
+        for place in places {
+            deltas.push(self.noted_step(alloc, batch, *place)?).ok()?;
+        }
+        self.apply(&deltas)
+    }
+
+    /// Executes a batch, one request after the other.
+    pub fn execute_all(&mut self, alloc: Global, batch: &Batch) -> Option<()> {
+        for place in 0..batch.requests.len() {
+            self.execute(alloc, batch, &[place])?;
+        }
+        Some(())
+    }
+
+    /// The digest of all rows and replies.
+    pub fn digest<R: Threads + Sync>(&mut self, rt: &R, alloc: Global) -> Option<[u8; 32]> {
+        let root = Tree::build(rt, alloc, &self.store).ok()?.root();
+        self.replies.sort_unstable();
+        let mut hasher = Sha256::new();
+        hasher.update(root.as_slice());
+        for reply in &self.replies {
+            hasher.update(reply.as_slice());
+        }
+        Some(hasher.finalize())
+    }
+
+    /// What a request is declared to touch.
+    pub fn declare(&self, alloc: Global, request: &Request) -> Option<Footprint> {
         declare(alloc, &self.catalog, request, &self.store).ok()
     }
 
-    fn declare_all(&self, alloc: Global, batch: &Batch) -> Option<Vec<Footprint>> {
+    fn footprints(&self, alloc: Global, batch: &Batch) -> Option<Vec<Footprint>> {
         let mut footprints = Vec::new(alloc);
-        for place in 0..batch.requests.len() {
-            footprints.push(self.declare(alloc, batch, place)?).ok()?;
+        for request in batch.requests.as_slice() {
+            footprints.push(self.declare(alloc, request)?).ok()?;
         }
         Some(footprints)
     }
+}
 
-    /// What a batch is declared to touch, and how it is cut.
-    pub fn plan(&self, alloc: Global, batch: &Batch) -> Option<Plan> {
-        let footprints = self.declare_all(alloc, batch)?;
-        if footprints.len() > MOST_REQUESTS {
-            return None;
-        }
-        let cut = mix(alloc, &footprints).ok()?;
-        Some(Plan { footprints, cut })
+/// The made database of so many warehouses, 45 customers in each district, and 100 items, after these requests.
+fn after(alloc: Global, warehouses: u8, earlier: &str) -> Option<Database> {
+    if warehouses < 1 || 100 < warehouses {
+        return None;
     }
+    let batch = batch_of(alloc, earlier)?;
+    let (catalog, store) = make(alloc, warehouses, 45, 100).ok()?;
+    let mut database = Database {
+        catalog,
+        store,
+        next: 1,
+        replies: Vec::new(alloc),
+    };
+    database.execute_all(alloc, &batch)?;
+    database.next = 1u64.saturating_add(batch.requests.len() as u64);
+    Some(database)
+}
+
+/// A database, a batch, what each of its requests is declared to touch, and the cut of the batch.
+#[derive(Drop)]
+pub struct Scene {
+    pub database: Database,
+    pub batch: Batch,
+    pub footprints: Vec<Footprint>,
+    pub cut: Cut,
+}
+
+/// A batch of requests to a made database of so many warehouses after the earlier requests.
+pub fn scene_of(alloc: Global, warehouses: u8, earlier: &str, requests: &str) -> Option<Scene> {
+    let database = after(alloc, warehouses, earlier)?;
+    let batch = batch_of(alloc, requests)?;
+    let footprints = database.footprints(alloc, &batch)?;
+    if 1_024 < footprints.len() {
+        return None;
+    }
+    let cut = mix(alloc, &footprints).ok()?;
+    Some(Scene {
+        database,
+        batch,
+        footprints,
+        cut,
+    })
 }

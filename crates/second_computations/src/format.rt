@@ -1,151 +1,75 @@
-//! The bytes of a row, hashed field by field as they are written down.
-use sha2::{Digest, Sha256};
-use tpcc_rows::id::{DistrictId, OrderId, WarehouseId};
-use tpcc_rows::key::RowKey;
-use tpcc_rows::row::{CustomerRow, HistoryRow, OrderLineRow, OrderRow, Row, StockRow};
+//! The bytes of rows, as they are written down, from their lines.
+use crate::columns::{byte, column, long, signed};
+use std::alloc::Global;
 
-fn in_district(warehouse: WarehouseId, district: DistrictId) -> u64 {
-    (u64::from(warehouse.number()) << 4) | u64::from(district.number())
+/// Of each kind of rows, from its number: by which number the code of the columns before is multiplied, for each column of the key;
+/// how many bytes each column of the body takes; how many the length of the text behind it takes, 0 where there is no text.
+const LAYOUTS: &str = "\
+1,1,8,0
+2,1 16,8 4,0
+3,1 16 4096,8 8 4 4,2
+4,1 131072,4 4 4 4,0
+5,1 16 16777216,2 8 1 1 1,0
+6,1 16 16777216,,0
+7,1 16 16777216 16,4 1 1 8 1 4,1
+8,1,2 1 1 1 1 8 4,1
+";
+
+fn layout_of(line: &str) -> &'static str {
+    let place = usize::from(byte(line, 0)).saturating_sub(1);
+    LAYOUTS.lines().nth(place).unwrap_or("")
 }
 
-fn in_orders(warehouse: WarehouseId, district: DistrictId, order: OrderId) -> u64 {
-    (in_district(warehouse, district) << 24) | u64::from(order.number())
-}
-
-/// The number of a key's table, and what follows it in the code.
-fn columns(key: &RowKey) -> (u64, u64) {
-    match *key {
-        RowKey::Warehouse { warehouse: w } => (1, u64::from(w.number())),
-        RowKey::District {
-            warehouse: w,
-            district: d,
-        } => (2, in_district(w, d)),
-        RowKey::Customer {
-            warehouse: w,
-            district: d,
-            customer: c,
-        } => (3, (in_district(w, d) << 12) | u64::from(c.number())),
-        RowKey::Stock {
-            warehouse: w,
-            item: i,
-        } => (4, (u64::from(w.number()) << 17) | u64::from(i.number())),
-        RowKey::Order {
-            warehouse: w,
-            district: d,
-            order: o,
-        } => (5, in_orders(w, d, o)),
-        RowKey::NewOrder {
-            warehouse: w,
-            district: d,
-            order: o,
-        } => (6, in_orders(w, d, o)),
-        RowKey::OrderLine {
-            warehouse: w,
-            district: d,
-            order: o,
-            number: n,
-        } => (7, (in_orders(w, d, o) << 4) | u64::from(n.number())),
-        RowKey::History { number } => (8, number.number()),
+/// The code of a row's key.
+pub fn code(line: &str) -> u64 {
+    let mut rest = 0u64;
+    let mut place = 1usize;
+    for factor in column(layout_of(line), 1).split_whitespace() {
+        rest = rest
+            .wrapping_mul(factor.parse().unwrap_or(0))
+            .wrapping_add(long(line, place));
+        place = place.saturating_add(1);
     }
+    (u64::from(byte(line, 0)) << 56) | rest
 }
 
-/// The code of a key.
-pub fn code(key: &RowKey) -> u64 {
-    let (table, rest) = columns(key);
-    (table << 56) | rest
+/// Appends the last bytes of a number, the highest first.
+fn push_number(number: i64, bytes: usize, out: &mut Vec<u8>) -> Option<()> {
+    let all = number.to_be_bytes();
+    let last = all.as_slice().get(8usize.saturating_sub(bytes)..)?;
+    out.extend_from_slice(last).ok()
 }
 
-/// How many bytes the body of a row has.
-fn length(row: &Row) -> u16 {
-    match row {
-        Row::Warehouse(_) => 8,
-        Row::District(_) => 12,
-        Row::Customer(shared) => 26 + shared.row().data.as_bytes().len() as u16,
-        Row::Stock(_) => 16,
-        Row::Order(_) => 13,
-        Row::NewOrder => 0,
-        Row::OrderLine(row) => 20 + row.district_info.as_bytes().len() as u16,
-        Row::History(row) => 19 + row.data.as_bytes().len() as u16,
+/// Appends the columns of the body, the length of the text, and the text.
+fn push_body(line: &str, layout: &str, out: &mut Vec<u8>) -> Option<()> {
+    let mut place = column(layout, 1)
+        .split_whitespace()
+        .count()
+        .saturating_add(1);
+    for bytes in column(layout, 2).split_whitespace() {
+        push_number(signed(line, place), bytes.parse().ok()?, out)?;
+        place = place.saturating_add(1);
     }
+    let text = column(line, place).as_bytes();
+    push_number(text.len() as i64, usize::from(byte(layout, 3)), out)?;
+    out.extend_from_slice(text).ok()
 }
 
-fn hash_customer(row: &CustomerRow, hasher: &mut Sha256) {
-    let text = row.data.as_bytes();
-    hasher.update(row.balance.amount().to_be_bytes().as_slice());
-    hasher.update(row.ytd_payment.amount().to_be_bytes().as_slice());
-    hasher.update(row.payment_count.value().to_be_bytes().as_slice());
-    hasher.update(row.delivery_count.value().to_be_bytes().as_slice());
-    hasher.update((text.len() as u16).to_be_bytes().as_slice());
-    hasher.update(text);
+/// The code of a row's key, and the bytes of its body.
+pub type Entry = (u64, Vec<u8>);
+
+fn entry_of(alloc: Global, line: &str) -> Option<Entry> {
+    let mut body = Vec::new(alloc);
+    push_body(line, layout_of(line), &mut body)?;
+    Some((code(line), body))
 }
 
-fn hash_stock(row: &StockRow, hasher: &mut Sha256) {
-    hasher.update(i32::from(row.quantity.value()).to_be_bytes().as_slice());
-    hasher.update(row.ytd.value().to_be_bytes().as_slice());
-    hasher.update(row.order_count.value().to_be_bytes().as_slice());
-    hasher.update(row.remote_count.value().to_be_bytes().as_slice());
-}
-
-fn hash_order(row: &OrderRow, hasher: &mut Sha256) {
-    let carrier = match row.carrier {
-        Some(carrier) => carrier.number(),
-        None => 0,
-    };
-    hasher.update(row.customer.number().to_be_bytes().as_slice());
-    hasher.update(row.entry.seconds().to_be_bytes().as_slice());
-    hasher.update([carrier, row.line_count.number(), u8::from(row.all_local)].as_slice());
-}
-
-fn hash_order_line(row: &OrderLineRow, hasher: &mut Sha256) {
-    let text = row.district_info.as_bytes();
-    let (is_delivered, delivery) = match row.delivery {
-        Some(moment) => (1, moment.seconds()),
-        None => (0, 0),
-    };
-    hasher.update(row.item.number().to_be_bytes().as_slice());
-    hasher.update([row.supply.number(), is_delivered].as_slice());
-    hasher.update(delivery.to_be_bytes().as_slice());
-    hasher.update([row.quantity.value()].as_slice());
-    hasher.update(row.amount.cents().to_be_bytes().as_slice());
-    hasher.update([text.len() as u8].as_slice());
-    hasher.update(text);
-}
-
-fn hash_history(row: &HistoryRow, hasher: &mut Sha256) {
-    let text = row.data.as_bytes();
-    let places = [
-        row.customer_district.number(),
-        row.customer_warehouse.number(),
-        row.district.number(),
-        row.warehouse.number(),
-    ];
-    hasher.update(row.customer.number().to_be_bytes().as_slice());
-    hasher.update(places.as_slice());
-    hasher.update(row.date.seconds().to_be_bytes().as_slice());
-    hasher.update(row.amount.cents().to_be_bytes().as_slice());
-    hasher.update([text.len() as u8].as_slice());
-    hasher.update(text);
-}
-
-fn hash_body(row: &Row, hasher: &mut Sha256) {
-    match row {
-        Row::Warehouse(row) => hasher.update(row.ytd.amount().to_be_bytes().as_slice()),
-        Row::District(row) => {
-            hasher.update(row.ytd.amount().to_be_bytes().as_slice());
-            hasher.update(row.next_order.number().to_be_bytes().as_slice());
-        }
-        Row::Customer(shared) => hash_customer(shared.row(), hasher),
-        Row::Stock(row) => hash_stock(row, hasher),
-        Row::Order(row) => hash_order(row, hasher),
-        Row::NewOrder => {}
-        Row::OrderLine(row) => hash_order_line(row, hasher),
-        Row::History(row) => hash_history(row, hasher),
+/// The rows in rising code.
+pub fn entries(alloc: Global, lines: &[&str]) -> Option<Vec<Entry>> {
+    let mut entries = Vec::new(alloc);
+    for line in lines {
+        entries.push(entry_of(alloc, line)?).ok()?;
     }
-}
-
-/// Hashes a row: the code of its key, the length of its body, and the body.
-pub fn hash_row(key: &RowKey, row: &Row, hasher: &mut Sha256) {
-    hasher.update(code(key).to_be_bytes().as_slice());
-    hasher.update(length(row).to_be_bytes().as_slice());
-    hash_body(row, hasher);
+    entries.sort_unstable();
+    Some(entries)
 }

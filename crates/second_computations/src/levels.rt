@@ -1,60 +1,53 @@
 //! The levels of a batch, computed a second time from what its requests touch.
 use crate::granules::{Packed, Touch};
-use std::alloc::{AllocError, Global};
+use std::alloc::Global;
 
-fn bit(granule: Packed) -> u64 {
-    granule.wrapping_mul(11_400_714_819_323_198_485) >> 55
+fn bit(granule: Packed) -> usize {
+    (granule.wrapping_mul(11_400_714_819_323_198_485) >> 55) as usize
 }
 
-fn has_bit(granules: &[Packed], wanted: u64) -> bool {
+/// The highest of the granules' floors.
+fn highest(floors: &[usize], granules: &[Packed]) -> usize {
+    let mut highest = 0usize;
     for granule in granules {
-        if bit(*granule) == wanted {
-            return true;
+        if let Some(floor) = floors.get(bit(*granule)) {
+            highest = highest.max(*floor);
         }
     }
-    false
+    highest
 }
 
-fn share_a_bit(granules: &[Packed], others: &[Packed]) -> bool {
+/// Raises the granules' floors to this one.
+fn raise(floors: &mut [usize], granules: &[Packed], to: usize) {
     for granule in granules {
-        if has_bit(others, bit(*granule)) {
-            return true;
+        if let Some(floor) = floors.get_mut(bit(*granule)) {
+            *floor = (*floor).max(to);
         }
     }
-    false
 }
 
-fn meet(one: &Touch, other: &Touch) -> bool {
-    share_a_bit(&one.writes, &other.reads) || share_a_bit(&other.writes, &one.reads)
-}
-
-/// One more than the highest level of the earlier requests that a request meets.
-fn level_of(touch: &Touch, touches: &[Touch], levels: &[usize]) -> usize {
-    let mut above = 0usize;
-    for (earlier, level) in touches.iter().zip(levels.iter()) {
-        if meet(earlier, touch) {
-            above = above.max(level.saturating_add(1));
-        }
-    }
-    above
-}
-
-/// The level of each request of a batch.
-pub fn second_levels(alloc: Global, touches: &[Touch]) -> Result<Vec<usize>, AllocError> {
+/// The level of each request of a batch: one more than the highest level of an earlier request that writes a bit which this one
+/// reads, or reads one which this one writes. The floors are the least levels of requests that may write a bit, and that may read it.
+pub fn second_levels(alloc: Global, touches: &[Touch]) -> Option<Vec<usize>> {
     let mut levels = Vec::new(alloc);
+    let mut to_write = vec![in alloc; 0usize; 512].ok()?;
+    let mut to_read = vec![in alloc; 0usize; 512].ok()?;
     for touch in touches {
-        levels.push(level_of(touch, touches, &levels))?;
+        let level = highest(&to_write, &touch.writes).max(highest(&to_read, &touch.reads));
+        raise(&mut to_write, &touch.reads, level.saturating_add(1));
+        raise(&mut to_read, &touch.writes, level.saturating_add(1));
+        levels.push(level).ok()?;
     }
-    Ok(levels)
+    Some(levels)
 }
 
 /// The places whose level is this, in rising order.
-pub fn places_of(alloc: Global, levels: &[usize], wanted: usize) -> Result<Vec<usize>, AllocError> {
+pub fn places_of(alloc: Global, levels: &[usize], wanted: usize) -> Option<Vec<usize>> {
     let mut places = Vec::new(alloc);
     for (place, level) in levels.iter().enumerate() {
         if *level == wanted {
-            places.push(place)?;
+            places.push(place).ok()?;
         }
     }
-    Ok(places)
+    Some(places)
 }

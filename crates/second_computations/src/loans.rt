@@ -1,174 +1,112 @@
 //! Requests on loans: of what they are declared to touch, and of less.
-use crate::database::{Database, after_requests, batch_of};
-use crate::worked_requests::{ORDER, SEVEN_ORDERS};
+use crate::database::Scene;
 use requests::reply::Reply;
-use requests::request::Batch;
 use requests::write_reply;
 use std::alloc::Global;
 use tpcc_rows::delta::Delta;
 use tpcc_rows::encoding::encode_row;
 use tpcc_rows::footprint::Footprint;
 use tpcc_rows::granule::Granule;
-use tpcc_rows::memory::Memory;
 use tpcc_rows::row_buf::RowBuf;
-use transactions::ExecError;
+use transactions::{ExecError, execute};
 use worker_rows::Loan;
 
-/// What a request is, the requests that were executed before, and the request.
-const REQUESTS: [(&str, &str, &str); 7] = [
-    ("an order", "", ORDER),
-    (
-        "an order with an item twice",
-        "",
-        "N,1,1,1,15,1,10,15,1,10,20,1,1,1,1,1,2,1,1\n",
-    ),
-    ("a payment", "", "P,1,1,1,1,L,NAME7,1000\n"),
-    ("an order status", ORDER, "O,1,1,I,1\n"),
-    ("a delivery of seven orders", SEVEN_ORDERS, "D,1,5\n"),
-    ("a stock level", ORDER, "S,1,1,12\n"),
-    (
-        "an order with an item that is no one's",
-        "",
-        "N,1,1,1,1,1,1,2,1,1,3,1,1,4,1,1,999999,1,1\n",
-    ),
-];
-
-fn push_changes(delta: &Delta, bytes: &mut Vec<u8>) -> Result<(), Memory> {
+fn push_changes(delta: &Delta, bytes: &mut Vec<u8>) -> Option<()> {
     let mut buffer = RowBuf::new();
     for (key, change) in delta.as_slice() {
         match change {
             Some(row) => encode_row(key, row, &mut buffer),
             None => buffer.clear(),
         }
-        bytes.extend_from_slice(buffer.as_slice())?;
+        bytes.extend_from_slice(buffer.as_slice()).ok()?;
     }
-    Ok(())
-}
-
-/// A database, and a batch of one request.
-#[derive(Clone, Copy)]
-struct Case<'a> {
-    database: &'a Database,
-    batch: &'a Batch,
-}
-
-impl Case<'_> {
-    /// The record of a reply, and behind it the bytes of the changed rows.
-    fn outcome(&self, alloc: Global, reply: &Reply, delta: &Delta) -> Option<Vec<u8>> {
-        let mut bytes = Vec::new(alloc);
-        write_reply(alloc, self.database.number(0)?, reply, &mut bytes).ok()?;
-        push_changes(delta, &mut bytes).ok()?;
-        Some(bytes)
-    }
-
-    /// What the request does on all rows.
-    fn on_all_rows(&self, alloc: Global) -> Option<Vec<u8>> {
-        let (reply, delta) = self.database.step(alloc, self.batch, 0)?;
-        self.outcome(alloc, &reply, &delta)
-    }
-
-    fn step_on(
-        &self,
-        alloc: Global,
-        footprint: &Footprint,
-    ) -> Option<Result<(Reply, Delta), ExecError>> {
-        let loan = Loan {
-            store: &self.database.store,
-            footprint,
-        };
-        self.database.step_on(alloc, self.batch, 0, &loan)
-    }
-
-    /// Whether on a loan of the footprint the request does what it does on all rows.
-    fn suffices(&self, alloc: Global, footprint: &Footprint) -> Option<bool> {
-        let (reply, delta) = self.step_on(alloc, footprint)?.ok()?;
-        Some(self.outcome(alloc, &reply, &delta)? == self.on_all_rows(alloc)?)
-    }
-
-    /// Whether the request strays on a loan of the footprint.
-    fn strays(&self, alloc: Global, footprint: &Footprint) -> Option<bool> {
-        Some(matches!(self.step_on(alloc, footprint)?, Err(ExecError::Strayed)))
-    }
-
-    /// How many of the granules that are read the request does without.
-    fn unread(&self, alloc: Global, footprint: &Footprint) -> Option<u32> {
-        let mut count = 0u32;
-        for granule in footprint.reads() {
-            let less = without(alloc, footprint, granule).ok()?;
-            count = count.saturating_add(u32::from(!self.strays(alloc, &less)?));
-        }
-        Some(count)
-    }
-
-    /// How many of the granules that are written the request does with as they are.
-    fn unwritten(&self, alloc: Global, footprint: &Footprint) -> Option<u32> {
-        let mut count = 0u32;
-        for granule in footprint.writes() {
-            let less = read_alone(alloc, footprint, granule).ok()?;
-            count = count.saturating_add(u32::from(!self.strays(alloc, &less)?));
-        }
-        Some(count)
-    }
-}
-
-/// The footprint without one of its granules.
-fn without(alloc: Global, footprint: &Footprint, granule: &Granule) -> Result<Footprint, Memory> {
-    let mut less = Footprint::new(alloc);
-    for other in footprint.reads() {
-        if other == granule {
-            continue;
-        }
-        if footprint.writes().contains(other) {
-            less.write(*other)?;
-        } else {
-            less.read(*other)?;
-        }
-    }
-    Ok(less)
-}
-
-/// The footprint, but one of its granules is read alone.
-fn read_alone(
-    alloc: Global,
-    footprint: &Footprint,
-    granule: &Granule,
-) -> Result<Footprint, Memory> {
-    let mut less = without(alloc, footprint, granule)?;
-    less.read(*granule)?;
-    Ok(less)
-}
-
-fn show_loans(
-    rt: &impl Print,
-    alloc: Global,
-    what: &str,
-    case: &Case<'_>,
-    footprint: &Footprint,
-) -> Option<()> {
-    let enough = case.suffices(alloc, footprint)?;
-    let unread = case.unread(alloc, footprint)?;
-    let unwritten = case.unwritten(alloc, footprint)?;
-    let _ = println!(rt;
-        "{what} on a loan of what it declares: enough: {enough}, needless to read: {unread}, to write: {unwritten}"
-    );
     Some(())
 }
 
-fn show_request(rt: &impl Print, alloc: Global, request: (&str, &str, &str)) -> Option<()> {
-    let (what, earlier, request) = request;
-    let batch = batch_of(alloc, request)?;
-    let database = after_requests(alloc, 1, earlier)?;
-    let case = Case {
-        database: &database,
-        batch: &batch,
-    };
-    let footprint = database.declare(alloc, &batch, 0)?;
-    show_loans(rt, alloc, what, &case, &footprint)
+/// The footprint without one of its granules, or where that is read alone.
+fn lessened(
+    alloc: Global,
+    footprint: &Footprint,
+    granule: &Granule,
+    is_read: bool,
+) -> Option<Footprint> {
+    let mut less = Footprint::new(alloc);
+    for other in footprint.reads() {
+        if other != granule && footprint.writes().contains(other) {
+            less.write(*other).ok()?;
+        } else if other != granule || is_read {
+            less.read(*other).ok()?;
+        }
+    }
+    Some(less)
 }
 
-pub fn show(rt: &impl Print, alloc: Global) -> Option<()> {
-    for request in &REQUESTS {
-        show_request(rt, alloc, *request)?;
+/// What the first request of a batch does on a loan of a footprint.
+fn on_loan(
+    alloc: Global,
+    scene: &Scene,
+    footprint: &Footprint,
+) -> Option<Result<(Reply, Delta), ExecError>> {
+    let Scene {
+        database,
+        batch,
+        ..
+    } = scene;
+    let request = batch.requests.as_slice().first()?;
+    let number = database.number(0)?;
+    let loan = Loan {
+        store: &database.store,
+        footprint,
+    };
+    Some(execute(
+        alloc,
+        &database.catalog,
+        request,
+        number,
+        batch.moment,
+        &loan,
+    ))
+}
+
+/// The record of a reply to the first request, and behind it the bytes of the changed rows.
+fn outcome(alloc: Global, scene: &Scene, reply: &Reply, delta: &Delta) -> Option<Vec<u8>> {
+    let mut bytes = Vec::new(alloc);
+    write_reply(alloc, scene.database.number(0)?, reply, &mut bytes).ok()?;
+    push_changes(delta, &mut bytes)?;
+    Some(bytes)
+}
+
+/// Whether on a loan of what it declares a request does what it does on all rows.
+fn suffices(alloc: Global, scene: &Scene, footprint: &Footprint) -> Option<bool> {
+    let (reply, delta) = on_loan(alloc, scene, footprint)?.ok()?;
+    let (all_reply, all_delta) = scene.database.step(alloc, &scene.batch, 0)?;
+    let wanted = outcome(alloc, scene, &all_reply, &all_delta)?;
+    Some(outcome(alloc, scene, &reply, &delta)? == wanted)
+}
+
+/// How many of these granules a request does without, or does with where they are read alone.
+fn needless(
+    alloc: Global,
+    scene: &Scene,
+    footprint: &Footprint,
+    granules: &[Granule],
+    are_read: bool,
+) -> Option<u32> {
+    let mut count = 0u32;
+    for granule in granules {
+        let less = lessened(alloc, footprint, granule, are_read)?;
+        let strays = matches!(on_loan(alloc, scene, &less)?, Err(ExecError::Strayed));
+        count = count.saturating_add(u32::from(!strays));
     }
+    Some(count)
+}
+
+/// Shows the first request of a batch on loans.
+pub fn show(rt: &impl Print, alloc: Global, scene: &Scene) -> Option<()> {
+    let footprint = scene.footprints.first()?;
+    let enough = suffices(alloc, scene, footprint)?;
+    let unread = needless(alloc, scene, footprint, footprint.reads(), false)?;
+    let unwritten = needless(alloc, scene, footprint, footprint.writes(), true)?;
+    let _ = print!(rt; " enough: {enough}, needless to read: {unread}, to write: {unwritten}");
     Some(())
 }

@@ -3,22 +3,21 @@
 #![tactic(auto)]
 
 mod books;
-mod chosen_rows;
+mod columns;
 mod compared;
 mod database;
-mod declared;
-mod dice;
+mod drawn;
 mod format;
 mod granules;
 mod levels;
 mod loans;
 mod orders;
 mod printing;
-mod random;
 mod roots;
 mod rows;
 mod second_root;
 mod tokens;
+mod worked;
 mod worked_requests;
 
 use std::process::ExitCode;
@@ -27,10 +26,13 @@ fn main(rt: HostRuntime) -> ExitCode {
     let parts = [
         roots::show(&rt, rt.alloc()),
         tokens::show(&rt, rt.alloc()),
-        declared::show(&rt, rt.alloc()),
+        worked::show(&rt, rt.alloc(), "footprint"),
+        worked::show(&rt, rt.alloc(), "bits"),
+        worked::show(&rt, rt.alloc(), "cut"),
         compared::show(&rt, rt.alloc()),
+        worked::show(&rt, rt.alloc(), "straying"),
         orders::show(&rt, rt.alloc()),
-        loans::show(&rt, rt.alloc()),
+        worked::show(&rt, rt.alloc(), "loans"),
     ];
     if parts.iter().all(Option::is_some) {
         ExitCode::SUCCESS

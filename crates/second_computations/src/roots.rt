@@ -1,114 +1,117 @@
 //! Roots of chosen rows, and of rows that look random, against the second computation.
-use crate::chosen_rows::{push_every_kind, push_long_leaf, push_one_leaf, push_random};
+use crate::drawn::{Dice, random_rows};
 use crate::printing::{print_agreeing, print_hash};
-use crate::rows::{Pairs, district, put_all, warehouse};
-use crate::second_root::second_root;
+use crate::rows::{lines_of, stored};
+use crate::second_root::{leaf_of, second_root};
 use leaf_rows::LeafRows;
 use merkle::Tree;
 use merkle::hashing::hash_leaf;
-use pages::RowStore;
-use rollback::PointedStore;
 use std::alloc::Global;
 use std::thread::Threads;
 
-/// The rows in a store.
-fn stored(alloc: Global, pairs: &Pairs) -> Option<PointedStore> {
-    let mut rows = RowStore::new(alloc).ok()?;
-    put_all(&mut rows, pairs)?;
-    Some(PointedStore::new(alloc, rows))
-}
+const WAREHOUSE_AND_DISTRICT: &str = "\
+2,1,1,3000000,1
+1,1,30000000
+";
+
+/// A row of each kind, two of those that may lack a column.
+pub const EVERY_KIND: &str = "\
+1,2,30000000
+2,2,3,3000000,3001
+3,2,3,45,-1000,2000,3,4,hello
+4,2,99999,-7,8,9,10
+5,2,3,3000,45,1700000000,10,15,1
+5,2,3,3001,44,0,0,5,0
+6,2,3,3001
+7,2,3,3000,15,99999,1,1,0,5,999999,DIST03
+7,2,3,3001,1,1,2,0,0,99,100,
+8,123456789012345,45,3,2,4,1,1700000001,4999,W2    D3
+";
+
+/// Rows of six kinds that share leaf 1,123, in falling order.
+pub const ONE_LEAF: &str = "\
+8,1,1,1,1,1,1,7,8,W    D
+7,1,2,54,13,1,1,0,0,1,2,DIST02
+6,1,1,59
+5,1,6,29,1,2,3,5,0
+4,2,2775,4,5,6,7
+4,1,4092,3,2,1,0
+4,1,1508,1,2,3,4
+3,2,1,56,1,2,3,4,
+";
+
+const CHOSEN: [(&str, &str); 4] = [
+    ("root of no rows", ""),
+    ("root of a warehouse and a district", WAREHOUSE_AND_DISTRICT),
+    ("root of rows of every kind", EVERY_KIND),
+    ("root of rows of one leaf", ONE_LEAF),
+];
 
 /// The root of the rows' tree.
-pub fn tree_root<R: Threads + Sync>(rt: &R, alloc: Global, pairs: &Pairs) -> Option<[u8; 32]> {
-    let store = stored(alloc, pairs)?;
+pub fn tree_root<R: Threads + Sync>(rt: &R, alloc: Global, lines: &[&str]) -> Option<[u8; 32]> {
+    let store = stored(alloc, lines)?;
     Some(Tree::build(rt, alloc, &store).ok()?.root())
 }
 
-fn agree<R: Threads + Sync>(rt: &R, alloc: Global, pairs: &Pairs) -> Option<bool> {
-    let root = tree_root(rt, alloc, pairs)?;
-    Some(root == second_root(alloc, pairs).ok()?)
-}
-
-fn show_root<R: Threads + Sync + Print>(
-    rt: &R,
-    alloc: Global,
-    name: &str,
-    pairs: &Pairs,
-) -> Option<()> {
-    print_hash(rt, name, &tree_root(rt, alloc, pairs)?);
-    print_agreeing(rt, name, u64::from(agree(rt, alloc, pairs)?), 1);
-    Some(())
-}
-
-/// Rows that are chosen.
-#[derive(Clone, Copy)]
-enum Chosen {
-    Nothing,
-    WarehouseAndDistrict,
-    EveryKind,
-    OneLeaf,
-}
-
-const CHOSEN: [(&str, Chosen); 4] = [
-    ("root of no rows", Chosen::Nothing),
-    (
-        "root of a warehouse and a district",
-        Chosen::WarehouseAndDistrict,
-    ),
-    ("root of rows of every kind", Chosen::EveryKind),
-    ("root of rows of one leaf", Chosen::OneLeaf),
-];
-
-fn push_chosen(alloc: Global, pairs: &mut Pairs, chosen: Chosen) -> Option<()> {
-    match chosen {
-        Chosen::Nothing => Some(()),
-        Chosen::WarehouseAndDistrict => {
-            pairs.push(district((1, 1), 3_000_000, 1)?).ok()?;
-            pairs.push(warehouse(1, 30_000_000)?).ok()
-        }
-        Chosen::EveryKind => push_every_kind(alloc, pairs),
-        Chosen::OneLeaf => push_one_leaf(alloc, pairs),
-    }
+fn agree<R: Threads + Sync>(rt: &R, alloc: Global, lines: &[&str]) -> Option<bool> {
+    let root = tree_root(rt, alloc, lines)?;
+    Some(root == second_root(alloc, lines)?)
 }
 
 fn show_chosen<R: Threads + Sync + Print>(
     rt: &R,
     alloc: Global,
     name: &str,
-    chosen: Chosen,
+    text: &str,
 ) -> Option<()> {
-    let mut pairs = Vec::new(alloc);
-    push_chosen(alloc, &mut pairs, chosen)?;
-    show_root(rt, alloc, name, &pairs)
+    let lines = lines_of(alloc, text)?;
+    print_hash(rt, name, &tree_root(rt, alloc, &lines)?);
+    print_agreeing(rt, name, u32::from(agree(rt, alloc, &lines)?), 1);
+    Some(())
+}
+
+/// The customers of eleven warehouses that stand on leaf 7, each with a text of 500 characters: more than there is room for beside
+/// other leaves.
+fn long_leaf(alloc: Global) -> Option<String> {
+    let mut text = String::new(alloc);
+    for number in 0..330_000u64 {
+        let (warehouse, district) = (1 + number / 30_000, 1 + number / 3_000 % 10);
+        let customer = 1 + number % 3_000;
+        let code = (3 << 56) | (warehouse << 16) | (district << 12) | customer;
+        if leaf_of(code) == 7 {
+            writeln!(
+                text,
+                "3,{warehouse},{district},{customer},-5,5,{customer},0,{:x>500}",
+                ""
+            )
+            .ok()?;
+        }
+    }
+    Some(text)
 }
 
 /// Of more than 60 rows of one leaf, of all but seven, of all but fourteen, and so on.
-fn show_long_leaf<R: Threads + Sync + Print>(rt: &R, alloc: Global) -> Option<()> {
-    let mut pairs = Vec::new(alloc);
-    push_long_leaf(alloc, &mut pairs)?;
-    let is_long = 60 < pairs.len();
-    let count = (pairs.len() / 7) as u64;
-    let mut agreeing = 0u64;
-    for _ in 0..count {
-        pairs.truncate(pairs.len().saturating_sub(7));
-        agreeing = agreeing.saturating_add(u64::from(agree(rt, alloc, &pairs)?));
+fn show_long_leaf<R: Threads + Sync + Print>(rt: &R, alloc: Global, lines: &[&str]) -> Option<()> {
+    let mut all = 60 < lines.len();
+    for sevens in 1..lines.len() / 7 + 1 {
+        let rest = lines.get(sevens.saturating_mul(7)..)?;
+        all = agree(rt, alloc, rest)? && all;
     }
-    let all = is_long && agreeing == count;
     let _ = println!(rt; "roots of rows of a long leaf: all agree: {all}");
     Some(())
 }
 
 /// Whether the roots of more than 200 rows that look random agree.
 fn agree_on_random<R: Threads + Sync>(rt: &R, alloc: Global, seed: u64) -> Option<bool> {
-    let mut pairs = Vec::new(alloc);
-    push_random(alloc, &mut pairs, seed, 400)?;
-    Some(200 < pairs.len() && agree(rt, alloc, &pairs)?)
+    let text = random_rows(alloc, &mut Dice { state: seed }, 400)?;
+    let lines = lines_of(alloc, &text)?;
+    Some(200 < lines.len() && agree(rt, alloc, &lines)?)
 }
 
 fn show_random<R: Threads + Sync + Print>(rt: &R, alloc: Global) -> Option<()> {
-    let mut agreeing = 0u64;
+    let mut agreeing = 0u32;
     for seed in 1..4 {
-        agreeing = agreeing.saturating_add(u64::from(agree_on_random(rt, alloc, seed)?));
+        agreeing = agreeing.saturating_add(u32::from(agree_on_random(rt, alloc, seed)?));
     }
     print_agreeing(
         rt,
@@ -125,9 +128,9 @@ pub fn show<R: Threads + Sync + Print>(rt: &R, alloc: Global) -> Option<()> {
         "hash of an empty leaf",
         &hash_leaf(&LeafRows::new(alloc)),
     );
-    for (name, chosen) in &CHOSEN {
-        show_chosen(rt, alloc, name, *chosen)?;
+    for (name, text) in &CHOSEN {
+        show_chosen(rt, alloc, name, text)?;
     }
-    show_long_leaf(rt, alloc)?;
+    show_long_leaf(rt, alloc, &lines_of(alloc, &long_leaf(alloc)?)?)?;
     show_random(rt, alloc)
 }

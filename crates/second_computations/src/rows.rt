@@ -1,5 +1,9 @@
-//! Rows of every kind: chosen ones, and ones that look random.
+//! Rows as lines of text: a line has the number of the row's kind, the columns of its key, and its other columns, in the order in
+//! which they are hashed. Whether an order line was delivered is a column of its own before the moment; no carrier is 0.
+use crate::columns::{byte, column, long, short, signed, word};
+use crate::format::code;
 use pages::RowStore;
+use rollback::PointedStore;
 use std::alloc::Global;
 use tpcc_rows::id::{
     CustomerId, DistrictId, ItemId, LineNumber, OrderId, RequestNumber, WarehouseId,
@@ -11,176 +15,164 @@ use tpcc_rows::row::{
 };
 use tpcc_rows::text::Text;
 
-/// A row and its key.
-pub type Pair = (RowKey, Row);
-
-/// Rows of any keys.
-pub type Pairs = Vec<Pair>;
-
-/// A warehouse, and a district's number in it.
-pub type Place = (u8, u8);
-
-fn ids(place: Place) -> Option<(WarehouseId, DistrictId)> {
-    Some((WarehouseId::new(place.0)?, DistrictId::new(place.1)?))
+/// The key of a row of a district.
+fn key_in_district(line: &str, warehouse: WarehouseId) -> Option<RowKey> {
+    let district = DistrictId::new(byte(line, 2))?;
+    let number = word(line, 3);
+    Some(match byte(line, 0) {
+        2 => RowKey::District {
+            warehouse,
+            district,
+        },
+        3 => RowKey::Customer {
+            warehouse,
+            district,
+            customer: CustomerId::new(short(line, 3))?,
+        },
+        5 => RowKey::Order {
+            warehouse,
+            district,
+            order: OrderId::new(number)?,
+        },
+        6 => RowKey::NewOrder {
+            warehouse,
+            district,
+            order: OrderId::new(number)?,
+        },
+        _ => RowKey::OrderLine {
+            warehouse,
+            district,
+            order: OrderId::new(number)?,
+            number: LineNumber::new(byte(line, 4))?,
+        },
+    })
 }
 
-pub fn warehouse(number: u8, ytd: i64) -> Option<Pair> {
-    let warehouse = WarehouseId::new(number)?;
-    let ytd = Cents::new(ytd)?;
-    Some((
-        RowKey::Warehouse { warehouse },
-        Row::Warehouse(WarehouseRow { ytd }),
-    ))
+fn key_of(line: &str) -> Option<RowKey> {
+    if byte(line, 0) == 8 {
+        let number = RequestNumber::new(long(line, 1))?;
+        return Some(RowKey::History { number });
+    }
+    let warehouse = WarehouseId::new(byte(line, 1))?;
+    match byte(line, 0) {
+        1 => Some(RowKey::Warehouse { warehouse }),
+        4 => Some(RowKey::Stock {
+            warehouse,
+            item: ItemId::new(word(line, 2))?,
+        }),
+        _ => key_in_district(line, warehouse),
+    }
 }
 
-pub fn district(place: Place, ytd: i64, next: u32) -> Option<Pair> {
-    let (warehouse, district) = ids(place)?;
-    let key = RowKey::District {
-        warehouse,
-        district,
-    };
-    let row = DistrictRow {
-        ytd: Cents::new(ytd)?,
-        next_order: OrderId::new(next)?,
-    };
-    Some((key, Row::District(row)))
+fn customer_row(line: &str) -> Option<CustomerRow> {
+    Some(CustomerRow {
+        balance: Cents::new(signed(line, 4))?,
+        ytd_payment: Cents::new(signed(line, 5))?,
+        payment_count: Count::new(word(line, 6))?,
+        delivery_count: Count::new(word(line, 7))?,
+        data: Text::parse(column(line, 8).as_bytes())?,
+    })
 }
 
-/// A customer with a balance and payments, and the numbers of its payments and deliveries.
-pub fn customer(
-    alloc: Global,
-    place: Place,
-    number: u16,
-    money: (i64, i64),
-    counts: (u32, u32),
-    data: &[u8],
-) -> Option<Pair> {
-    let (warehouse, district) = ids(place)?;
-    let key = RowKey::Customer {
-        warehouse,
-        district,
-        customer: CustomerId::new(number)?,
-    };
-    let row = CustomerRow {
-        balance: Cents::new(money.0)?,
-        ytd_payment: Cents::new(money.1)?,
-        payment_count: Count::new(counts.0)?,
-        delivery_count: Count::new(counts.1)?,
-        data: Text::parse(data)?,
-    };
-    Some((key, Row::of_customer(alloc, row).ok()?))
+fn stock_row(line: &str) -> Option<StockRow> {
+    Some(StockRow {
+        quantity: StockQuantity::new(column(line, 3).parse().ok()?)?,
+        ytd: Count::new(word(line, 4))?,
+        order_count: Count::new(word(line, 5))?,
+        remote_count: Count::new(word(line, 6))?,
+    })
 }
 
-pub fn stock(warehouse: u8, item: u32, quantity: i16, counts: (u32, u32, u32)) -> Option<Pair> {
-    let key = RowKey::Stock {
-        warehouse: WarehouseId::new(warehouse)?,
-        item: ItemId::new(item)?,
-    };
-    let row = StockRow {
-        quantity: StockQuantity::new(quantity)?,
-        ytd: Count::new(counts.0)?,
-        order_count: Count::new(counts.1)?,
-        remote_count: Count::new(counts.2)?,
-    };
-    Some((key, Row::Stock(row)))
+fn order_row(line: &str) -> Option<OrderRow> {
+    Some(OrderRow {
+        customer: CustomerId::new(short(line, 4))?,
+        entry: Moment::new(long(line, 5))?,
+        carrier: Carrier::new(byte(line, 6)),
+        line_count: LineNumber::new(byte(line, 7))?,
+        all_local: byte(line, 8) == 1,
+    })
 }
 
-/// An order with no carrier where its number is 0.
-pub fn order(
-    place: Place,
-    number: u32,
-    customer: u16,
-    entry: u64,
-    carrier: u8,
-    lines: u8,
-) -> Option<Pair> {
-    let (warehouse, district) = ids(place)?;
-    let key = RowKey::Order {
-        warehouse,
-        district,
-        order: OrderId::new(number)?,
+fn order_line_row(line: &str) -> Option<OrderLineRow> {
+    let delivery = if byte(line, 7) == 1 {
+        Moment::new(long(line, 8))
+    } else {
+        None
     };
-    let row = OrderRow {
-        customer: CustomerId::new(customer)?,
-        entry: Moment::new(entry)?,
-        carrier: Carrier::new(carrier),
-        line_count: LineNumber::new(lines)?,
-        all_local: lines > 10,
-    };
-    Some((key, Row::Order(row)))
-}
-
-pub fn new_order(place: Place, number: u32) -> Option<Pair> {
-    let (warehouse, district) = ids(place)?;
-    let key = RowKey::NewOrder {
-        warehouse,
-        district,
-        order: OrderId::new(number)?,
-    };
-    Some((key, Row::NewOrder))
-}
-
-/// The line of this number of an order, with an item, its supplier, a quantity and an amount.
-pub fn order_line(
-    place: Place,
-    number: (u32, u8),
-    item: (u32, u8),
-    delivery: Option<Moment>,
-    sold: (u8, u32),
-    info: &[u8],
-) -> Option<Pair> {
-    let (warehouse, district) = ids(place)?;
-    let key = RowKey::OrderLine {
-        warehouse,
-        district,
-        order: OrderId::new(number.0)?,
-        number: LineNumber::new(number.1)?,
-    };
-    let row = OrderLineRow {
-        item: ItemId::new(item.0)?,
-        supply: WarehouseId::new(item.1)?,
+    Some(OrderLineRow {
+        item: ItemId::new(word(line, 5))?,
+        supply: WarehouseId::new(byte(line, 6))?,
         delivery,
-        quantity: LineQuantity::new(sold.0)?,
-        amount: Amount::new(sold.1)?,
-        district_info: Text::parse(info)?,
-    };
-    Some((key, Row::OrderLine(row)))
+        quantity: LineQuantity::new(byte(line, 9))?,
+        amount: Amount::new(word(line, 10))?,
+        district_info: Text::parse(column(line, 11).as_bytes())?,
+    })
 }
 
-/// A payment of a customer of the first place, made at the second.
-pub fn history(
-    number: u64,
-    customer: u16,
-    places: (Place, Place),
-    date: u64,
-    amount: u32,
-    data: &[u8],
-) -> Option<Pair> {
-    let key = RowKey::History {
-        number: RequestNumber::new(number)?,
-    };
-    let (customer_warehouse, customer_district) = ids(places.0)?;
-    let (warehouse, district) = ids(places.1)?;
-    let row = HistoryRow {
-        customer: CustomerId::new(customer)?,
-        customer_district,
-        customer_warehouse,
-        district,
-        warehouse,
-        date: Moment::new(date)?,
-        amount: Amount::new(amount)?,
-        data: Text::parse(data)?,
-    };
-    Some((key, Row::History(row)))
+fn history_row(line: &str) -> Option<HistoryRow> {
+    Some(HistoryRow {
+        customer: CustomerId::new(short(line, 2))?,
+        customer_district: DistrictId::new(byte(line, 3))?,
+        customer_warehouse: WarehouseId::new(byte(line, 4))?,
+        district: DistrictId::new(byte(line, 5))?,
+        warehouse: WarehouseId::new(byte(line, 6))?,
+        date: Moment::new(long(line, 7))?,
+        amount: Amount::new(word(line, 8))?,
+        data: Text::parse(column(line, 9).as_bytes())?,
+    })
 }
 
-/// Puts copies of rows into a store.
-pub fn put_all(store: &mut RowStore, pairs: &Pairs) -> Option<()> {
-    for (key, row) in pairs {
-        let row = row.copied().ok()?;
-        if fits(key, &row) {
-            store.put(*key, row).ok()?;
-        }
+fn row_of(alloc: Global, line: &str) -> Option<Row> {
+    Some(match byte(line, 0) {
+        1 => Row::Warehouse(WarehouseRow {
+            ytd: Cents::new(signed(line, 2))?,
+        }),
+        2 => Row::District(DistrictRow {
+            ytd: Cents::new(signed(line, 3))?,
+            next_order: OrderId::new(word(line, 4))?,
+        }),
+        3 => Row::of_customer(alloc, customer_row(line)?).ok()?,
+        4 => Row::Stock(stock_row(line)?),
+        5 => Row::Order(order_row(line)?),
+        6 => Row::NewOrder,
+        7 => Row::OrderLine(order_line_row(line)?),
+        _ => Row::History(history_row(line)?),
+    })
+}
+
+fn put(alloc: Global, store: &mut RowStore, line: &str) -> Option<()> {
+    let (key, row) = (key_of(line)?, row_of(alloc, line)?);
+    if fits(&key, &row) {
+        store.put(key, row).ok()?;
     }
     Some(())
+}
+
+/// A store of the rows.
+pub fn stored(alloc: Global, lines: &[&str]) -> Option<PointedStore> {
+    let mut store = RowStore::new(alloc).ok()?;
+    for line in lines {
+        put(alloc, &mut store, line)?;
+    }
+    Some(PointedStore::new(alloc, store))
+}
+
+fn has_code(lines: &[&str], wanted: u64) -> bool {
+    for line in lines {
+        if code(line) == wanted {
+            return true;
+        }
+    }
+    false
+}
+
+/// The lines of a text, each key's first.
+pub fn lines_of(alloc: Global, text: &str) -> Option<Vec<&str>> {
+    let mut lines = Vec::new(alloc);
+    for line in text.lines() {
+        if !has_code(&lines, code(line)) {
+            lines.push(line).ok()?;
+        }
+    }
+    Some(lines)
 }

@@ -1,9 +1,9 @@
 //! The tokens of two batches, one after the other, and of one against the second computation.
-use crate::chosen_rows::{push_every_kind, push_one_leaf, push_random};
+use crate::drawn::{Dice, random_rows};
 use crate::printing::{print_agreeing, print_hash};
-use crate::roots::tree_root;
-use crate::rows::Pairs;
-use crate::second_root::second_token;
+use crate::roots::{EVERY_KIND, ONE_LEAF, tree_root};
+use crate::rows::lines_of;
+use crate::second_root::{second_root, second_token};
 use requests::reply::{PaymentReply, Reply, RequestRefusal, ShownCredit, StockLevelReply};
 use requests::request::RequestKind;
 use std::alloc::Global;
@@ -16,82 +16,64 @@ use tpcc_rows::number::Cents;
 const FIRST: &[u8] =
     b"\x00\x00\x00\x00\x00\x00\x00\x01\x05\x00\x00\x00\x00\x07\x00\x00\x00\x00\x00\x00\x00\x02\x02\x02";
 
-fn first_replies() -> [Reply; 2] {
-    [
+/// The digest of the replies to the first batch.
+fn first_replies() -> [u8; 32] {
+    let replies = [
         Reply::StockLevel(StockLevelReply { low_stock: 7 }),
         Reply::Refused {
             kind: RequestKind::Payment,
             refusal: RequestRefusal::UnknownKey,
         },
-    ]
+    ];
+    reply_digest(1, &replies)
 }
 
-/// A payment of customer 45.
-fn second_replies() -> Option<[Reply; 1]> {
-    Some([Reply::Payment(PaymentReply {
+/// The digest of the reply to the second batch, a payment of customer 45.
+fn second_replies() -> Option<[u8; 32]> {
+    let reply = Reply::Payment(PaymentReply {
         customer: CustomerId::new(45)?,
         balance: Cents::new(-2_000)?,
         credit: ShownCredit::Good,
-    })])
+    });
+    Some(reply_digest(3, &[reply]))
 }
 
 /// The bytes from 0 to 31.
-fn catalog_digest() -> [u8; 32] {
-    let mut digest = [0; 32];
-    for (byte, number) in digest.iter_mut().zip(0..32u8) {
-        *byte = number;
-    }
-    digest
-}
+const CATALOG: [u8; 32] = [
+    0, 1, 2, 3, 4, 5, 6, 7, 8, 9, 10, 11, 12, 13, 14, 15, 16, 17, 18, 19, 20, 21, 22, 23, 24, 25,
+    26, 27, 28, 29, 30, 31,
+];
 
 /// The token of a batch, where the catalog's digest is the bytes from 0 to 31.
-fn batch_token<R: Threads + Sync>(
-    rt: &R,
-    alloc: Global,
-    sequence: u64,
-    prior: [u8; 32],
-    pairs: &Pairs,
-    replies: [u8; 32],
-) -> Option<[u8; 32]> {
+fn batch_token(sequence: u64, prior: [u8; 32], root: [u8; 32], replies: [u8; 32]) -> [u8; 32] {
     let parts = TokenParts {
         sequence,
         prior,
-        catalog: catalog_digest(),
-        root: tree_root(rt, alloc, pairs)?,
+        catalog: CATALOG,
+        root,
         replies,
     };
-    Some(parts.token())
+    parts.token()
 }
 
-fn show_two<R: Threads + Sync + Print>(rt: &R, alloc: Global, pairs: &mut Pairs) -> Option<()> {
-    push_every_kind(alloc, pairs)?;
-    let replies = reply_digest(1, &first_replies());
-    let first = batch_token(rt, alloc, 1, [0; 32], pairs, replies)?;
-    print_hash(rt, "token of a first batch", &first);
-    pairs.clear();
-    push_one_leaf(alloc, pairs)?;
-    let replies = reply_digest(3, &second_replies()?);
-    let second = batch_token(rt, alloc, 2, first, pairs, replies)?;
-    print_hash(rt, "token of a second batch", &second);
-    Some(())
+fn root_of<R: Threads + Sync>(rt: &R, alloc: Global, text: &str) -> Option<[u8; 32]> {
+    tree_root(rt, alloc, &lines_of(alloc, text)?)
 }
 
-fn agree<R: Threads + Sync>(rt: &R, alloc: Global, pairs: &Pairs) -> Option<bool> {
-    let replies = reply_digest(1, &first_replies());
-    let token = batch_token(rt, alloc, 7, [3; 32], pairs, replies)?;
-    Some(token == second_token(alloc, 7, &[3; 32], pairs, FIRST).ok()?)
+/// Whether the tokens of 100 rows that look random, or of some fewer, agree.
+fn agree<R: Threads + Sync>(rt: &R, alloc: Global) -> Option<bool> {
+    let text = random_rows(alloc, &mut Dice { state: 9 }, 100)?;
+    let lines = lines_of(alloc, &text)?;
+    let token = batch_token(7, [3; 32], tree_root(rt, alloc, &lines)?, first_replies());
+    Some(token == second_token(7, &[3; 32], &second_root(alloc, &lines)?, FIRST))
 }
 
 pub fn show<R: Threads + Sync + Print>(rt: &R, alloc: Global) -> Option<()> {
-    let mut pairs = Vec::new(alloc);
-    show_two(rt, alloc, &mut pairs)?;
-    pairs.clear();
-    push_random(alloc, &mut pairs, 9, 100)?;
-    print_agreeing(
-        rt,
-        "tokens of rows that look random",
-        u64::from(agree(rt, alloc, &pairs)?),
-        1,
-    );
+    let first = batch_token(1, [0; 32], root_of(rt, alloc, EVERY_KIND)?, first_replies());
+    print_hash(rt, "token of a first batch", &first);
+    let second = batch_token(2, first, root_of(rt, alloc, ONE_LEAF)?, second_replies()?);
+    print_hash(rt, "token of a second batch", &second);
+    let agreeing = u32::from(agree(rt, alloc)?);
+    print_agreeing(rt, "tokens of rows that look random", agreeing, 1);
     Some(())
 }

@@ -1,16 +1,13 @@
-//! Requests, each of them a record on a line of its own.
+//! Worked requests, each of them a record on a line of its own.
 
-/// An order of five items.
-pub const ORDER: &str = "N,1,1,1,1,1,1,2,1,1,3,1,1,4,1,1,5,1,1\n";
-
-/// Orders of two customers of a district.
-pub const TWO_ORDERS: &str = "\
+/// Under the name of each batch its requests.
+pub const REQUESTS: &str = "\
+# order
+N,1,1,1,1,1,1,2,1,1,3,1,1,4,1,1,5,1,1
+# two orders
 N,1,1,1,1,1,1,2,1,1,3,1,1,4,1,1,5,1,1
 N,1,1,2,1,1,1,2,1,1,3,1,1,4,1,1,5,1,1
-";
-
-/// Orders of seven districts for the same items.
-pub const SEVEN_ORDERS: &str = "\
+# seven orders
 N,1,1,1,1,1,1,2,1,1,3,1,1,4,1,1,5,1,1
 N,1,2,1,1,1,1,2,1,1,3,1,1,4,1,1,5,1,1
 N,1,3,1,1,1,1,2,1,1,3,1,1,4,1,1,5,1,1
@@ -18,10 +15,7 @@ N,1,4,1,1,1,1,2,1,1,3,1,1,4,1,1,5,1,1
 N,1,5,1,1,1,1,2,1,1,3,1,1,4,1,1,5,1,1
 N,1,6,1,1,1,1,2,1,1,3,1,1,4,1,1,5,1,1
 N,1,7,1,1,1,1,2,1,1,3,1,1,4,1,1,5,1,1
-";
-
-/// Orders of ten districts for items of their own.
-pub const TEN_ORDERS: &str = "\
+# ten orders
 N,1,1,1,1,1,1,2,1,1,3,1,1,4,1,1,5,1,1
 N,1,2,1,6,1,1,7,1,1,8,1,1,9,1,1,10,1,1
 N,1,3,1,11,1,1,12,1,1,13,1,1,15,1,1,16,1,1
@@ -32,10 +26,7 @@ N,1,7,1,31,1,1,32,1,1,33,1,1,34,1,1,35,1,1
 N,1,8,1,36,1,1,37,1,1,38,1,1,39,1,1,40,1,1
 N,1,9,1,41,1,1,42,1,1,43,1,1,44,1,1,45,1,1
 N,1,10,1,46,1,1,47,1,1,48,1,1,49,1,1,50,1,1
-";
-
-/// Payments of sixteen customers to a district.
-pub const SIXTEEN_PAYMENTS: &str = "\
+# sixteen payments
 P,1,1,1,1,I,1,1000
 P,1,1,1,1,I,2,1000
 P,1,1,1,1,I,3,1000
@@ -52,47 +43,90 @@ P,1,1,1,1,I,13,1000
 P,1,1,1,1,I,14,1000
 P,1,1,1,1,I,15,1000
 P,1,1,1,1,I,16,1000
-";
-
-/// Orders of the second and the third district.
-pub const SECOND_AND_THIRD: &str = "\
+# second and third
 N,1,2,1,6,1,1,7,1,1,8,1,1,9,1,1,10,1,1
 N,1,3,1,11,1,1,12,1,1,13,1,1,15,1,1,16,1,1
-";
-
-/// Orders of the first and the third district.
-pub const FIRST_AND_THIRD: &str = "\
+# first and third
 N,1,1,1,1,1,1,2,1,1,3,1,1,4,1,1,5,1,1
 N,1,3,1,11,1,1,12,1,1,13,1,1,15,1,1,16,1,1
-";
-
-/// Orders of the first and the second district.
-pub const FIRST_AND_SECOND: &str = "\
+# first and second
 N,1,1,1,1,1,1,2,1,1,3,1,1,4,1,1,5,1,1
 N,1,2,1,6,1,1,7,1,1,8,1,1,9,1,1,10,1,1
-";
-
-/// Orders of three districts, and then the stock levels of these.
-pub const ORDERS_AND_LEVELS: &str = "\
+# orders and levels
 N,1,1,1,1,1,1,2,1,1,3,1,1,4,1,1,5,1,1
 N,1,2,1,6,1,1,7,1,1,8,1,1,9,1,1,10,1,1
 N,1,3,1,11,1,1,12,1,1,13,1,1,15,1,1,16,1,1
 S,1,1,15
 S,1,2,15
 S,1,3,15
-";
-
-/// An order, and the stock level of its district.
-pub const ORDER_AND_LEVEL: &str = "\
+# order and level
 N,1,1,1,1,1,1,2,1,1,3,1,1,4,1,1,5,1,1
 S,1,1,12
-";
-
-/// An order, and a delivery to its warehouse.
-pub const ORDER_AND_DELIVERY: &str = "\
+# order and delivery
 N,1,1,1,1,1,1,2,1,1,3,1,1,4,1,1,5,1,1
 D,1,5
+# two deliveries
+D,1,3
+D,1,4
+# no item
+N,1,1,1,1,1,1,2,1,1,3,1,1,4,1,1,5,1,1,6,1,1,7,1,1,8,1,1,9,1,1,10,1,1,11,1,1,12,1,1,13,1,1,14,1,1,999999,1,1
+N,1,1,1,1,1,1,2,1,1,3,1,1,4,1,1,5,1,1
+# no keys
+N,1,1,1,1,1,1,2,1,1,3,1,1,4,1,1,5,1,1
+N,1,1,46,1,1,1,2,1,1,3,1,1,4,1,1,5,1,1
+P,1,1,2,1,I,1,1000
+P,1,1,1,1,L,NAME10,1000
+O,1,1,I,46
+D,2,1
+S,2,1,12
+N,1,1,1,1,1,1,2,1,1,3,1,1,4,1,1,5,1,1
+# same bit
+N,1,3,1,11,1,1,12,1,1,13,1,1,14,1,1,15,1,1
+N,1,5,1,22,1,1,23,1,1,25,1,1,26,1,1,27,1,1
+# book
+D,1,5
+S,1,1,12
+O,1,1,I,1
+N,1,1,1,1,1,1,2,1,1,3,1,1,4,1,1,5,1,1
+O,1,1,I,2
+S,1,1,12
+D,1,5
+P,1,1,1,1,I,1,1000
+# two warehouses
+N,1,1,1,1,1,1,2,1,1,3,1,1,4,1,1,5,1,1
+N,2,1,1,1,2,1,2,2,1,3,2,1,4,2,1,5,2,1
+N,1,2,1,1,2,1,6,1,1,7,1,1,8,1,1,9,1,1
+P,2,3,1,4,I,5,1000
+P,1,3,2,4,I,5,1000
+O,2,4,I,5
+O,1,4,I,5
+S,1,2,12
+D,2,1
+D,1,1
+S,2,9,12
+# item twice
+N,1,1,1,15,1,10,15,1,10,20,1,1,1,1,1,2,1,1
+# no last item
+N,1,1,1,1,1,1,2,1,1,3,1,1,4,1,1,999999,1,1
+# payment
+P,1,1,1,1,L,NAME7,1000
+# two payments
+P,1,1,1,1,L,NAME7,1000
+P,1,1,1,1,L,NAME3,1000
+# delivery
+D,1,5
+# stock level
+S,1,1,12
+# order status
+O,1,1,I,1
+# second order status
+O,1,1,I,2
+# two order statuses
+O,1,1,I,1
+O,1,1,I,2
+# other delivery
+D,1,4
+# delivery to no warehouse
+D,2,5
+# nothing
 ";
-
-/// Two deliveries to a warehouse.
-pub const TWO_DELIVERIES: &str = "D,1,3\nD,1,4\n";
