@@ -323,12 +323,17 @@ impl Helped {
             do_jobs(jobs, places);
             return;
         }
+        // Helpers hash whole texts, so nothing is looked for on the shelves.
+        let whole = Leaves {
+            store: places.store,
+            shelves: &[],
+        };
         let plan = Plan {
-            places,
+            places: &whole,
             most,
             size: LONG_TEXTS,
         };
-        sort_by_bytes(jobs, places);
+        sort_by_bytes(jobs, &whole);
         do_rounds(&mut self.helpers, &plan, jobs, &mut self.leaves);
     }
 

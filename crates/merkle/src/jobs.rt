@@ -11,7 +11,7 @@ use tpcc_rows::codes::LEAVES;
 #[derive(Clone, Copy)]
 pub(crate) struct Job {
     pub(crate) place: usize,
-    /// How many bytes suffice for what is hashed.
+    /// How many bytes will likely be hashed.
     pub(crate) bytes: usize,
     pub(crate) hash: [u8; 32],
 }

@@ -3,15 +3,16 @@ ghost use Rattle.std.specs.Prelude.{◌≡◌, ◌<◌, ◌∷◌, [], ℕ, All,
 ghost use Rattle.merkle.specs.Jobs.{IsDone};
 ghost use Rattle.merkle.specs.Nodes.{at, rehashed};
 ghost use Rattle.tpcc_model.specs.Roots.{leaf_hash};
+ghost use Rattle.tpcc_rows.specs.Leaves.{page_rows};
 
-use crate::hashing::{
-    LEAF_BYTES, TwoTexts, encode_leaf, hash_four_leaves, hash_leaf, prefetch_rows,
-};
+use crate::hashing::{LEAF_BYTES, Leaf, TwoTexts, encode_leaf, hash_four_leaves, hash_leaf};
 use crate::helped::{Encodes, Helped};
 use crate::jobs::{Job, gather_leaves, put_hashes};
+use crate::kept::{Kept, likely_bytes};
 use crate::places::Places;
 use crate::shares::{Crew, do_jobs_on};
 use rollback::PointedStore;
+use std::sync::Mutex;
 use std::thread::Threads;
 use tpcc_rows::codes::LEAVES;
 use tpcc_rows::row_buf::ByteBuf;
@@ -19,10 +20,23 @@ use tpcc_rows::row_buf::ByteBuf;
 /// How many rows one thread takes at least: so many that it is worth its start, which costs a few hundred of them.
 const ROWS_AT_ONCE: usize = 4096;
 
-/// The leaves of a store.
+/// The leaves of a store, and what is kept of their texts.
 #[derive(Clone, Copy)]
 pub(crate) struct Leaves<'a> {
     pub(crate) store: &'a PointedStore,
+    pub(crate) shelves: &'a [Mutex<Kept>],
+}
+
+impl<'a> Leaves<'a> {
+    fn leaf(&self, n: usize) -> Leaf<'a>
+        requires { n < LEAVES }
+        ensures { result.page.now ≡ page_rows self.now.store.now.rows n }
+    {
+        Leaf {
+            page: self.store.page(n),
+            shelf: self.shelves.get(n),
+        }
+    }
 }
 
 impl Places for Leaves<'_> {
@@ -41,7 +55,7 @@ impl Places for Leaves<'_> {
     }
 
     fn measure(&self, n: usize) -> usize {
-        prefetch_rows(self.store.page(n))
+        likely_bytes(self.shelves.get(n), self.store.page(n))
     }
 
     #[tactic(auto, unfolding(tpcc_model::specs::Roots::leaf_hash))]
@@ -59,14 +73,13 @@ impl Places for Leaves<'_> {
         c: usize,
         d: usize,
     ) -> [[u8; 32]; 4] {
-        let store = self.store;
         hash_four_leaves(
             front,
             back,
-            store.page(a),
-            store.page(b),
-            store.page(c),
-            store.page(d),
+            &self.leaf(a),
+            &self.leaf(b),
+            &self.leaf(c),
+            &self.leaf(d),
         )
     }
 }
@@ -94,17 +107,16 @@ fn hash_leaves<R: Threads + Sync>(
     crew: &Crew<'_, R>,
     jobs: &mut [Job],
     helped: &mut Helped,
-    store: &PointedStore,
+    places: &Leaves<'_>,
 )
     requires { All (λ job. job.place < LEAVES) jobs.old }
-    ensures { IsDone (leaf_hash store.now.rows) jobs.old jobs.new }
+    ensures { IsDone (leaf_hash places.now.store.now.rows) jobs.old jobs.new }
 {
-    let paying = rows_of(jobs, store) / ROWS_AT_ONCE;
-    let places = Leaves { store };
+    let paying = rows_of(jobs, places.store) / ROWS_AT_ONCE;
     if paying > 1 {
-        do_jobs_on(crew, jobs, &places, paying);
+        do_jobs_on(crew, jobs, places, paying);
     } else {
-        helped.do_leaves(jobs, &places, crew.threads);
+        helped.do_leaves(jobs, places, crew.threads);
     }
 }
 
@@ -114,16 +126,16 @@ pub(crate) fn rehash<R: Threads + Sync>(
     leaves: &mut [[u8; 32]],
     jobs: &mut [Job],
     helped: &mut Helped,
-    store: &PointedStore,
+    places: &Leaves<'_>,
     dirty: &[bool],
 )
     requires full { length leaves.old ≡ LEAVES }
     requires room { length jobs.old ≡ LEAVES }
     requires marks { length dirty.now ≡ LEAVES }
-    ensures each { (k : ℕ) → k < LEAVES → at leaves.new k ≡ rehashed dirty.now store.now.rows (at leaves.old k) k }
+    ensures each { (k : ℕ) → k < LEAVES → at leaves.new k ≡ rehashed dirty.now places.now.store.now.rows (at leaves.old k) k }
     ensures room { length jobs.new ≡ LEAVES }
 {
     let count = gather_leaves(jobs, dirty);
-    hash_leaves(crew, &mut jobs[..count], helped, store);
+    hash_leaves(crew, &mut jobs[..count], helped, places);
     put_hashes(leaves, &jobs[..count]);
 }

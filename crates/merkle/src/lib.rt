@@ -4,6 +4,7 @@
 pub mod hashing;
 mod helped;
 mod jobs;
+mod kept;
 mod leaves;
 mod levels;
 mod places;

@@ -6,7 +6,7 @@ use crate::jobs::{Job, give_hashes};
 
 /// How many places are measured together, and are then hashed in the order of their lengths: four neighbours take the time of the
 /// longest of them.
-pub(crate) const WINDOW: usize = 16;
+const WINDOW: usize = 32;
 
 /// What has places, each with its hash.
 pub(crate) trait Places {
@@ -22,7 +22,7 @@ pub(crate) trait Places {
 
     fn room() -> Self::Room;
 
-    /// How many bytes suffice for what the hash is of, which is prefetched where it lies far apart.
+    /// How many bytes will likely be hashed. What the hash is of is prefetched where it lies far apart.
     fn measure(&self, place: usize) -> usize
         requires { has self.now place };
 

@@ -4,7 +4,7 @@ ghost use denote.Param.Send.{IsSync};
 ghost use Rattle.merkle.specs.Jobs.{IsDone};
 
 use crate::jobs::Job;
-use crate::places::{Places, WINDOW, do_jobs};
+use crate::places::{Places, do_jobs};
 use std::thread::{Threads, join_mut};
 use tpcc_rows::codes::LEAVES;
 
@@ -15,12 +15,15 @@ pub(crate) struct Crew<'a, R> {
     pub(crate) threads: usize,
 }
 
-/// How many jobs each thread takes where so many threads pay, so that they are shared out evenly, in whole windows.
+/// Jobs are shared out in parts of so many.
+const PART: usize = 16;
+
+/// How many jobs each thread takes where so many threads pay, so that they are shared out evenly, in whole parts.
 fn share(jobs: usize, paying: usize, threads: usize) -> usize
     ensures { 0 < result }
 {
     let useful = paying.clamp(1, threads.max(1));
-    jobs.div_ceil(WINDOW).div_ceil(useful).clamp(1, LEAVES) * WINDOW
+    jobs.div_ceil(PART).div_ceil(useful).clamp(1, LEAVES) * PART
 }
 
 /// Does two parts of jobs, the first on a thread of its own, where one can be made.

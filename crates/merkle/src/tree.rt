@@ -6,7 +6,8 @@ ghost use Rattle.tpcc_rows.specs.RowMap.{Rows};
 
 use crate::helped::Helped;
 use crate::jobs::Job;
-use crate::leaves::rehash;
+use crate::kept::{Kept, close, shelves};
+use crate::leaves::{Leaves, rehash};
 use crate::levels::rejoin;
 use crate::shares::Crew;
 use hashers::Host;
@@ -14,6 +15,7 @@ use rollback::{Dirty, PointedStore};
 use std::alloc::Global;
 use std::marker::Model;
 use std::num::NonZeroUsize;
+use std::sync::Mutex;
 use std::thread::{self, Threads};
 use tpcc_rows::codes::LEAVES;
 use tpcc_rows::memory::Memory;
@@ -24,16 +26,16 @@ fn build_nodes<R: Threads + Sync>(
     nodes: &mut [[u8; 32]],
     jobs: &mut [Job],
     helped: &mut Helped,
-    store: &PointedStore,
+    places: &Leaves<'_>,
 )
     requires full { length nodes.old ≡ 2 * LEAVES }
     requires room { length jobs.old ≡ LEAVES }
     ensures tree { IsTree nodes.new }
-    ensures leaves { (n : ℕ) → n < LEAVES → at nodes.new (LEAVES + n) ≡ leaf_hash store.now.rows n }
+    ensures leaves { (n : ℕ) → n < LEAVES → at nodes.new (LEAVES + n) ≡ leaf_hash places.now.store.now.rows n }
     ensures room { length jobs.new ≡ LEAVES }
 {
     let (_, leaves) = nodes.split_at_mut(LEAVES);
-    rehash(crew, leaves, jobs, helped, store, &[true; LEAVES]);
+    rehash(crew, leaves, jobs, helped, places, &[true; LEAVES]);
     rejoin(crew, nodes, &mut [true; 2 * LEAVES], jobs, helped);
 }
 
@@ -43,18 +45,18 @@ fn refresh_nodes<R: Threads + Sync>(
     nodes: &mut [[u8; 32]],
     jobs: &mut [Job],
     helped: &mut Helped,
-    store: &PointedStore,
+    places: &Leaves<'_>,
     dirty: &[bool],
 )
     requires marks { length dirty.now ≡ LEAVES }
     requires tree { IsTree nodes.old }
     requires room { length jobs.old ≡ LEAVES }
     ensures tree { IsTree nodes.new }
-    ensures leaves { (n : ℕ) → n < LEAVES → at nodes.new (LEAVES + n) ≡ rehashed dirty.now store.now.rows (at nodes.old (LEAVES + n)) n }
+    ensures leaves { (n : ℕ) → n < LEAVES → at nodes.new (LEAVES + n) ≡ rehashed dirty.now places.now.store.now.rows (at nodes.old (LEAVES + n)) n }
     ensures room { length jobs.new ≡ LEAVES }
 {
     let (_, leaves) = nodes.split_at_mut(LEAVES);
-    rehash(crew, leaves, jobs, helped, store, dirty);
+    rehash(crew, leaves, jobs, helped, places, dirty);
     let mut marks = [false; 2 * LEAVES];
     let (_, below) = marks.split_at_mut(LEAVES);
     below.copy_from_slice(dirty);
@@ -69,6 +71,8 @@ pub struct Tree {
     // Room for what is to be hashed, so that a refresh takes no memory.
     jobs: Vec<Job>,
     helped: Helped,
+    // What is kept of the text of each leaf, where there is memory for it.
+    shelves: Vec<Mutex<Kept>>,
 }
 
 impl Model for Tree {
@@ -103,17 +107,23 @@ impl Tree {
         let mut jobs = vec![in alloc; Job::NONE; LEAVES]?;
         let threads = thread::available_parallelism(rt).map_or(1, NonZeroUsize::get);
         let mut helped = Helped::alone(alloc);
+        let mut shelves = shelves(alloc);
         build_nodes(
             &Crew { rt, threads },
             &mut nodes,
             &mut jobs,
             &mut helped,
-            store,
+            &Leaves {
+                store,
+                shelves: shelves.as_slice(),
+            },
         );
+        close(shelves.as_mut_slice());
         Ok(Tree {
             nodes,
             jobs,
             helped,
+            shelves,
         })
     }
 
@@ -145,7 +155,10 @@ impl Tree {
             &mut self.nodes,
             &mut self.jobs,
             &mut self.helped,
-            store,
+            &Leaves {
+                store,
+                shelves: self.shelves.as_slice(),
+            },
             dirty.marks(),
         );
     }

@@ -12,4 +12,4 @@ pub returns-clause-leaves : goal.returns-clause-leaves
 returns-clause-leaves g c = λ n small.
     c.rejoin.ensures.leaves (4096 + n) (omega arith)
     ∙ at-back [] c.split_at_mut-leaves.result.0.now c.rehash.new.leaves 4096 n c.split_at_mut-leaves.ensures.front_len
-    ∙ c.rehash.ensures.each n small ∙ ap (λ (b : Bool). cond b (leaf_hash c.args.store.now.rows n) (at c.split_at_mut-leaves.result.1.now n)) (get_or-replicate 4096 n true false small)
+    ∙ c.rehash.ensures.each n small ∙ ap (λ (b : Bool). cond b (leaf_hash c.args.places.now.store.now.rows n) (at c.split_at_mut-leaves.result.1.now n)) (get_or-replicate 4096 n true false small)

@@ -9,21 +9,21 @@ returns c =
     let first : c.digest_at.result ≡ sha256 c.args.first.now =
     c.digest_at.ensures
     ∙ message_digest c.args.first.now (lane 0 c.take_in.new.state) c.new.result.count
-    (rw c.new.ensures at c.new.result.count_is)
-    (rw (c.initial_state-state.ensures 0 (omega arith), c.new.ensures) at c.take_in.ensures.first) in
+    c.new.ensures.count
+    (rw (c.initial_state-state.ensures 0 (omega arith), c.new.ensures.rest, c.new.ensures.total) at c.take_in.ensures.first) in
     let second : c.digest_at-2.result ≡ sha256 c.args.second.now =
     c.digest_at-2.ensures
     ∙ message_digest c.args.second.now (lane 1 c.take_in.new.state) c.new-2.result.count
-    (rw c.new-2.ensures at c.new-2.result.count_is)
-    (rw (c.initial_state-state.ensures 1 (omega arith), c.new-2.ensures) at c.take_in.ensures.second) in
+    c.new-2.ensures.count
+    (rw (c.initial_state-state.ensures 1 (omega arith), c.new-2.ensures.rest, c.new-2.ensures.total) at c.take_in.ensures.second) in
     let third : c.digest_at-3.result ≡ sha256 c.args.third.now =
     c.digest_at-3.ensures
     ∙ message_digest c.args.third.now (lane 2 c.take_in.new.state) c.new-3.result.count
-    (rw c.new-3.ensures at c.new-3.result.count_is)
-    (rw (c.initial_state-state.ensures 2 (omega arith), c.new-3.ensures) at c.take_in.ensures.third) in
+    c.new-3.ensures.count
+    (rw (c.initial_state-state.ensures 2 (omega arith), c.new-3.ensures.rest, c.new-3.ensures.total) at c.take_in.ensures.third) in
     let fourth : c.digest_at-4.result ≡ sha256 c.args.fourth.now =
     c.digest_at-4.ensures
     ∙ message_digest c.args.fourth.now (lane 3 c.take_in.new.state) c.new-4.result.count
-    (rw c.new-4.ensures at c.new-4.result.count_is)
-    (rw (c.initial_state-state.ensures 3 (omega arith), c.new-4.ensures) at c.take_in.ensures.fourth) in
+    c.new-4.ensures.count
+    (rw (c.initial_state-state.ensures 3 (omega arith), c.new-4.ensures.rest, c.new-4.ensures.total) at c.take_in.ensures.fourth) in
     rw (first, second, third, fourth) refl
