@@ -14,7 +14,7 @@ ghost use Rattle.tpcc_model.specs.Soundness.{IsSound};
 use crate::engine::Engine;
 use crate::laws::sound_states;
 use crate::next_batch::{LAST_NUMBER, MOST_REQUESTS, NextBatch};
-use crate::opening::next_number;
+use crate::opening::{digest_and_tree, next_number};
 use crate::record::Record;
 use crate::refusal::Refusal;
 use crate::stamp::Stamp;
@@ -80,9 +80,9 @@ impl Executor {
         ensures sound { IfOk result (λ e. IsSoundState e.cards e.present) }
     {
         sound_states();
-        let digest = catalog.digest();
         let next = next_number(&store);
-        let tree = Tree::build(rt, alloc, &store)?;
+        let (digest, built) = digest_and_tree(rt, alloc, &catalog, &store);
+        let tree = built?;
         let parts = TokenParts {
             sequence: 0,
             prior: [0; 32],

@@ -13,7 +13,7 @@ invariant_of-result-2 g c =
     let rows = c.args.store.rows in
     let stamp : Stamp = record { next = c.next_number-next.result; sequence = 0; token = c.token.result } in
     let state : state_of rows stamp ≡ opening c.args.catalog rows =
-    opening_stamp c.args.catalog rows stamp c.digest-digest.result c.root.result c.reply_digest.result c.next_number-next.ensures.value c.digest-digest.ensures (c.root.ensures rows c.in_ok-tree.ensures) c.reply_digest.ensures c.token.ensures in
+    opening_stamp c.args.catalog rows stamp c.digest_and_tree-built.result.0 c.root.result c.reply_digest.result c.next_number-next.ensures.value c.digest_and_tree-built.ensures.digest (c.root.ensures rows (rw c.in_ok-tree.was at c.digest_and_tree-built.ensures.tree)) c.reply_digest.ensures c.token.ensures in
     record {
       stamped = ap length c.new.ensures ∙ sym (ap length c.requires.points);
       earlier = all-none (IsKeptState c.args.catalog) c.args.store.points c.new.result.items c.requires.points;
@@ -29,7 +29,7 @@ returns-clause-line g c =
     let rows = c.args.store.rows in
     let stamp : Stamp = record { next = c.next_number-next.result; sequence = 0; token = c.token.result } in
     let state : state_of rows stamp ≡ opening c.args.catalog rows =
-    opening_stamp c.args.catalog rows stamp c.digest-digest.result c.root.result c.reply_digest.result c.next_number-next.ensures.value c.digest-digest.ensures (c.root.ensures rows c.in_ok-tree.ensures) c.reply_digest.ensures c.token.ensures in
+    opening_stamp c.args.catalog rows stamp c.digest_and_tree-built.result.0 c.root.result c.reply_digest.result c.next_number-next.ensures.value c.digest_and_tree-built.ensures.digest (c.root.ensures rows (rw c.in_ok-tree.was at c.digest_and_tree-built.ensures.tree)) c.reply_digest.ensures c.token.ensures in
     ap₂ (λ (earlier : List State) (present : State). let l : Line = record { cards = c.args.catalog; earlier = earlier; present = present } in l) (ap (λ points. states_of points c.new.result.items) c.requires.points) state
 
 pub returns-clause-sound : goal.returns-clause-sound
@@ -37,5 +37,5 @@ returns-clause-sound g c =
     let rows = c.args.store.rows in
     let stamp : Stamp = record { next = c.next_number-next.result; sequence = 0; token = c.token.result } in
     let state : state_of rows stamp ≡ opening c.args.catalog rows =
-    opening_stamp c.args.catalog rows stamp c.digest-digest.result c.root.result c.reply_digest.result c.next_number-next.ensures.value c.digest-digest.ensures (c.root.ensures rows c.in_ok-tree.ensures) c.reply_digest.ensures c.token.ensures in
+    opening_stamp c.args.catalog rows stamp c.digest_and_tree-built.result.0 c.root.result c.reply_digest.result c.next_number-next.ensures.value c.digest_and_tree-built.ensures.digest (c.root.ensures rows (rw c.in_ok-tree.was at c.digest_and_tree-built.ensures.tree)) c.reply_digest.ensures c.token.ensures in
     subst (IsSoundState c.args.catalog) (sym state) (c.sound_states.ensures.opening (database c.args.catalog rows) c.requires.sound)
