@@ -1,3 +1,4 @@
 pub mod Sums
 pub mod BookLemmas
 pub mod DistrictLemmas
+pub mod InOrder

@@ -1,3 +1,5 @@
 pub mod Books
 pub mod Districts
+pub mod Orders
 pub mod Checks
+pub mod Sorted

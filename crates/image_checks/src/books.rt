@@ -1,7 +1,8 @@
 //! A book for each district, which its rows are entered into one after the other.
-ghost use Rattle.std.specs.Prelude.{◌≡◌, ◌<◌, ◌+◌, ◌*◌, ◌^◌, ◌+ℤ◌, max, min, pos, ℕ, length, IfNone, IfOk, IfSome, Some};
+ghost use Rattle.std.specs.Prelude.{◌≡◌, ◌<◌, ◌+◌, ◌*◌, ◌^◌, ◌+ℤ◌, max, min, pos, ℕ, length, replicate, IfNone, IfOk, IfSome, Some};
 ghost use Rattle.std.specs.Ordering.{int_eq};
 ghost use Rattle.records.specs.Fields.{IsWithin};
+ghost use Rattle.tpcc_rows.specs.RowMap.{Rows};
 ghost use Rattle.image_checks.specs.Books.{AreBooks, AreOfRows, IsEntered, IsEntry, IsOfRows, book_of, book_of_row, both, empty_book, one_of};
 ghost use Rattle.image_checks.specs.Districts.{are_without_gap, follows_on};
 ghost use Rattle.image_checks.specs.declared.books.TheConstants.{PLACES};
@@ -36,6 +37,16 @@ pub const PLACES: usize = 1_011;
 pub(crate) struct Books {
     places: Vec<Book>,
     ghost whole: { length places.items ≡ PLACES },
+}
+
+impl Books {
+    /// A book of no rows for each district.
+    pub(crate) fn new(alloc: Global) -> Result<Books, Memory>
+        ensures { IfOk result (λ books. books.places.items ≡ replicate PLACES empty_book) }
+    {
+        let places = vec![in alloc; Book::EMPTY; PLACES]?;
+        Ok(Books { places })
+    }
 }
 
 /// The place of a district among those of all warehouses.
@@ -208,7 +219,7 @@ fn entry(key: &RowKey, row: &Row) -> Option<(WarehouseId, DistrictId, Book)>
 }
 
 /// Enters a row into the book of its district.
-fn enter(books: &mut Books, key: &RowKey, row: &Row)
+pub(crate) fn enter(books: &mut Books, key: &RowKey, row: &Row)
     requires { AreOfRows (2 ^ 63) books.old.places.items }
     ensures books { IsEntered books.old.places.items (key.now, row.now) books.new.places.items }
     ensures small { (w d : ℕ) → IsOfRows 1 (book_of_row w d (key.now, row.now)) }
@@ -223,8 +234,7 @@ fn enter(books: &mut Books, key: &RowKey, row: &Row)
 pub(crate) fn books_of(alloc: Global, rows: &RowStore) -> Result<Books, Memory>
     ensures { IfOk result (λ books. AreBooks books.places.items rows.now) }
 {
-    let places = vec![in alloc; Book::EMPTY; PLACES]?;
-    let mut books = Books { places };
+    let mut books = Books::new(alloc)?;
     let _count = rows.len();
     for (key, row) in rows.iter() {
         enter(&mut books, key, row);
@@ -233,14 +243,8 @@ pub(crate) fn books_of(alloc: Global, rows: &RowStore) -> Result<Books, Memory>
 }
 
 /// The book of a district.
-pub(crate) fn book_of(
-    books: &Books,
-    rows: &RowStore,
-    warehouse: WarehouseId,
-    district: DistrictId,
-) -> Book
-    requires { AreBooks books.now.places.items rows.now }
-    ensures { result ≡ book_of warehouse district rows.now }
+pub(crate) fn book_of(books: &Books, warehouse: WarehouseId, district: DistrictId) -> Book
+    ensures { (rows : Rows) → AreBooks books.now.places.items rows → result ≡ book_of warehouse district rows }
 {
     books.places[place(warehouse, district)]
 }

@@ -1,15 +1,17 @@
 //! Parents and consistency conditions.
-ghost use Rattle.std.specs.Prelude.{◌≡◌, ◌<◌, ◌^◌, ◌+ℤ◌, ℕ, pos, IfErr, IfNone, IfSome, OnOk, Ok, Err};
+ghost use Rattle.std.specs.Prelude.{◌≡◌, ◌<◌, ◌^◌, ◌+ℤ◌, ℕ, pos, IfErr, IfNone, IfSome, OnOk, Ok, Err, option_and_then, option_copied};
+ghost use Rattle.std.specs.FinMap as map;
 ghost use Rattle.std.specs.List.{list_all};
 ghost use Rattle.catalog.specs.declared.card.CardKey.TheVariants as card_key;
 ghost use Rattle.tpcc_model.specs.Conditions.{district_share};
 ghost use Rattle.tpcc_rows.specs.Limits.{IsCents, ten};
-ghost use Rattle.tpcc_rows.specs.Rows.{order_row};
-ghost use Rattle.tpcc_rows.specs.declared.key.RowKey.TheVariants as row_key;
+ghost use Rattle.tpcc_rows.specs.RowKinds.{as_order};
+ghost use Rattle.tpcc_rows.specs.RowMap.{Rows};
 ghost use Rattle.records.specs.Fields.{IsWithin};
 ghost use Rattle.image_checks.specs.Checks.{AreSums, AreWithin, IsShare, card_has_parents, checked, has_line, parents_there, row_has_parents, sum_at, ytd_agrees, ytds_agree};
+ghost use Rattle.image_checks.specs.Orders.{order_key, order_of};
 ghost use Rattle.image_records.specs.Faults.{IsOfText, StopsBy};
-ghost use Rattle.image_records.specs.Databases.{has_card, has_row};
+ghost use Rattle.image_records.specs.Databases.{has_card};
 ghost use Rattle.tpcc_model.specs.Database.{database};
 
 use crate::books::books_of;
@@ -18,14 +20,14 @@ use catalog::Catalog;
 use catalog::card::{Card, CardKey};
 use image_records::fault::LoadError;
 use std::alloc::Global;
-use tpcc_rows::id::{CustomerId, DistrictId, ItemId, LineNumber, OrderId, WarehouseId};
+use tpcc_rows::id::{CustomerId, DistrictId, ItemId, LineNumber, WarehouseId};
 use tpcc_rows::key::RowKey;
 use tpcc_rows::number::Cents;
 use tpcc_rows::plain::RowStore;
 use tpcc_rows::row::Row;
 
 /// A sum for each warehouse, at its number.
-type Sums = [i128; 101];
+pub(crate) type Sums = [i128; 101];
 
 fn has_card(catalog: &Catalog, key: CardKey) -> bool
     ensures { result ≡ has_card catalog.now key }
@@ -97,41 +99,50 @@ fn has_stock(catalog: &Catalog, warehouse: WarehouseId, item: ItemId) -> bool
     has_card(catalog, CardKey::Stock { warehouse, item })
 }
 
-fn has_order(rows: &RowStore, warehouse: WarehouseId, district: DistrictId, order: OrderId) -> bool
-    ensures { result ≡ has_row rows.now (row_key.Order warehouse district order) }
+/// The key of the order that a new order or an order line goes with.
+pub(crate) fn order_key(key: &RowKey) -> Option<RowKey>
+    ensures { result ≡ order_key key.now }
 {
-    let key = RowKey::Order {
-        warehouse,
-        district,
-        order,
-    };
-    rows.get(&key).is_some()
+    match *key {
+        RowKey::NewOrder {
+            warehouse,
+            district,
+            order,
+        }
+        | RowKey::OrderLine {
+            warehouse,
+            district,
+            order,
+            ..
+        } => {
+            Some(RowKey::Order {
+                warehouse,
+                district,
+                order,
+            })
+        }
+        _ => None,
+    }
 }
 
-/// Whether the order is there, and has at least so many lines.
-fn has_line(
-    rows: &RowStore,
-    warehouse: WarehouseId,
-    district: DistrictId,
-    order: OrderId,
-    number: LineNumber,
-) -> bool
-    ensures { result ≡ has_line number (order_row rows.now warehouse district order) }
+/// Whether the row is there, is an order's, and has at least so many lines.
+fn has_line(order: Option<&Row>, number: LineNumber) -> bool
+    ensures { result ≡ has_line number (option_and_then as_order (option_copied order.entry)) }
 {
-    let key = RowKey::Order {
-        warehouse,
-        district,
-        order,
-    };
-    match rows.get(&key) {
+    match order {
         Some(Row::Order(order)) => number <= order.line_count,
         _ => false,
     }
 }
 
-/// Whether the cards and the rows are there that a row goes with, besides the card of its own key.
-fn row_has_parents(catalog: &Catalog, rows: &RowStore, key: &RowKey, row: &Row) -> bool
-    ensures { result ≡ row_has_parents (database catalog.now rows.now) (key.now, row.now) }
+/// Whether the cards and the order are there that a row goes with, besides the card of its own key. The order is passed, if it is there.
+pub(crate) fn row_has_parents(
+    catalog: &Catalog,
+    order: Option<&Row>,
+    key: &RowKey,
+    row: &Row,
+) -> bool
+    ensures { (rows : Rows) → option_copied order.entry ≡ order_of rows key.now → result ≡ row_has_parents (database catalog.now rows) (key.now, row.now) }
 {
     match (key, row) {
         (
@@ -145,25 +156,9 @@ fn row_has_parents(catalog: &Catalog, rows: &RowStore, key: &RowKey, row: &Row) 
             has_district(catalog, *warehouse, *district)
                 && has_customer(catalog, *warehouse, *district, row.customer)
         }
-        (
-            RowKey::NewOrder {
-                warehouse,
-                district,
-                order,
-            },
-            _,
-        ) => has_order(rows, *warehouse, *district, *order),
-        (
-            RowKey::OrderLine {
-                warehouse,
-                district,
-                order,
-                number,
-            },
-            Row::OrderLine(row),
-        ) => {
-            has_line(rows, *warehouse, *district, *order, *number)
-                && has_stock(catalog, row.supply, row.item)
+        (RowKey::NewOrder { .. }, _) => order.is_some(),
+        (RowKey::OrderLine { number, .. }, Row::OrderLine(row)) => {
+            has_line(order, *number) && has_stock(catalog, row.supply, row.item)
         }
         (RowKey::History { .. }, Row::History(row)) => {
             has_customer(
@@ -177,22 +172,45 @@ fn row_has_parents(catalog: &Catalog, rows: &RowStore, key: &RowKey, row: &Row) 
     }
 }
 
+/// Whether the cards are there that the cards go with.
+pub(crate) fn cards_have_parents(catalog: &Catalog) -> bool
+    ensures { result ≡ list_all (card_has_parents catalog.now) (map.entries catalog.now) }
+{
+    for (key, card) in catalog.cards() {
+        if !card_has_parents(catalog, key, card) {
+            return false;
+        }
+    }
+    true
+}
+
+/// The order that a row goes with, where it has one that is there.
+fn order_of<'a>(rows: &'a RowStore, key: &RowKey) -> Option<&'a Row>
+    ensures { option_copied result ≡ order_of rows.now key.now }
+{
+    let order = order_key(key)?;
+    rows.get(&order)
+}
+
+/// Whether the cards and the rows are there that the rows go with.
+fn rows_have_parents(catalog: &Catalog, rows: &RowStore) -> bool
+    ensures { result ≡ list_all (row_has_parents (database catalog.now rows.now)) (map.entries rows.now) }
+{
+    for (key, row) in rows.iter() {
+        let order = order_of(rows, key);
+        if !row_has_parents(catalog, order, key, row) {
+            return false;
+        }
+    }
+    true
+}
+
 /// Whether all parents are there.
 #[tactic(auto, unfolding(crate::specs::Checks::parents_there))]
 fn parents_there(catalog: &Catalog, rows: &RowStore) -> bool
     ensures { result ≡ parents_there (database catalog.now rows.now) }
 {
-    for (card_key, card) in catalog.cards() {
-        if !card_has_parents(catalog, card_key, card) {
-            return false;
-        }
-    }
-    for (row_key, row) in rows.iter() {
-        if !row_has_parents(catalog, rows, row_key, row) {
-            return false;
-        }
-    }
-    true
+    cards_have_parents(catalog) && rows_have_parents(catalog, rows)
 }
 
 fn plus(sum: i128, amount: i64) -> i128
@@ -214,7 +232,7 @@ fn share(key: &RowKey, row: &Row) -> Option<(WarehouseId, Cents)>
 }
 
 /// Adds D_YTD of a district's row to the sum of its warehouse.
-fn add_share(sums: &mut Sums, key: &RowKey, row: &Row)
+pub(crate) fn add_share(sums: &mut Sums, key: &RowKey, row: &Row)
     requires { AreWithin (2 ^ 63) sums.old }
     ensures sums { (w : ℕ) → w < 101 → sum_at sums.new w ≡ sum_at sums.old w +ℤ district_share w key.now row.now }
     ensures near { (w : ℕ) → w < 101 → IsCents (district_share w key.now row.now) }
@@ -239,9 +257,8 @@ fn district_sums(rows: &RowStore) -> Sums
     sums
 }
 
-fn ytd_agrees(sums: &Sums, rows: &RowStore, key: &RowKey, row: &Row) -> bool
-    requires { AreSums sums.now rows.now }
-    ensures { result ≡ ytd_agrees rows.now (key.now, row.now) }
+pub(crate) fn ytd_agrees(sums: &Sums, key: &RowKey, row: &Row) -> bool
+    ensures { (rows : Rows) → AreSums sums.now rows → result ≡ ytd_agrees rows (key.now, row.now) }
 {
     match (key, row) {
         (RowKey::Warehouse { warehouse }, Row::Warehouse(row)) => {
@@ -258,7 +275,7 @@ fn ytds_agree(rows: &RowStore) -> bool
 {
     let sums = district_sums(rows);
     for (key, row) in rows.iter() {
-        if !ytd_agrees(&sums, rows, key, row) {
+        if !ytd_agrees(&sums, key, row) {
             return false;
         }
     }

@@ -1,5 +1,6 @@
 //! The consistency conditions of each district's orders.
 ghost use Rattle.std.specs.Prelude.{◌≡◌};
+ghost use Rattle.tpcc_rows.specs.RowMap.{Rows};
 ghost use Rattle.image_checks.specs.Books.{AreBooks};
 ghost use Rattle.image_checks.specs.Districts.{line_count_agrees, line_counts_agree, next_order_agrees, next_orders_agree, span_agrees, spans_agree};
 
@@ -8,9 +9,8 @@ use tpcc_rows::key::RowKey;
 use tpcc_rows::plain::RowStore;
 use tpcc_rows::row::Row;
 
-fn next_order_agrees(books: &Books, rows: &RowStore, key: &RowKey, row: &Row) -> bool
-    requires { AreBooks books.now.places.items rows.now }
-    ensures { result ≡ next_order_agrees rows.now (key.now, row.now) }
+pub(crate) fn next_order_agrees(books: &Books, key: &RowKey, row: &Row) -> bool
+    ensures { (rows : Rows) → AreBooks books.now.places.items rows → result ≡ next_order_agrees rows (key.now, row.now) }
 {
     match (key, row) {
         (
@@ -19,7 +19,7 @@ fn next_order_agrees(books: &Books, rows: &RowStore, key: &RowKey, row: &Row) ->
                 district,
             },
             Row::District(row),
-        ) => book_of(books, rows, *warehouse, *district).goes_before(row.next_order),
+        ) => book_of(books, *warehouse, *district).goes_before(row.next_order),
         _ => true,
     }
 }
@@ -31,12 +31,11 @@ pub(crate) fn next_orders_agree(books: &Books, rows: &RowStore) -> bool
     ensures { result ≡ next_orders_agree rows.now }
 {
     rows.iter()
-        .all(|(key, row)| next_order_agrees(books, rows, key, row))
+        .all(|(key, row)| next_order_agrees(books, key, row))
 }
 
-fn span_agrees(books: &Books, rows: &RowStore, key: &RowKey, row: &Row) -> bool
-    requires { AreBooks books.now.places.items rows.now }
-    ensures { result ≡ span_agrees rows.now (key.now, row.now) }
+pub(crate) fn span_agrees(books: &Books, key: &RowKey, row: &Row) -> bool
+    ensures { (rows : Rows) → AreBooks books.now.places.items rows → result ≡ span_agrees rows (key.now, row.now) }
 {
     match (key, row) {
         (
@@ -45,7 +44,7 @@ fn span_agrees(books: &Books, rows: &RowStore, key: &RowKey, row: &Row) -> bool
                 district,
             },
             Row::District(_),
-        ) => book_of(books, rows, *warehouse, *district).has_no_gap(),
+        ) => book_of(books, *warehouse, *district).has_no_gap(),
         _ => true,
     }
 }
@@ -56,13 +55,11 @@ pub(crate) fn spans_agree(books: &Books, rows: &RowStore) -> bool
     requires { AreBooks books.now.places.items rows.now }
     ensures { result ≡ spans_agree rows.now }
 {
-    rows.iter()
-        .all(|(key, row)| span_agrees(books, rows, key, row))
+    rows.iter().all(|(key, row)| span_agrees(books, key, row))
 }
 
-fn line_count_agrees(books: &Books, rows: &RowStore, key: &RowKey, row: &Row) -> bool
-    requires { AreBooks books.now.places.items rows.now }
-    ensures { result ≡ line_count_agrees rows.now (key.now, row.now) }
+pub(crate) fn line_count_agrees(books: &Books, key: &RowKey, row: &Row) -> bool
+    ensures { (rows : Rows) → AreBooks books.now.places.items rows → result ≡ line_count_agrees rows (key.now, row.now) }
 {
     match (key, row) {
         (
@@ -71,7 +68,7 @@ fn line_count_agrees(books: &Books, rows: &RowStore, key: &RowKey, row: &Row) ->
                 district,
             },
             Row::District(_),
-        ) => book_of(books, rows, *warehouse, *district).has_all_lines(),
+        ) => book_of(books, *warehouse, *district).has_all_lines(),
         _ => true,
     }
 }
@@ -83,5 +80,5 @@ pub(crate) fn line_counts_agree(books: &Books, rows: &RowStore) -> bool
     ensures { result ≡ line_counts_agree rows.now }
 {
     rows.iter()
-        .all(|(key, row)| line_count_agrees(books, rows, key, row))
+        .all(|(key, row)| line_count_agrees(books, key, row))
 }

@@ -4,5 +4,7 @@
 mod books;
 mod checks;
 mod districts;
+mod sorted;
 
 pub use checks::check;
+pub use sorted::check_sorted;

@@ -4,3 +4,4 @@ pub mod Filled
 pub mod RecordLimits
 pub mod ImageLaws
 pub mod Sound
+pub mod KindLists

@@ -1,2 +1,5 @@
 pub mod Tables
 pub mod Image
+pub mod Kinds
+pub mod Gathered
+pub mod Additions

@@ -7,9 +7,7 @@ ghost use Rattle.loader.specs.Image.{image, most_bytes};
 ghost use Rattle.image_records.specs.Databases.{loaded};
 
 use crate::reading::read_tables;
-use crate::tables::on_pages;
 use catalog::Catalog;
-use image_checks::check;
 use image_records::fault::LoadError;
 use records::fault::ReadError;
 use records::io::Source;
@@ -30,11 +28,7 @@ fn load_text(alloc: Global, text: &[u8]) -> Result<(Catalog, PointedStore), Load
     ensures err { IfErr result (λ e. StopsBy e (image text.now)) }
     ensures kinds { IfErr result IsOfText }
 {
-    let tables = read_tables(alloc, text)?;
-    let catalog = tables.cards.finish(alloc)?;
-    check(alloc, &catalog, &tables.rows)?;
-    let rows = on_pages(alloc, tables.rows)?;
-    Ok((catalog, rows))
+    read_tables(alloc, text)?.finish_sound(alloc)
 }
 
 /// The database of the bytes that a source has left, of at most 4,294,967,295 bytes. The first record at fault is

@@ -2,10 +2,15 @@
 //! parents and the consistency conditions are tested.
 #![tactic(auto)]
 
+mod addition;
+mod gathered;
+pub mod gathered_tables;
 mod image;
+mod kind_lists;
 pub mod laws;
 mod reading;
 pub mod tables;
 
+pub use gathered_tables::GatheredTables;
 pub use image::load;
 pub use tables::{Tables, on_pages};

@@ -5,9 +5,10 @@ ghost use Rattle.records.specs.Records.{IsGoing, records_in, records_left};
 ghost use Rattle.image_records.specs.Faults.{StopsBy};
 ghost use Rattle.loader.specs.Image.{Rest, counts, ended, is_first, placed, read_all, read_from};
 ghost use Rattle.image_records.specs.ImageRecords.{record_at};
-ghost use Rattle.loader.specs.Tables.{database_of, no_tables};
+ghost use Rattle.loader.specs.Gathered.{gathered_database};
+ghost use Rattle.loader.specs.Tables.{no_tables};
 
-use crate::tables::Tables;
+use crate::gathered_tables::GatheredTables;
 use catalog::builder::CatalogError;
 use csv::{ByteRecord, Reader};
 use image_records::fault::{LoadError, fault};
@@ -46,14 +47,14 @@ fn counts(number: u64, fields: &ByteRecord) -> bool
 /// Takes in the record of this number.
 fn place(
     alloc: Global,
-    tables: &mut Tables,
+    tables: &mut GatheredTables,
     number: u64,
     fields: &ByteRecord,
 ) -> Result<(), LoadError>
     ensures ok { OnOk result ((rest : Rest)
-        → placed number (database_of tables.old) (record_at (fields_of fields.now)) rest ≡ rest (database_of tables.new)) }
+        → placed number (gathered_database tables.old) (record_at (fields_of fields.now)) rest ≡ rest (gathered_database tables.new)) }
     ensures err { IfErr result (λ e. (rest : Rest)
-        → StopsBy e (placed number (database_of tables.old) (record_at (fields_of fields.now)) rest)) }
+        → StopsBy e (placed number (gathered_database tables.old) (record_at (fields_of fields.now)) rest)) }
 {
     let said = match image_record(alloc, fields) {
         Ok(said) => said,
@@ -85,13 +86,13 @@ fn read_rest(
     alloc: Global,
     reader: &mut Reader<&[u8]>,
     fields: &mut ByteRecord,
-    tables: &mut Tables,
+    tables: &mut GatheredTables,
 ) -> Result<(), LoadError>
     requires going { IsGoing reader.old }
     requires room { 2 + length (records_left reader.old) < 2 ^ 64 }
     ensures ok { OnOk result
-        (read_from (records_left reader.old) 2 (database_of tables.old) ≡ Ok (database_of tables.new)) }
-    ensures err { IfErr result (λ e. StopsBy e (read_from (records_left reader.old) 2 (database_of tables.old))) }
+        (read_from (records_left reader.old) 2 (gathered_database tables.old) ≡ Ok (gathered_database tables.new)) }
+    ensures err { IfErr result (λ e. StopsBy e (read_from (records_left reader.old) 2 (gathered_database tables.old))) }
 {
     let mut number = 2;
     while next_record(reader, fields)? {
@@ -113,12 +114,12 @@ fn read_records(
     alloc: Global,
     reader: &mut Reader<&[u8]>,
     fields: &mut ByteRecord,
-    tables: &mut Tables,
+    tables: &mut GatheredTables,
 ) -> Result<(), LoadError>
     requires going { IsGoing reader.old }
     requires room { 1 + length (records_left reader.old) < 2 ^ 64 }
-    requires none { database_of tables.old ≡ no_tables }
-    ensures ok { OnOk result (read_all (records_left reader.old) ≡ Ok (database_of tables.new)) }
+    requires none { gathered_database tables.old ≡ no_tables }
+    ensures ok { OnOk result (read_all (records_left reader.old) ≡ Ok (gathered_database tables.new)) }
     ensures err { IfErr result (λ e. StopsBy e (read_all (records_left reader.old))) }
 {
     if !next_record(reader, fields)? {
@@ -131,14 +132,14 @@ fn read_records(
 }
 
 /// The tables of a text, unchecked.
-pub(crate) fn read_tables(alloc: Global, text: &[u8]) -> Result<Tables, LoadError>
+pub(crate) fn read_tables(alloc: Global, text: &[u8]) -> Result<GatheredTables, LoadError>
     requires { length text.now < 2 ^ 32 }
-    ensures ok { IfOk result (λ tables. read_all (records_in text.now) ≡ Ok (database_of tables)) }
+    ensures ok { IfOk result (λ tables. read_all (records_in text.now) ≡ Ok (gathered_database tables)) }
     ensures err { IfErr result (λ e. StopsBy e (read_all (records_in text.now))) }
 {
     let mut reader = records_of(alloc, text);
     let mut fields = ByteRecord::new(alloc);
-    let mut tables = Tables::new(alloc);
+    let mut tables = GatheredTables::new(alloc)?;
     read_records(alloc, &mut reader, &mut fields, &mut tables)?;
     Ok(tables)
 }

@@ -6,22 +6,23 @@ ghost use Rattle.rollback.specs.Marks.{AreClean};
 ghost use Rattle.tpcc_rows.specs.Limits.{IsBetween};
 ghost use Rattle.made_database.specs.Made.{AreBefore, made, made_customer, made_district, made_item, made_stock, made_warehouse, with_each, with_records};
 ghost use Rattle.image_records.specs.Databases.{loaded};
-ghost use Rattle.loader.specs.Tables.{database_of, is_taken, no_tables, with_record};
+ghost use Rattle.loader.specs.Gathered.{gathered_database};
+ghost use Rattle.loader.specs.Tables.{is_taken, no_tables, with_record};
 
 use crate::made_records::{made_customer, made_district, made_item, made_stock, made_warehouse};
 use catalog::Catalog;
 use catalog::builder::CatalogError;
 use image_records::image_record::ImageRecord;
-use loader::tables::{Tables, on_pages};
+use loader::GatheredTables;
 use rollback::PointedStore;
 use std::alloc::Global;
 use tpcc_rows::id::{CustomerId, DistrictId, ItemId, WarehouseId};
 use tpcc_rows::memory::Memory;
 
 /// Takes in what a record says, whose key hasn't come before.
-fn add(tables: &mut Tables, said: ImageRecord) -> Result<(), Memory>
-    requires { is_taken (database_of tables.old) said ≡ false }
-    ensures { OnOk result (database_of tables.new ≡ with_record (database_of tables.old) said) }
+fn add(tables: &mut GatheredTables, said: ImageRecord) -> Result<(), Memory>
+    requires { is_taken (gathered_database tables.old) said ≡ false }
+    ensures { OnOk result (gathered_database tables.new ≡ with_record (gathered_database tables.old) said) }
 {
     match tables.add(said) {
         Ok(()) => Ok(()),
@@ -31,11 +32,11 @@ fn add(tables: &mut Tables, said: ImageRecord) -> Result<(), Memory>
 }
 
 /// Adds warehouses 1 to `count`.
-fn add_warehouses(tables: &mut Tables, count: u8) -> Result<(), Memory>
+fn add_warehouses(tables: &mut GatheredTables, count: u8) -> Result<(), Memory>
     requires count { count ≤ 100 }
-    requires before { AreBefore (card_key.Warehouse 1) (database_of tables.old) }
-    ensures ok { OnOk result (database_of tables.new ≡ with_records count made_warehouse (database_of tables.old)) }
-    ensures before { OnOk result (AreBefore (card_key.Warehouse (count + 1)) (database_of tables.new)) }
+    requires before { AreBefore (card_key.Warehouse 1) (gathered_database tables.old) }
+    ensures ok { OnOk result (gathered_database tables.new ≡ with_records count made_warehouse (gathered_database tables.old)) }
+    ensures before { OnOk result (AreBefore (card_key.Warehouse (count + 1)) (gathered_database tables.new)) }
 {
     for w in 1..count + 1 {
         let warehouse = WarehouseId::new(w).unwrap();
@@ -45,11 +46,11 @@ fn add_warehouses(tables: &mut Tables, count: u8) -> Result<(), Memory>
 }
 
 /// Adds the ten districts of a warehouse.
-fn add_districts_of(tables: &mut Tables, warehouse: WarehouseId) -> Result<(), Memory>
-    requires { AreBefore (card_key.District warehouse 1) (database_of tables.old) }
+fn add_districts_of(tables: &mut GatheredTables, warehouse: WarehouseId) -> Result<(), Memory>
+    requires { AreBefore (card_key.District warehouse 1) (gathered_database tables.old) }
     ensures ok { OnOk result
-        (database_of tables.new ≡ with_records 10 (made_district warehouse) (database_of tables.old)) }
-    ensures before { OnOk result (AreBefore (card_key.District warehouse 11) (database_of tables.new)) }
+        (gathered_database tables.new ≡ with_records 10 (made_district warehouse) (gathered_database tables.old)) }
+    ensures before { OnOk result (AreBefore (card_key.District warehouse 11) (gathered_database tables.new)) }
 {
     for d in 1..11 {
         let district = DistrictId::new(d).unwrap();
@@ -59,12 +60,12 @@ fn add_districts_of(tables: &mut Tables, warehouse: WarehouseId) -> Result<(), M
 }
 
 /// Adds the districts of warehouses 1 to `warehouses`.
-fn add_districts(tables: &mut Tables, warehouses: u8) -> Result<(), Memory>
+fn add_districts(tables: &mut GatheredTables, warehouses: u8) -> Result<(), Memory>
     requires count { warehouses ≤ 100 }
-    requires before { AreBefore (card_key.District 1 1) (database_of tables.old) }
+    requires before { AreBefore (card_key.District 1 1) (gathered_database tables.old) }
     ensures ok { OnOk result
-        (database_of tables.new ≡ with_each warehouses (λ w. with_records 10 (made_district w)) (database_of tables.old)) }
-    ensures before { OnOk result (AreBefore (card_key.District (warehouses + 1) 1) (database_of tables.new)) }
+        (gathered_database tables.new ≡ with_each warehouses (λ w. with_records 10 (made_district w)) (gathered_database tables.old)) }
+    ensures before { OnOk result (AreBefore (card_key.District (warehouses + 1) 1) (gathered_database tables.new)) }
 {
     for w in 1..warehouses + 1 {
         let warehouse = WarehouseId::new(w).unwrap();
@@ -75,17 +76,17 @@ fn add_districts(tables: &mut Tables, warehouses: u8) -> Result<(), Memory>
 
 /// Adds customers 1 to `count` of a district.
 fn add_customers_of(
-    tables: &mut Tables,
+    tables: &mut GatheredTables,
     warehouse: WarehouseId,
     district: DistrictId,
     count: u16,
 ) -> Result<(), Memory>
     requires count { count ≤ 3000 }
-    requires before { AreBefore (card_key.Customer warehouse district 1) (database_of tables.old) }
+    requires before { AreBefore (card_key.Customer warehouse district 1) (gathered_database tables.old) }
     ensures ok { OnOk result
-        (database_of tables.new ≡ with_records count (made_customer warehouse district) (database_of tables.old)) }
+        (gathered_database tables.new ≡ with_records count (made_customer warehouse district) (gathered_database tables.old)) }
     ensures before { OnOk result
-        (AreBefore (card_key.Customer warehouse district (count + 1)) (database_of tables.new)) }
+        (AreBefore (card_key.Customer warehouse district (count + 1)) (gathered_database tables.new)) }
 {
     for c in 1..count + 1 {
         let customer = CustomerId::new(c).unwrap();
@@ -95,12 +96,16 @@ fn add_customers_of(
 }
 
 /// Adds customers 1 to `count` of each district of a warehouse.
-fn add_customers_in(tables: &mut Tables, warehouse: WarehouseId, count: u16) -> Result<(), Memory>
+fn add_customers_in(
+    tables: &mut GatheredTables,
+    warehouse: WarehouseId,
+    count: u16,
+) -> Result<(), Memory>
     requires count { count ≤ 3000 }
-    requires before { AreBefore (card_key.Customer warehouse 1 1) (database_of tables.old) }
-    ensures ok { OnOk result (database_of tables.new
-        ≡ with_each 10 (λ d. with_records count (made_customer warehouse d)) (database_of tables.old)) }
-    ensures before { OnOk result (AreBefore (card_key.Customer warehouse 11 1) (database_of tables.new)) }
+    requires before { AreBefore (card_key.Customer warehouse 1 1) (gathered_database tables.old) }
+    ensures ok { OnOk result (gathered_database tables.new
+        ≡ with_each 10 (λ d. with_records count (made_customer warehouse d)) (gathered_database tables.old)) }
+    ensures before { OnOk result (AreBefore (card_key.Customer warehouse 11 1) (gathered_database tables.new)) }
 {
     for d in 1..11 {
         let district = DistrictId::new(d).unwrap();
@@ -110,13 +115,13 @@ fn add_customers_in(tables: &mut Tables, warehouse: WarehouseId, count: u16) -> 
 }
 
 /// Adds customers 1 to `count` of each district of warehouses 1 to `warehouses`.
-fn add_customers(tables: &mut Tables, warehouses: u8, count: u16) -> Result<(), Memory>
+fn add_customers(tables: &mut GatheredTables, warehouses: u8, count: u16) -> Result<(), Memory>
     requires warehouses { warehouses ≤ 100 }
     requires count { count ≤ 3000 }
-    requires before { AreBefore (card_key.Customer 1 1 1) (database_of tables.old) }
-    ensures ok { OnOk result (database_of tables.new
-        ≡ with_each warehouses (λ w. with_each 10 (λ d. with_records count (made_customer w d))) (database_of tables.old)) }
-    ensures before { OnOk result (AreBefore (card_key.Customer (warehouses + 1) 1 1) (database_of tables.new)) }
+    requires before { AreBefore (card_key.Customer 1 1 1) (gathered_database tables.old) }
+    ensures ok { OnOk result (gathered_database tables.new
+        ≡ with_each warehouses (λ w. with_each 10 (λ d. with_records count (made_customer w d))) (gathered_database tables.old)) }
+    ensures before { OnOk result (AreBefore (card_key.Customer (warehouses + 1) 1 1) (gathered_database tables.new)) }
 {
     for w in 1..warehouses + 1 {
         let warehouse = WarehouseId::new(w).unwrap();
@@ -128,15 +133,15 @@ fn add_customers(tables: &mut Tables, warehouses: u8, count: u16) -> Result<(), 
 /// Adds the stocks of items 1 to `count` of a warehouse.
 fn add_stocks_of(
     alloc: Global,
-    tables: &mut Tables,
+    tables: &mut GatheredTables,
     warehouse: WarehouseId,
     count: u32,
 ) -> Result<(), Memory>
     requires count { count ≤ 100000 }
-    requires before { AreBefore (card_key.Stock warehouse 1) (database_of tables.old) }
+    requires before { AreBefore (card_key.Stock warehouse 1) (gathered_database tables.old) }
     ensures ok { OnOk result
-        (database_of tables.new ≡ with_records count (made_stock warehouse) (database_of tables.old)) }
-    ensures before { OnOk result (AreBefore (card_key.Stock warehouse (count + 1)) (database_of tables.new)) }
+        (gathered_database tables.new ≡ with_records count (made_stock warehouse) (gathered_database tables.old)) }
+    ensures before { OnOk result (AreBefore (card_key.Stock warehouse (count + 1)) (gathered_database tables.new)) }
 {
     for i in 1..count + 1 {
         let item = ItemId::new(i).unwrap();
@@ -147,13 +152,18 @@ fn add_stocks_of(
 }
 
 /// Adds the stocks of items 1 to `count` of warehouses 1 to `warehouses`.
-fn add_stocks(alloc: Global, tables: &mut Tables, warehouses: u8, count: u32) -> Result<(), Memory>
+fn add_stocks(
+    alloc: Global,
+    tables: &mut GatheredTables,
+    warehouses: u8,
+    count: u32,
+) -> Result<(), Memory>
     requires warehouses { warehouses ≤ 100 }
     requires count { count ≤ 100000 }
-    requires before { AreBefore (card_key.Stock 1 1) (database_of tables.old) }
-    ensures ok { OnOk result (database_of tables.new
-        ≡ with_each warehouses (λ w. with_records count (made_stock w)) (database_of tables.old)) }
-    ensures before { OnOk result (AreBefore (card_key.Stock (warehouses + 1) 1) (database_of tables.new)) }
+    requires before { AreBefore (card_key.Stock 1 1) (gathered_database tables.old) }
+    ensures ok { OnOk result (gathered_database tables.new
+        ≡ with_each warehouses (λ w. with_records count (made_stock w)) (gathered_database tables.old)) }
+    ensures before { OnOk result (AreBefore (card_key.Stock (warehouses + 1) 1) (gathered_database tables.new)) }
 {
     for w in 1..warehouses + 1 {
         let warehouse = WarehouseId::new(w).unwrap();
@@ -163,10 +173,10 @@ fn add_stocks(alloc: Global, tables: &mut Tables, warehouses: u8, count: u32) ->
 }
 
 /// Adds items 1 to `count`.
-fn add_items(tables: &mut Tables, count: u32) -> Result<(), Memory>
+fn add_items(tables: &mut GatheredTables, count: u32) -> Result<(), Memory>
     requires count { count ≤ 100000 }
-    requires before { AreBefore (card_key.Item 1) (database_of tables.old) }
-    ensures { OnOk result (database_of tables.new ≡ with_records count made_item (database_of tables.old)) }
+    requires before { AreBefore (card_key.Item 1) (gathered_database tables.old) }
+    ensures { OnOk result (gathered_database tables.new ≡ with_records count made_item (gathered_database tables.old)) }
 {
     for i in 1..count + 1 {
         let item = ItemId::new(i).unwrap();
@@ -179,7 +189,7 @@ fn add_items(tables: &mut Tables, count: u32) -> Result<(), Memory>
 #[tactic(auto, unfolding(crate::specs::Made::made))]
 fn fill(
     alloc: Global,
-    tables: &mut Tables,
+    tables: &mut GatheredTables,
     warehouses: u8,
     customers: u16,
     items: u32,
@@ -187,8 +197,8 @@ fn fill(
     requires warehouses { IsBetween 1 100 warehouses }
     requires customers { IsBetween 1 3000 customers }
     requires items { IsBetween 1 100000 items }
-    requires none { database_of tables.old ≡ no_tables }
-    ensures { OnOk result (database_of tables.new ≡ made warehouses customers items) }
+    requires none { gathered_database tables.old ≡ no_tables }
+    ensures { OnOk result (gathered_database tables.new ≡ made warehouses customers items) }
 {
     add_warehouses(tables, warehouses)?;
     add_districts(tables, warehouses)?;
@@ -213,9 +223,7 @@ pub fn make(
     ensures clean { IfOk result (λ db. AreClean db.1.dirty) }
     ensures sound { IfOk result (λ db. IsSound (loaded db)) }
 {
-    let mut tables = Tables::new(alloc);
+    let mut tables = GatheredTables::new(alloc)?;
     fill(alloc, &mut tables, warehouses, customers, items)?;
-    let catalog = tables.cards.finish(alloc)?;
-    let rows = on_pages(alloc, tables.rows)?;
-    Ok((catalog, rows))
+    tables.finish(alloc)
 }

@@ -8,7 +8,7 @@ use Rattle.image_checks.proofs.books.books_of.Goals as goal
 pub loop-key-init : goal.loop-key-init
 loop-key-init c =
     let all = c.into_iter-key-iterator.ensures.into_iter_gives ∙ c.iter-key-items.ensures in
-    let empty : c.in_ok-places.places.items ≡ replicate 1011 empty_book = search rules in
+    let empty : c.in_ok-books.books.places.items ≡ replicate 1011 empty_book = search rules in
     (rw all (rw c.len-count.ensures.value at c.len-count.ensures.small), empty_small _ _ empty, none_entered _ _ _ empty all)
 
 pub enter-requires : goal.enter-requires

@@ -1,14 +1,14 @@
 use Rattle.made_database.specs.Made.{made_customer, with_each, with_records}
-use Rattle.loader.specs.Tables.{database_of}
+use Rattle.loader.specs.Gathered.{gathered_database}
 use Rattle.made_database.proofs.MadeSteps.{each-none, is_number, one_step, past_ten_districts}
 use Rattle.made_database.proofs.making.add_customers.Goals as goal
 
 pub loop-w-init : goal.loop-w-init
-loop-w-init c = (each-none (λ w. with_each 10 (λ d. with_records c.args.count (made_customer w d))) (database_of c.args.tables.now), c.requires.before)
+loop-w-init c = (each-none (λ w. with_each 10 (λ d. with_records c.args.count (made_customer w d))) (gathered_database c.args.tables.now), c.requires.before)
 
 pub loop-w-preserved : goal.loop-w-preserved
 loop-w-preserved c =
     let number = is_number 1 100 c.loop-w.w c.unwrap-warehouse.result c.new.result c.new.ensures c.unwrap-warehouse.ensures in (
-      one_step c.loop-w.w c.unwrap-warehouse.result (λ w. with_each 10 (λ d. with_records c.args.count (made_customer w d))) (database_of c.args.tables.now) (database_of c.loop-w.tables) (database_of c.add_customers_in.new.tables) number c.loop-w.auto.w c.loop-w.invariant.0 c.in_ok-add_customers_in.ensures.ok,
-      past_ten_districts c.loop-w.w c.unwrap-warehouse.result (database_of c.add_customers_in.new.tables) number c.in_ok-add_customers_in.ensures.before,
+      one_step c.loop-w.w c.unwrap-warehouse.result (λ w. with_each 10 (λ d. with_records c.args.count (made_customer w d))) (gathered_database c.args.tables.now) (gathered_database c.loop-w.tables) (gathered_database c.add_customers_in.new.tables) number c.loop-w.auto.w c.loop-w.invariant.0 c.in_ok-add_customers_in.ensures.ok,
+      past_ten_districts c.loop-w.w c.unwrap-warehouse.result (gathered_database c.add_customers_in.new.tables) number c.in_ok-add_customers_in.ensures.before,
     )

@@ -1,18 +1,18 @@
 use Rattle.std.proofs.Common.{◌∙◌, ap}
 use Rattle.made_database.specs.Made.{made_stock}
-use Rattle.loader.specs.Tables.{database_of}
+use Rattle.loader.specs.Gathered.{gathered_database}
 use Rattle.made_database.proofs.MadeSteps.{is_number, keys_of_stocks, none_said, not_taken, one_said}
 use Rattle.made_database.proofs.making.add_stocks_of.Goals as goal
 
 pub loop-i-init : goal.loop-i-init
-loop-i-init c = none_said (keys_of_stocks c.args.warehouse) (database_of c.args.tables.now) c.requires.before
+loop-i-init c = none_said (keys_of_stocks c.args.warehouse) (gathered_database c.args.tables.now) c.requires.before
 
 pub add-requires : goal.add-requires
 add-requires c =
     let number = is_number 1 999999 c.loop-i.i c.unwrap-item.result c.new.result c.new.ensures c.unwrap-item.ensures in
-    not_taken (keys_of_stocks c.args.warehouse) c.loop-i.i c.in_ok-stock.stock (database_of c.loop-i.tables) (c.in_ok-stock.ensures ∙ ap (made_stock c.args.warehouse) number) c.loop-i.invariant.1
+    not_taken (keys_of_stocks c.args.warehouse) c.loop-i.i c.in_ok-stock.stock (gathered_database c.loop-i.tables) (c.in_ok-stock.ensures ∙ ap (made_stock c.args.warehouse) number) c.loop-i.invariant.1
 
 pub loop-i-preserved : goal.loop-i-preserved
 loop-i-preserved c =
     let number = is_number 1 999999 c.loop-i.i c.unwrap-item.result c.new.result c.new.ensures c.unwrap-item.ensures in
-    one_said (keys_of_stocks c.args.warehouse) c.loop-i.i c.in_ok-stock.stock (database_of c.args.tables.now) (database_of c.loop-i.tables) (database_of c.add.new.tables) (c.in_ok-stock.ensures ∙ ap (made_stock c.args.warehouse) number) c.loop-i.auto.i c.loop-i.invariant.0 c.loop-i.invariant.1 c.in_ok-add.ensures
+    one_said (keys_of_stocks c.args.warehouse) c.loop-i.i c.in_ok-stock.stock (gathered_database c.args.tables.now) (gathered_database c.loop-i.tables) (gathered_database c.add.new.tables) (c.in_ok-stock.ensures ∙ ap (made_stock c.args.warehouse) number) c.loop-i.auto.i c.loop-i.invariant.0 c.loop-i.invariant.1 c.in_ok-add.ensures

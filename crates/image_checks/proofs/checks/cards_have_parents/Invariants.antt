@@ -1,0 +1,9 @@
+use Rattle.std.proofs.Common.{◌≡◌, drop}
+use Rattle.std.specs.List.{list_all}
+use Rattle.std.specs.FinMap as map
+use Rattle.image_checks.specs.Checks.{card_has_parents}
+use Rattle.image_checks.proofs.checks.cards_have_parents.Given as goal
+
+-- what is left decides
+abbrev pub invariant-loop-key : goal.invariant-loop-key
+invariant-loop-key l = list_all (card_has_parents l.catalog) (drop l.key-index l.key-items) ≡ list_all (card_has_parents l.catalog) (map.entries l.catalog)

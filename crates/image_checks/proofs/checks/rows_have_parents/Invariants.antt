@@ -1,0 +1,10 @@
+use Rattle.std.proofs.Common.{◌≡◌}
+use Rattle.std.specs.List.{list_all}
+use Rattle.std.specs.FinMap as map
+use Rattle.image_checks.specs.Checks.{row_has_parents}
+use Rattle.tpcc_model.specs.Database.{database}
+use Rattle.image_checks.proofs.checks.rows_have_parents.Given as goal
+
+-- what is left decides
+abbrev pub invariant-loop-key : goal.invariant-loop-key
+invariant-loop-key l = list_all (row_has_parents (database l.catalog l.rows)) l.key-iterator ≡ list_all (row_has_parents (database l.catalog l.rows)) (map.entries l.rows)

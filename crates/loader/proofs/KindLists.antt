@@ -1,0 +1,259 @@
+-- Rows in a list for each kind: one more behind those of its kind.
+use Rattle.std.proofs.Common.{◌≡◌, ◌<◌, ◌+◌, ◌==◌, ℕ, zero, suc, Bool, true, false, ◌&&◌, cond, T, List, [], ◌∷◌, ◌++◌, length, get_or, set, Some, None, refl, sym, ap, subst, ◌∙◌, append-nil, append_assoc, arith}
+use Rattle.std.proofs.lemmas.Bool.{eqb-true, eq-eqb}
+use Rattle.std.specs.Prelude.{⊤}
+use Rattle.std.specs.Cmp.{nat_cmp_is}
+use Rattle.std.specs.FinMap.{empty, entries-from_sorted, entries-insert, find, get, get-from_sorted, insert, is_sorted, same_entries_map}
+use Rattle.std.specs.FinMap.Entries.{below_all, by_order, is_sorted-put, put}
+use Rattle.std.specs.List.{list_all, slice_index_or}
+use Rattle.std.specs.List.Sorted.{IsPartitionPoint}
+use Rattle.std.specs.Ordering.{is_eq, is_lt, nat_cmp, ordering_reverse, ordering_then}
+use Rattle.std.specs.declared.cmp.Ordering.{Ordering}
+use Rattle.std.specs.declared.cmp.Ordering.TheVariants.{Less, Equal, Greater}
+use Rattle.image_checks.specs.Sorted.{rows_in}
+use Rattle.loader.specs.Kinds.{AreByKind, AreKindLists, AreOfKind, all_kinds, kind}
+use Rattle.tpcc_rows.specs.Changing.{with_each}
+use Rattle.tpcc_rows.specs.Places.{are_in_order}
+use Rattle.tpcc_rows.specs.RowKinds.{fits}
+use Rattle.tpcc_rows.specs.RowMap.{Rows, row_key_cmp}
+use Rattle.tpcc_rows.specs.declared.key.RowKey.{RowKey}
+use Rattle.tpcc_rows.specs.declared.key.RowKey.TheVariants.{Warehouse, District, Customer, Stock, Order, NewOrder, OrderLine, History}
+use Rattle.tpcc_rows.specs.declared.row.Row.{Row}
+use Rattle.tpcc_rows.proofs.Keys.{exact_keys, row_key_cmp_total}
+use Rattle.tpcc_rows.proofs.Places.{entries-map_of}
+use Rattle.tpcc_rows.proofs.Puts.{with_each-entries}
+use Rattle.tpcc_rows.proofs.Singles.{and-left, and-right, first, second}
+
+abbrev pub Entry : Type 0
+Entry = RowKey × Row
+
+abbrev pub Entries : Type 0
+Entries = List Entry
+
+both : (a b : Bool) → T a → T b → T (a && b)
+both true b p q = q
+both false b p q = p
+
+both-true : (a b : Bool) → a ≡ true → b ≡ true → (a && b) ≡ true
+both-true true b p q = q
+both-true false b p q = cc
+
+in-order : (b : Bool) → T b → b ≡ true
+in-order true h = refl
+in-order false h = absurd h
+
+-- ---- the order of keys of two kinds
+by_kinds : (a b : RowKey) → row_key_cmp a b ≡ ordering_then (nat_cmp (kind a) (kind b)) (row_key_cmp a b)
+by_kinds (Warehouse w) (Warehouse v) = refl
+by_kinds (District w d) (District v e) = refl
+by_kinds (Customer w d c) (Customer v e b) = refl
+by_kinds (Stock w i) (Stock v j) = refl
+by_kinds (Order w d o) (Order v e p) = refl
+by_kinds (NewOrder w d o) (NewOrder v e p) = refl
+by_kinds (OrderLine w d o n) (OrderLine v e p m) = refl
+by_kinds (History n) (History m) = refl
+by_kinds a b = refl
+
+kinds_rise : (a b : RowKey) → kind a < kind b → row_key_cmp a b ≡ Less
+kinds_rise a b h = by_kinds a b ∙ ap (λ o. ordering_then o (row_key_cmp a b)) (sym (nat_cmp_is (kind a) (kind b) Less h))
+
+greater : (a b : RowKey) → row_key_cmp a b ≡ Less → row_key_cmp b a ≡ Greater
+greater a b h = row_key_cmp_total.antisymm b a ∙ ap ordering_reverse h
+
+-- ---- a key behind some rows, and before others
+abbrev pub Behind : RowKey → Entries → Type 0
+Behind k [] = ⊤
+Behind k (e ∷ es) = (row_key_cmp e.0 k ≡ Less) × Behind k es
+
+abbrev Before : RowKey → Entries → Type 0
+Before k [] = ⊤
+Before k (e ∷ es) = (row_key_cmp k e.0 ≡ Less) × Before k es
+
+pub behind-placed : (k : RowKey) (es : Entries) → IsPartitionPoint (λ e. row_key_cmp e.0 k ≡ Less) (λ e. row_key_cmp e.0 k ≡ Greater) es (length es) → Behind k es
+behind-placed k [] parts = tt
+behind-placed k (e ∷ es) parts = (parts.0 0 e (omega arith) (omega arith), behind-placed k es (λ i d low high. parts.0 (suc i) d (omega (arith, low)) (omega (arith, high)), λ i d low high. parts.1 (suc i) d (omega (arith, low)) (omega (arith, high))))
+
+put-behind : (k : RowKey) (x : Row) (es fs : Entries) → Behind k es → put row_key_cmp k x (es ++ fs) ≡ es ++ put row_key_cmp k x fs
+put-behind k x [] fs behind = refl
+put-behind k x (e ∷ es) fs behind =
+    ap (λ o. by_order o ((k, x) ∷ e ∷ (es ++ fs)) ((e.0, x) ∷ (es ++ fs)) (e ∷ put row_key_cmp k x (es ++ fs))) (greater e.0 k behind.0)
+    ∙ ap (λ (xs : Entries). e ∷ xs) (put-behind k x es fs behind.1)
+
+put-before : (k : RowKey) (x : Row) (es : Entries) → Before k es → put row_key_cmp k x es ≡ (k, x) ∷ es
+put-before k x [] before = refl
+put-before k x (e ∷ es) before = ap (λ o. by_order o ((k, x) ∷ e ∷ es) ((e.0, x) ∷ es) (e ∷ put row_key_cmp k x es)) before.0
+
+find-behind : (k : RowKey) (es fs : Entries) → Behind k es → find row_key_cmp k (es ++ fs) ≡ find row_key_cmp k fs
+find-behind k [] fs behind = refl
+find-behind k (e ∷ es) fs behind =
+    ap (λ o. cond (is_eq o) (Some e.1) (find row_key_cmp k (es ++ fs))) (greater e.0 k behind.0) ∙ find-behind k es fs behind.1
+
+find-before : (k : RowKey) (es : Entries) → Before k es → find row_key_cmp k es ≡ None
+find-before k [] before = refl
+find-before k (e ∷ es) before = ap (λ o. cond (is_eq o) (Some e.1) (find row_key_cmp k es)) before.0 ∙ find-before k es before.1
+
+-- ---- rows of lesser and of greater kinds
+lesser_kind : (n : ℕ) (k : RowKey) (es : Entries) → list_all (λ row. kind row.0 == n) es ≡ true → n < kind k → Behind k es
+lesser_kind n k [] kinds h = tt
+lesser_kind n k (e ∷ es) kinds h =
+    let here : kind e.0 ≡ n = eqb-true (kind e.0) n (and-left (kind e.0 == n) _ kinds) in
+    (kinds_rise e.0 k (omega (arith, here, h)), lesser_kind n k es (and-right (kind e.0 == n) _ kinds) h)
+
+greater_kind : (n : ℕ) (k : RowKey) (es fs : Entries) → list_all (λ row. kind row.0 == n) es ≡ true → kind k < n → Before k fs → Before k (es ++ fs)
+greater_kind n k [] fs kinds h before = before
+greater_kind n k (e ∷ es) fs kinds h before =
+    let here : kind e.0 ≡ n = eqb-true (kind e.0) n (and-left (kind e.0 == n) _ kinds) in
+    (kinds_rise k e.0 (omega (arith, here, h)), greater_kind n k es fs (and-right (kind e.0 == n) _ kinds) h before)
+
+greater_kinds : (n : ℕ) (k : RowKey) (lists : List Entries) → AreByKind n lists → kind k < n → Before k (all_kinds lists)
+greater_kinds n k [] are h = tt
+greater_kinds n k (es ∷ lists) are h = greater_kind n k es (all_kinds lists) are.0.kinds h (greater_kinds (n + 1) k lists are.1 (omega (arith, h)))
+
+-- ---- all rows are in order
+below-before : (k : RowKey) (es : Entries) → Before k es → T (below_all row_key_cmp k es)
+below-before k [] before = tt
+below-before k (e ∷ es) before = both (is_lt (row_key_cmp k e.0)) (below_all row_key_cmp k es) (subst (λ o. T (is_lt o)) (sym before.0) tt) (below-before k es before.1)
+
+below-both : (k : RowKey) (es fs : Entries) → T (below_all row_key_cmp k es) → T (below_all row_key_cmp k fs) → T (below_all row_key_cmp k (es ++ fs))
+below-both k [] fs p q = q
+below-both k (e ∷ es) fs p q =
+    both (is_lt (row_key_cmp k e.0)) (below_all row_key_cmp k (es ++ fs)) (first (is_lt (row_key_cmp k e.0)) (below_all row_key_cmp k es) p)
+    (below-both k es fs (second (is_lt (row_key_cmp k e.0)) (below_all row_key_cmp k es) p) q)
+
+sorted-kind : (n : ℕ) (es : Entries) (lists : List Entries) → T (is_sorted row_key_cmp es) → list_all (λ row. kind row.0 == n) es ≡ true → AreByKind (n + 1) lists
+    → T (is_sorted row_key_cmp (all_kinds lists)) → T (is_sorted row_key_cmp (es ++ all_kinds lists))
+sorted-kind n [] lists order kinds are rest = rest
+sorted-kind n (e ∷ es) lists order kinds are rest =
+    let here : kind e.0 ≡ n = eqb-true (kind e.0) n (and-left (kind e.0 == n) _ kinds) in
+    both (below_all row_key_cmp e.0 (es ++ all_kinds lists)) (is_sorted row_key_cmp (es ++ all_kinds lists))
+    (below-both e.0 es (all_kinds lists) (first (below_all row_key_cmp e.0 es) (is_sorted row_key_cmp es) order)
+    (below-before e.0 (all_kinds lists) (greater_kinds (n + 1) e.0 lists are (omega (arith, here)))))
+    (sorted-kind n es lists (second (below_all row_key_cmp e.0 es) (is_sorted row_key_cmp es) order) (and-right (kind e.0 == n) _ kinds) are rest)
+
+sorted-kinds : (n : ℕ) (lists : List Entries) → AreByKind n lists → T (is_sorted row_key_cmp (all_kinds lists))
+sorted-kinds n [] are = tt
+sorted-kinds n (es ∷ lists) are = sorted-kind n es lists (subst T (sym are.0.order) tt) are.0.kinds are.1 (sorted-kinds (n + 1) lists are.1)
+
+pub kinds_in_order : (lists : List Entries) → AreKindLists lists → are_in_order row_key_cmp (all_kinds lists) ≡ true
+kinds_in_order lists are = in-order _ (sorted-kinds 0 lists are.by_kind)
+
+-- ---- all rows are of their keys' kinds
+fit-both : (es fs : Entries) → list_all (λ row. fits row.0 row.1) es ≡ true → list_all (λ row. fits row.0 row.1) fs ≡ true → list_all (λ row. fits row.0 row.1) (es ++ fs) ≡ true
+fit-both [] fs p q = q
+fit-both (e ∷ es) fs p q = both-true (fits e.0 e.1) (list_all (λ row. fits row.0 row.1) (es ++ fs)) (and-left (fits e.0 e.1) _ p) (fit-both es fs (and-right (fits e.0 e.1) _ p) q)
+
+fit-kinds : (n : ℕ) (lists : List Entries) → AreByKind n lists → list_all (λ row. fits row.0 row.1) (all_kinds lists) ≡ true
+fit-kinds n [] are = refl
+fit-kinds n (es ∷ lists) are = fit-both es (all_kinds lists) are.0.fit (fit-kinds (n + 1) lists are.1)
+
+pub kinds_fit : (lists : List Entries) → AreKindLists lists → list_all (λ row. fits row.0 row.1) (all_kinds lists) ≡ true
+kinds_fit lists are = fit-kinds 0 lists are.by_kind
+
+-- ---- no rows
+pub record AreEmptyLists (lists : List Entries) : Type 0 where
+  pub none : all_kinds lists ≡ []
+  pub by_kind : (n : ℕ) → AreByKind n lists
+
+no-rows : (n : ℕ) → AreOfKind n []
+no-rows n = record { order = refl; kinds = refl; fit = refl }
+
+pub none-empty : AreEmptyLists []
+none-empty = record { none = refl; by_kind = λ n. tt }
+
+by_kind-more : (n : ℕ) (lists : List Entries) → AreByKind n lists → AreByKind n (lists ++ [] ∷ [])
+by_kind-more n [] are = (no-rows n, tt)
+by_kind-more n (es ∷ lists) are = (are.0, by_kind-more (n + 1) lists are.1)
+
+all-more : (lists : List Entries) → all_kinds (lists ++ [] ∷ []) ≡ all_kinds lists
+all-more [] = refl
+all-more (es ∷ lists) = ap (λ rest. es ++ rest) (all-more lists)
+
+pub more-empty : (lists : List Entries) → AreEmptyLists lists → AreEmptyLists (lists ++ [] ∷ [])
+more-empty lists are = record { none = all-more lists ∙ are.none; by_kind = λ n. by_kind-more n lists (are.by_kind n) }
+
+-- ---- one row more
+-- one list replaced by one with a row of its kind more, behind all others
+pub record IsPush (lists : List Entries) (i : ℕ) (old new : Entries) (k : RowKey) (x : Row) : Type 0 where
+  pub place : i ≡ kind k
+  pub small : i < length lists
+  pub here : old ≡ get_or lists i old
+  pub behind : Behind k old
+  pub fit : fits k x ≡ true
+  pub push : new ≡ old ++ (k, x) ∷ []
+
+module _ (k : RowKey) (x : Row) (old new : Entries) (behind : Behind k old) (push : new ≡ old ++ (k, x) ∷ []) where
+  put-kinds : (n i : ℕ) (lists : List Entries) → AreByKind n lists → n + i ≡ kind k → i < length lists → old ≡ get_or lists i old → put row_key_cmp k x (all_kinds lists) ≡ all_kinds (set lists i new)
+  put-kinds n i [] are at small here = absurd (omega (arith, small))
+  put-kinds n zero (es ∷ lists) are at small here =
+      ap (λ (xs : Entries). put row_key_cmp k x (xs ++ all_kinds lists)) (sym here)
+      ∙ put-behind k x old (all_kinds lists) behind
+      ∙ ap (λ (xs : Entries). old ++ xs) (put-before k x (all_kinds lists) (greater_kinds (n + 1) k lists are.1 (omega (arith, at))))
+      ∙ sym (append_assoc old ((k, x) ∷ []) (all_kinds lists))
+      ∙ ap (λ (xs : Entries). xs ++ all_kinds lists) (sym push)
+  put-kinds n (suc i) (es ∷ lists) are at small here =
+      put-behind k x es (all_kinds lists) (lesser_kind n k es are.0.kinds (omega (arith, at)))
+      ∙ ap (λ (xs : Entries). es ++ xs) (put-kinds (n + 1) i lists are.1 (omega (arith, at)) (omega (arith, small)) here)
+
+  find-kinds : (n i : ℕ) (lists : List Entries) → AreByKind n lists → n + i ≡ kind k → i < length lists → old ≡ get_or lists i old → find row_key_cmp k (all_kinds lists) ≡ None
+  find-kinds n i [] are at small here = absurd (omega (arith, small))
+  find-kinds n zero (es ∷ lists) are at small here =
+      ap (λ (xs : Entries). find row_key_cmp k (xs ++ all_kinds lists)) (sym here)
+      ∙ find-behind k old (all_kinds lists) behind
+      ∙ find-before k (all_kinds lists) (greater_kinds (n + 1) k lists are.1 (omega (arith, at)))
+  find-kinds n (suc i) (es ∷ lists) are at small here =
+      find-behind k es (all_kinds lists) (lesser_kind n k es are.0.kinds (omega (arith, at)))
+      ∙ find-kinds (n + 1) i lists are.1 (omega (arith, at)) (omega (arith, small)) here
+
+  more-of_kind : (n : ℕ) → AreOfKind n old → n ≡ kind k → fits k x ≡ true → AreOfKind n new
+  more-of_kind n are at fit = record {
+    order = ap (are_in_order row_key_cmp) (push ∙ sym (ap (put row_key_cmp k x) (sym (append-nil old)) ∙ put-behind k x old [] behind))
+        ∙ in-order _ (is_sorted-put row_key_cmp row_key_cmp_total k x old (subst T (sym are.order) tt));
+    kinds = ap (list_all (λ row. kind row.0 == n)) push ∙ kinds-more n at old are.kinds;
+    fit = ap (list_all (λ row. fits row.0 row.1)) push ∙ fit-both old ((k, x) ∷ []) are.fit (both-true (fits k x) true fit refl);
+  }
+    where
+      kinds-more : (m : ℕ) → m ≡ kind k → (es : Entries) → list_all (λ row. kind row.0 == m) es ≡ true → list_all (λ row. kind row.0 == m) (es ++ (k, x) ∷ []) ≡ true
+      kinds-more m is [] all = both-true (kind k == m) true (eq-eqb (kind k) m (sym is)) refl
+      kinds-more m is (e ∷ es) all = both-true (kind e.0 == m) (list_all (λ row. kind row.0 == m) (es ++ (k, x) ∷ [])) (and-left (kind e.0 == m) _ all) (kinds-more m is es (and-right (kind e.0 == m) _ all))
+
+  by_kind-set : (n i : ℕ) (lists : List Entries) → AreByKind n lists → n + i ≡ kind k → old ≡ get_or lists i old → fits k x ≡ true → AreByKind n (set lists i new)
+  by_kind-set n i [] are at here fit = tt
+  by_kind-set n zero (es ∷ lists) are at here fit = (more-of_kind n (subst (AreOfKind n) (sym here) are.0) (omega (arith, at)) fit, are.1)
+  by_kind-set n (suc i) (es ∷ lists) are at here fit = (are.0, by_kind-set (n + 1) i lists are.1 (omega (arith, at)) here fit)
+
+length-set : (lists : List Entries) (i : ℕ) (new : Entries) → length (set lists i new) ≡ length lists
+length-set [] i new = refl
+length-set (es ∷ lists) zero new = refl
+length-set (es ∷ lists) (suc i) new = ap suc (length-set lists i new)
+
+module _ (lists : List Entries) (are : AreKindLists lists) (i : ℕ) (old new : Entries) (k : RowKey) (x : Row) (h : IsPush lists i old new k x) where
+  from-zero : 0 + i ≡ kind k
+  from-zero = let place = h.place in omega (arith, place)
+
+  pub kinds-push : AreKindLists (set lists i new)
+  kinds-push = record {
+    full = length-set lists i new ∙ are.full;
+    by_kind = by_kind-set k x old new h.behind h.push 0 i lists are.by_kind from-zero h.here h.fit;
+  }
+
+  put-all : put row_key_cmp k x (all_kinds lists) ≡ all_kinds (set lists i new)
+  put-all = put-kinds k x old new h.behind h.push 0 i lists are.by_kind from-zero h.small h.here
+
+  order : T (is_sorted row_key_cmp (all_kinds lists))
+  order = sorted-kinds 0 lists are.by_kind
+
+  pub rows-push : rows_in (all_kinds (set lists i new)) ≡ insert (rows_in (all_kinds lists)) k x
+  rows-push = ap rows_in (sym put-all) ∙ same_entries_map _ _ (entries-from_sorted row_key_cmp _ (is_sorted-put row_key_cmp row_key_cmp_total k x (all_kinds lists) order)
+      ∙ sym (entries-insert row_key_cmp_total (rows_in (all_kinds lists)) k x ∙ ap (put row_key_cmp k x) (entries-from_sorted row_key_cmp (all_kinds lists) order)))
+
+  pub fresh-push : get (rows_in (all_kinds lists)) k ≡ None
+  fresh-push = get-from_sorted row_key_cmp (all_kinds lists) k order ∙ find-kinds k x old new h.behind h.push 0 i lists are.by_kind from-zero h.small h.here
+
+-- ---- rows in order, put one after the other
+pub with_each-sorted : (es : Entries) → are_in_order row_key_cmp es ≡ true → with_each es empty ≡ rows_in es
+with_each-sorted es order = ap (λ (xs : Entries). with_each xs empty) (sym (entries-map_of row_key_cmp es order)) ∙ with_each-entries (rows_in es)
+
+pub is_less : (o : Ordering) → is_lt o ≡ true → o ≡ Less
+is_less Less h = refl
+is_less Equal h = cc
+is_less Greater h = cc

@@ -1,0 +1,42 @@
+-- Rows by kind: a list for each kind, its rows in the order of their keys.
+use Rattle.std.specs.Prelude.{◌≡◌, ◌==◌, ◌+◌, ◌++◌, ℕ, true, ⊤, List, [], ◌∷◌, length}
+use Rattle.std.specs.List.{list_all}
+use Rattle.tpcc_rows.specs.Places.{are_in_order}
+use Rattle.tpcc_rows.specs.RowKinds.{fits}
+use Rattle.tpcc_rows.specs.RowMap.{row_key_cmp}
+use Rattle.tpcc_rows.specs.declared.key.RowKey.{RowKey}
+use Rattle.tpcc_rows.specs.declared.key.RowKey.TheVariants as key
+use Rattle.tpcc_rows.specs.declared.row.Row.{Row}
+use Rattle.loader.specs.declared.kind_lists.TheConstants.{KINDS}
+
+-- the kind of a key, in the order of keys
+abbrev pub kind : RowKey → ℕ
+kind (key.Warehouse w) = 0
+kind (key.District w d) = 1
+kind (key.Customer w d c) = 2
+kind (key.Stock w i) = 3
+kind (key.Order w d o) = 4
+kind (key.NewOrder w d o) = 5
+kind (key.OrderLine w d o number) = 6
+kind (key.History number) = 7
+
+-- rows of this kind alone, in the order of their keys
+pub record AreOfKind (n : ℕ) (rows : List (RowKey × Row)) : Type 0 where
+  pub order : are_in_order row_key_cmp rows ≡ true
+  pub kinds : list_all (λ row. kind row.0 == n) rows ≡ true
+  pub fit : list_all (λ row. fits row.0 row.1) rows ≡ true
+
+-- the lists are those of the kinds from this one on
+abbrev pub AreByKind : ℕ → List (List (RowKey × Row)) → Type 0
+AreByKind n [] = ⊤
+AreByKind n (rows ∷ lists) = AreOfKind n rows × AreByKind (n + 1) lists
+
+-- a list for each kind
+pub record AreKindLists (lists : List (List (RowKey × Row))) : Type 0 where
+  pub full : length lists ≡ KINDS
+  pub by_kind : AreByKind 0 lists
+
+-- the rows of all kinds
+abbrev pub all_kinds : List (List (RowKey × Row)) → List (RowKey × Row)
+all_kinds [] = []
+all_kinds (rows ∷ lists) = rows ++ all_kinds lists

@@ -1,0 +1,137 @@
+//! What records add to cards and rows.
+ghost use Rattle.std.specs.Prelude.{◌≡◌, IfOk};
+ghost use Rattle.image_records.specs.declared.image_record.ImageRecord.TheVariants as says;
+ghost use Rattle.loader.specs.Additions.{IsSaidBy};
+
+use catalog::card::{Card, CustomerCard, DistrictCard, StockCard, WarehouseCard};
+use image_records::image_record::ImageRecord;
+use std::alloc::Global;
+use tpcc_rows::id::{DistrictId, LineNumber, OrderId, WarehouseId};
+use tpcc_rows::key::RowKey;
+use tpcc_rows::memory::Memory;
+use tpcc_rows::row::{
+    CustomerRow, DistrictRow, OrderLineRow, OrderRow, Row, StockRow, WarehouseRow,
+};
+
+/// A card, a row, or a card and the row that goes with it.
+#[derive(Drop)]
+pub(crate) enum Addition {
+    Card(Card),
+    Row(RowKey, Row),
+    Both(Card, RowKey, Row),
+}
+
+fn warehouse(card: WarehouseCard, row: WarehouseRow) -> Addition
+    ensures { IsSaidBy (says.Warehouse card row) result }
+{
+    let key = RowKey::Warehouse {
+        warehouse: card.warehouse,
+    };
+    Addition::Both(Card::Warehouse(card), key, Row::Warehouse(row))
+}
+
+fn district(card: DistrictCard, row: DistrictRow) -> Addition
+    ensures { IsSaidBy (says.District card row) result }
+{
+    let key = RowKey::District {
+        warehouse: card.warehouse,
+        district: card.district,
+    };
+    Addition::Both(Card::District(card), key, Row::District(row))
+}
+
+fn customer(alloc: Global, card: CustomerCard, row: CustomerRow) -> Result<Addition, Memory>
+    ensures { IfOk result (IsSaidBy (says.Customer card row)) }
+{
+    let key = RowKey::Customer {
+        warehouse: card.warehouse,
+        district: card.district,
+        customer: card.customer,
+    };
+    let row = Row::of_customer(alloc, row)?;
+    Ok(Addition::Both(Card::Customer(card), key, row))
+}
+
+fn stock(card: StockCard, row: StockRow) -> Addition
+    ensures { IsSaidBy (says.Stock card row) result }
+{
+    let key = RowKey::Stock {
+        warehouse: card.warehouse,
+        item: card.item,
+    };
+    Addition::Both(Card::Stock(card), key, Row::Stock(row))
+}
+
+fn order(warehouse: WarehouseId, district: DistrictId, order: OrderId, row: OrderRow) -> Addition
+    ensures { IsSaidBy (says.Order warehouse district order row) result }
+{
+    let key = RowKey::Order {
+        warehouse,
+        district,
+        order,
+    };
+    Addition::Row(key, Row::Order(row))
+}
+
+fn new_order(warehouse: WarehouseId, district: DistrictId, order: OrderId) -> Addition
+    ensures { IsSaidBy (says.NewOrder warehouse district order) result }
+{
+    let key = RowKey::NewOrder {
+        warehouse,
+        district,
+        order,
+    };
+    Addition::Row(key, Row::NewOrder)
+}
+
+fn order_line(
+    warehouse: WarehouseId,
+    district: DistrictId,
+    order: OrderId,
+    number: LineNumber,
+    row: OrderLineRow,
+) -> Addition
+    ensures { IsSaidBy (says.OrderLine warehouse district order number row) result }
+{
+    let key = RowKey::OrderLine {
+        warehouse,
+        district,
+        order,
+        number,
+    };
+    Addition::Row(key, Row::OrderLine(row))
+}
+
+/// What a record adds.
+pub(crate) fn addition_of(alloc: Global, said: ImageRecord) -> Result<Addition, Memory>
+    ensures { IfOk result (IsSaidBy said) }
+{
+    Ok(match said {
+        ImageRecord::Warehouse { card, row } => warehouse(card, row),
+        ImageRecord::District { card, row } => district(card, row),
+        ImageRecord::Customer { card, row } => customer(alloc, card, row)?,
+        ImageRecord::Item { card } => Addition::Card(Card::Item(card)),
+        ImageRecord::Stock { card, row } => stock(card, row),
+        ImageRecord::Order {
+            warehouse,
+            district,
+            order: number,
+            row,
+        } => order(warehouse, district, number, row),
+        ImageRecord::NewOrder {
+            warehouse,
+            district,
+            order,
+        } => new_order(warehouse, district, order),
+        ImageRecord::OrderLine {
+            warehouse,
+            district,
+            order,
+            number,
+            row,
+        } => order_line(warehouse, district, order, number, row),
+        ImageRecord::History { number, row } => {
+            Addition::Row(RowKey::History { number }, Row::History(row))
+        }
+    })
+}

@@ -1,0 +1,110 @@
+//! Rows that come in the order of their keys within each kind, as those of an image do.
+ghost use Rattle.std.specs.Prelude.{◌≡◌, ◌<◌, Err, None, Ok, IfOk, IsTrue, OnErr, Some, is_some, length, true};
+ghost use Rattle.std.specs.FinMap as map;
+ghost use Rattle.std.specs.List.{list_all};
+ghost use Rattle.image_checks.specs.Sorted.{rows_in};
+ghost use Rattle.loader.specs.Kinds.{kind};
+ghost use Rattle.tpcc_rows.specs.Places.{IsPlaceOf, are_in_order};
+ghost use Rattle.tpcc_rows.specs.RowKinds.{fits};
+ghost use Rattle.tpcc_rows.specs.RowMap.{row_key_cmp};
+
+use std::alloc::Global;
+use std::marker::Model;
+use tpcc_rows::key::RowKey;
+use tpcc_rows::memory::Memory;
+use tpcc_rows::row::Row;
+
+/// How many kinds of rows there are.
+const KINDS: usize = 8;
+
+/// A finite map from keys to rows, each row of its key's kind, which takes a row behind all others of its kind.
+#[derive(Drop)]
+pub(crate) struct KindLists {
+    lists: Vec<Vec<(RowKey, Row)>>,
+}
+
+impl Model for KindLists {
+    ghost use Rattle.std.specs.Prelude.{map as each};
+    ghost use Rattle.image_checks.specs.Sorted.{rows_in};
+    ghost use Rattle.loader.specs.Kinds.{AreKindLists, all_kinds};
+    ghost use Rattle.tpcc_rows.specs.RowMap.{Rows, rows_code};
+
+    ghost Value = { Rows };
+
+    ghost coded = { rows_code };
+
+    ghost view = { λ s. rows_in (all_kinds (each (λ list. list.items) s.lists.items)) };
+
+    ghost invariant = { λ s. AreKindLists (each (λ list. list.items) s.lists.items) };
+}
+
+/// The kind of a key, in the order of keys.
+fn kind(key: &RowKey) -> usize
+    ensures value { result ≡ kind key.now }
+    ensures small { result < KINDS }
+{
+    match key {
+        RowKey::Warehouse { .. } => 0,
+        RowKey::District { .. } => 1,
+        RowKey::Customer { .. } => 2,
+        RowKey::Stock { .. } => 3,
+        RowKey::Order { .. } => 4,
+        RowKey::NewOrder { .. } => 5,
+        RowKey::OrderLine { .. } => 6,
+        RowKey::History { .. } => 7,
+    }
+}
+
+/// Whether the key is greater than that of the last row.
+fn is_behind(rows: &[(RowKey, Row)], key: &RowKey) -> bool
+    requires { are_in_order row_key_cmp rows.now ≡ true }
+    ensures { IsTrue result → IsPlaceOf row_key_cmp key.now rows.now (Err (length rows.now)) }
+{
+    match rows.last() {
+        Some(last) => last.0.cmp(key).is_lt(),
+        None => true,
+    }
+}
+
+impl KindLists {
+    /// No rows, and a list for each kind.
+    pub(crate) fn new(alloc: Global) -> Result<KindLists, Memory>
+        ensures { IfOk result (λ lists. lists ≡ map.empty) }
+    {
+        let mut lists = Vec::with_capacity(alloc, KINDS)?;
+        for _ in 0..KINDS {
+            lists.push(Vec::new(alloc))?;
+        }
+        Ok(KindLists { lists })
+    }
+
+    /// Takes a row behind all others of its kind, or gives it back.
+    pub(crate) fn push(&mut self, key: &RowKey, row: Row) -> Result<Option<Row>, Memory>
+        requires { fits key.now row ≡ true }
+        ensures fresh { result ≡ Ok None → map.get self.old key.now ≡ None }
+        ensures taken { result ≡ Ok None → self.new ≡ map.insert self.old key.now row }
+        ensures back { IfOk result (λ back. is_some back ≡ true → (back ≡ Some row) × (self.new ≡ self.old)) }
+        ensures err { OnErr result (self.new ≡ self.old) }
+    {
+        let n = kind(key);
+        let list = &mut self.lists[n];
+        if !is_behind(list, key) {
+            return Ok(Some(row));
+        }
+        list.push((*key, row))?;
+        Ok(None)
+    }
+
+    /// The rows in the order of their keys.
+    pub(crate) fn into_rows(self, alloc: Global) -> Result<Vec<(RowKey, Row)>, Memory>
+        ensures order { IfOk result (λ rows. are_in_order row_key_cmp rows.items ≡ true) }
+        ensures kinds { IfOk result (λ rows. list_all (λ row. fits row.0 row.1) rows.items ≡ true) }
+        ensures all { IfOk result (λ rows. rows_in rows.items ≡ self) }
+    {
+        let mut rows = Vec::new(alloc);
+        for mut list in self.lists {
+            rows.append(&mut list)?;
+        }
+        Ok(rows)
+    }
+}
