@@ -1,11 +1,11 @@
 -- Rows in a list for each kind: one more behind those of its kind.
-use Rattle.std.proofs.Common.{◌≡◌, ◌<◌, ◌+◌, ◌==◌, ℕ, zero, suc, Bool, true, false, ◌&&◌, cond, T, List, [], ◌∷◌, ◌++◌, length, get_or, set, Some, None, refl, sym, ap, subst, ◌∙◌, append-nil, append_assoc, arith}
+use Rattle.std.proofs.Common.{◌≡◌, ◌<◌, ◌+◌, ◌==◌, ℕ, zero, suc, Bool, true, false, ◌&&◌, cond, T, List, [], ◌∷◌, ◌++◌, length, get_or, set, Some, None, Result, Ok, Err, is_ok, is_some, refl, sym, ap, subst, ◌∙◌, append-nil, append_assoc, arith}
 use Rattle.std.proofs.lemmas.Bool.{eqb-true, eq-eqb}
 use Rattle.std.specs.Prelude.{⊤}
 use Rattle.std.specs.Cmp.{nat_cmp_is}
 use Rattle.std.specs.FinMap.{empty, entries-from_sorted, entries-insert, find, get, get-from_sorted, insert, is_sorted, same_entries_map}
 use Rattle.std.specs.FinMap.Entries.{below_all, by_order, is_sorted-put, put}
-use Rattle.std.specs.List.{list_all, slice_index_or}
+use Rattle.std.specs.List.{list_all}
 use Rattle.std.specs.List.Sorted.{IsPartitionPoint}
 use Rattle.std.specs.Ordering.{is_eq, is_lt, nat_cmp, ordering_reverse, ordering_then}
 use Rattle.std.specs.declared.cmp.Ordering.{Ordering}
@@ -13,14 +13,14 @@ use Rattle.std.specs.declared.cmp.Ordering.TheVariants.{Less, Equal, Greater}
 use Rattle.image_checks.specs.Sorted.{rows_in}
 use Rattle.loader.specs.Kinds.{AreByKind, AreKindLists, AreOfKind, all_kinds, kind}
 use Rattle.tpcc_rows.specs.Changing.{with_each}
-use Rattle.tpcc_rows.specs.Places.{are_in_order}
+use Rattle.tpcc_rows.specs.Places.{IsPlaceOf, are_in_order}
 use Rattle.tpcc_rows.specs.RowKinds.{fits}
-use Rattle.tpcc_rows.specs.RowMap.{Rows, row_key_cmp}
+use Rattle.tpcc_rows.specs.RowMap.{row_key_cmp}
 use Rattle.tpcc_rows.specs.declared.key.RowKey.{RowKey}
 use Rattle.tpcc_rows.specs.declared.key.RowKey.TheVariants.{Warehouse, District, Customer, Stock, Order, NewOrder, OrderLine, History}
 use Rattle.tpcc_rows.specs.declared.row.Row.{Row}
 use Rattle.tpcc_rows.proofs.Keys.{exact_keys, row_key_cmp_total}
-use Rattle.tpcc_rows.proofs.Places.{entries-map_of}
+use Rattle.tpcc_rows.proofs.Places.{entries-map_of, got, got-none}
 use Rattle.tpcc_rows.proofs.Puts.{with_each-entries}
 use Rattle.tpcc_rows.proofs.Singles.{and-left, and-right, first, second}
 
@@ -220,6 +220,38 @@ module _ (k : RowKey) (x : Row) (old new : Entries) (behind : Behind k old) (pus
   by_kind-set n i [] are at here fit = tt
   by_kind-set n zero (es ∷ lists) are at here fit = (more-of_kind n (subst (AreOfKind n) (sym here) are.0) (omega (arith, at)) fit, are.1)
   by_kind-set n (suc i) (es ∷ lists) are at here fit = (are.0, by_kind-set (n + 1) i lists are.1 (omega (arith, at)) here fit)
+
+-- ---- a key among the rows of its kind alone
+find-ahead : (k : RowKey) (es fs : Entries) → Before k fs → find row_key_cmp k (es ++ fs) ≡ find row_key_cmp k es
+find-ahead k [] fs before = find-before k fs before
+find-ahead k (e ∷ es) fs before = ap (λ x. cond (is_eq (row_key_cmp k e.0)) (Some e.1) x) (find-ahead k es fs before)
+
+find-own : (k : RowKey) (own : Entries) (n i : ℕ) (lists : List Entries) → AreByKind n lists → n + i ≡ kind k → i < length lists → own ≡ get_or lists i own → find row_key_cmp k (all_kinds lists) ≡ find row_key_cmp k own
+find-own k own n i [] are at small here = absurd (omega (arith, small))
+find-own k own n zero (es ∷ lists) are at small here =
+    find-ahead k es (all_kinds lists) (greater_kinds (n + 1) k lists are.1 (omega (arith, at))) ∙ ap (find row_key_cmp k) (sym here)
+find-own k own n (suc i) (es ∷ lists) are at small here =
+    find-behind k es (all_kinds lists) (lesser_kind n k es are.0.kinds (omega (arith, at)))
+    ∙ find-own k own (n + 1) i lists are.1 (omega (arith, at)) (omega (arith, small)) here
+
+order-own : (own : Entries) (n i : ℕ) (lists : List Entries) → AreByKind n lists → i < length lists → own ≡ get_or lists i own → are_in_order row_key_cmp own ≡ true
+order-own own n i [] are small here = absurd (omega (arith, small))
+order-own own n zero (es ∷ lists) are small here = ap (are_in_order row_key_cmp) here ∙ are.0.order
+order-own own n (suc i) (es ∷ lists) are small here = order-own own (n + 1) i lists are.1 (omega (arith, small)) here
+
+pub own_in_order : (lists : List Entries) → AreKindLists lists → (i : ℕ) (own : Entries) → i < length lists → own ≡ get_or lists i own → are_in_order row_key_cmp own ≡ true
+own_in_order lists are i own small here = order-own own 0 i lists are.by_kind small here
+
+pub get-own : (lists : List Entries) → AreKindLists lists → (k : RowKey) (i : ℕ) (own : Entries) → i ≡ kind k → i < length lists → own ≡ get_or lists i own
+    → get (rows_in own) k ≡ get (rows_in (all_kinds lists)) k
+get-own lists are k i own place small here =
+    get-from_sorted row_key_cmp own k (subst T (sym (own_in_order lists are i own small here)) tt)
+    ∙ sym (get-from_sorted row_key_cmp (all_kinds lists) k (sorted-kinds 0 lists are.by_kind) ∙ find-own k own 0 i lists are.by_kind (omega (arith, place)) small here)
+
+pub has-place : (es : Entries) (k : RowKey) (place : Result ℕ ℕ) → are_in_order row_key_cmp es ≡ true → IsPlaceOf row_key_cmp k es place → is_ok place ≡ is_some (get (rows_in es) k)
+has-place [] k (Ok i) order there = absurd (omega (arith, there.0))
+has-place (e ∷ es) k (Ok i) order there = sym (ap is_some (got row_key_cmp_total exact_keys (e ∷ es) k i order there e))
+has-place es k (Err i) order absent = sym (ap is_some (got-none row_key_cmp_total exact_keys es k i order absent))
 
 length-set : (lists : List Entries) (i : ℕ) (new : Entries) → length (set lists i new) ≡ length lists
 length-set [] i new = refl

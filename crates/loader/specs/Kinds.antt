@@ -1,4 +1,4 @@
--- Rows by kind: a list for each kind, its rows in the order of their keys.
+-- Rows by kind: a list for each kind, its rows in the order of their keys; and the rows of all kinds in one list.
 use Rattle.std.specs.Prelude.{◌≡◌, ◌==◌, ◌+◌, ◌++◌, ℕ, true, ⊤, List, [], ◌∷◌, length}
 use Rattle.std.specs.List.{list_all}
 use Rattle.tpcc_rows.specs.Places.{are_in_order}
@@ -40,3 +40,8 @@ pub record AreKindLists (lists : List (List (RowKey × Row))) : Type 0 where
 abbrev pub all_kinds : List (List (RowKey × Row)) → List (RowKey × Row)
 all_kinds [] = []
 all_kinds (rows ∷ lists) = rows ++ all_kinds lists
+
+-- rows in the order of their keys
+pub record AreSorted (rows : List (RowKey × Row)) : Type 0 where
+  pub order : are_in_order row_key_cmp rows ≡ true
+  pub fit : list_all (λ row. fits row.0 row.1) rows ≡ true

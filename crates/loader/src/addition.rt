@@ -1,5 +1,5 @@
 //! What records add to cards and rows.
-ghost use Rattle.std.specs.Prelude.{◌≡◌, IfOk};
+ghost use Rattle.std.specs.Prelude.{IfOk};
 ghost use Rattle.image_records.specs.declared.image_record.ImageRecord.TheVariants as says;
 ghost use Rattle.loader.specs.Additions.{IsSaidBy};
 

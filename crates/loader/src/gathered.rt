@@ -1,5 +1,5 @@
-//! Rows as they are read.
-ghost use Rattle.std.specs.Prelude.{◌≡◌, IfOk, None, Ok, OnOk, Some, is_some, true};
+//! Rows as they are gathered.
+ghost use Rattle.std.specs.Prelude.{◌≡◌, IfOk, None, Ok, OnErr, OnOk, Some, is_some, true};
 ghost use Rattle.std.specs.FinMap as map;
 ghost use Rattle.loader.specs.Gathered.{gathered};
 ghost use Rattle.tpcc_rows.specs.RowKinds.{fits};
@@ -12,7 +12,7 @@ use tpcc_rows::memory::Memory;
 use tpcc_rows::plain::RowStore;
 use tpcc_rows::row::Row;
 
-/// Rows so far.
+/// The rows that have come.
 #[derive(Drop)]
 pub(crate) enum Gathered {
     /// Those of each kind came in the order of their keys.
@@ -33,17 +33,18 @@ impl Gathered {
         ensures { IfOk result (λ store. store ≡ gathered self) }
     {
         match self {
-            Gathered::InOrder(lists) => RowStore::from_rows(alloc, lists.into_rows(alloc)?),
+            Gathered::InOrder(lists) => lists.into_rows(alloc)?.into_store(alloc),
             Gathered::AnyOrder(store) => Ok(store),
         }
     }
 
-    /// Takes a row in order, or gives it back.
-    fn push(&mut self, key: &RowKey, row: Row) -> Result<Option<Row>, Memory>
+    /// Takes a row that comes in order, or gives it back.
+    pub(crate) fn push(&mut self, key: &RowKey, row: Row) -> Result<Option<Row>, Memory>
         requires { fits key.now row ≡ true }
         ensures fresh { result ≡ Ok None → map.get (gathered self.old) key.now ≡ None }
         ensures taken { result ≡ Ok None → gathered self.new ≡ map.insert (gathered self.old) key.now row }
         ensures back { IfOk result (λ back. is_some back ≡ true → (back ≡ Some row) × (gathered self.new ≡ gathered self.old)) }
+        ensures err { OnErr result (gathered self.new ≡ gathered self.old) }
     {
         match self {
             Gathered::InOrder(lists) => lists.push(key, row),
@@ -51,29 +52,29 @@ impl Gathered {
         }
     }
 
-    /// Takes a row out of order, in place of the one that its key has, and all others to a map. The answer is whether there was one.
-    fn insert(&mut self, alloc: Global, key: RowKey, row: Row) -> Result<bool, Memory>
-        requires { fits key row ≡ true }
-        ensures ok { OnOk result (gathered self.new ≡ map.insert (gathered self.old) key row) }
-        ensures twin { IfOk result (λ twin. twin ≡ is_some (map.get (gathered self.old) key)) }
+    /// Whether the key has a row.
+    pub(crate) fn has(&self, key: &RowKey) -> bool
+        ensures { result ≡ is_some (map.get (gathered self.now) key.now) }
     {
-        let rows = mem::replace(self, Gathered::AnyOrder(RowStore::new(alloc)));
-        let mut store = rows.into_store(alloc)?;
-        let is_twin = store.get(&key).is_some();
-        store.put(key, row)?;
-        *self = Gathered::AnyOrder(store);
-        Ok(is_twin)
+        match self {
+            Gathered::InOrder(lists) => lists.has(key),
+            Gathered::AnyOrder(store) => store.get(key).is_some(),
+        }
     }
 
-    /// The key has this row from now on. The answer is whether it had another.
-    pub(crate) fn put(&mut self, alloc: Global, key: RowKey, row: Row) -> Result<bool, Memory>
+    /// Takes a row that comes late, in place of the one that its key has. From now on all are in a map. Where memory is refused for
+    /// that, the others are lost.
+    pub(crate) fn insert(&mut self, alloc: Global, key: RowKey, row: Row) -> Result<(), Memory>
         requires { fits key row ≡ true }
-        ensures ok { OnOk result (gathered self.new ≡ map.insert (gathered self.old) key row) }
-        ensures twin { IfOk result (λ twin. twin ≡ is_some (map.get (gathered self.old) key)) }
+        ensures { OnOk result (gathered self.new ≡ map.insert (gathered self.old) key row) }
     {
-        match self.push(&key, row)? {
-            None => Ok(false),
-            Some(late) => self.insert(alloc, key, late),
+        if let Gathered::AnyOrder(store) = self {
+            return store.put(key, row);
         }
+        let rows = mem::replace(self, Gathered::AnyOrder(RowStore::new(alloc)));
+        let mut store = rows.into_store(alloc)?;
+        store.put(key, row)?;
+        *self = Gathered::AnyOrder(store);
+        Ok(())
     }
 }

@@ -1,96 +1,32 @@
 //! Cards and rows as they are gathered, mostly in the order of their keys.
-ghost use Rattle.std.specs.Prelude.{◌≡◌, [], IfErr, IfOk, IsSome, None, Ok, OnOk, false, true};
+ghost use Rattle.std.specs.Prelude.{◌≡◌, IfErr, IfOk, IsSome, None, OnOk, false, true};
 ghost use Rattle.std.specs.FinMap as map;
-ghost use Rattle.std.specs.List.{list_all};
 ghost use Rattle.catalog.specs.CardKinds.{card_key};
 ghost use Rattle.catalog.specs.declared.builder.CatalogError.TheVariants as catalog_error;
-ghost use Rattle.image_checks.specs.Checks.{checked};
-ghost use Rattle.image_checks.specs.Sorted.{rows_in};
-ghost use Rattle.image_records.specs.Databases.{loaded};
-ghost use Rattle.image_records.specs.Faults.{IsOfText, StopsBy};
 ghost use Rattle.loader.specs.Gathered.{gathered, gathered_database};
 ghost use Rattle.loader.specs.Tables.{is_taken, no_tables, with_record};
-ghost use Rattle.rollback.specs.Marks.{AreClean};
 ghost use Rattle.tpcc_model.specs.Database.{database};
-ghost use Rattle.tpcc_rows.specs.Places.{are_in_order};
 ghost use Rattle.tpcc_rows.specs.RowKinds.{fits};
-ghost use Rattle.tpcc_rows.specs.RowMap.{row_key_cmp};
 
 use crate::addition::{Addition, addition_of};
 use crate::gathered::Gathered;
-use crate::tables::on_pages;
+use crate::unpaged::UnpagedRows;
 use catalog::Catalog;
 use catalog::builder::{CatalogBuilder, CatalogError};
 use catalog::card::Card;
-use image_checks::{check, check_sorted};
-use image_records::fault::LoadError;
 use image_records::image_record::ImageRecord;
-use rollback::PointedStore;
 use std::alloc::Global;
 use tpcc_rows::key::RowKey;
 use tpcc_rows::memory::Memory;
 use tpcc_rows::row::Row;
 
 /// The cards and the rows of the records so far. Rows that come in the order of their keys within each kind, as those of
-/// an image do, are kept in lists, and others in a map.
+/// an image do, are kept in lists; from the first late one on, all are in a map.
 #[derive(Drop)]
 pub struct GatheredTables {
     cards: CatalogBuilder,
     rows: Gathered,
     alloc: Global,
-}
-
-/// Rows in the order of their keys, on the pages of their leaves, of which none has changed, without a point.
-fn sorted_on_pages(alloc: Global, rows: Vec<(RowKey, Row)>) -> Result<PointedStore, Memory>
-    requires order { are_in_order row_key_cmp rows.items ≡ true }
-    requires kinds { list_all (λ row. fits row.0 row.1) rows.items ≡ true }
-    ensures rows { IfOk result (λ store. store.rows ≡ rows_in rows.items) }
-    ensures points { IfOk result (λ store. store.points ≡ []) }
-    ensures clean { IfOk result (λ store. AreClean store.dirty) }
-{
-    let mut store = pages::RowStore::new(alloc)?;
-    for (key, row) in rows {
-        store.put(key, row)?;
-    }
-    Ok(PointedStore::new(alloc, store))
-}
-
-/// The rows on the pages of their leaves.
-fn gathered_on_pages(alloc: Global, rows: Gathered) -> Result<PointedStore, Memory>
-    ensures rows { IfOk result (λ store. store.rows ≡ gathered rows) }
-    ensures points { IfOk result (λ store. store.points ≡ []) }
-    ensures clean { IfOk result (λ store. AreClean store.dirty) }
-{
-    match rows {
-        Gathered::InOrder(lists) => sorted_on_pages(alloc, lists.into_rows(alloc)?),
-        Gathered::AnyOrder(store) => on_pages(alloc, store),
-    }
-}
-
-/// The rows of sound tables on the pages of their leaves.
-fn checked_on_pages(
-    alloc: Global,
-    catalog: &Catalog,
-    rows: Gathered,
-) -> Result<PointedStore, LoadError>
-    ensures ok { OnOk result (checked (database catalog.now (gathered rows)) ≡ Ok (database catalog.now (gathered rows))) }
-    ensures rows { IfOk result (λ store. store.rows ≡ gathered rows) }
-    ensures points { IfOk result (λ store. store.points ≡ []) }
-    ensures clean { IfOk result (λ store. AreClean store.dirty) }
-    ensures err { IfErr result (λ e. StopsBy e (checked (database catalog.now (gathered rows)))) }
-    ensures kinds { IfErr result IsOfText }
-{
-    match rows {
-        Gathered::InOrder(lists) => {
-            let rows = lists.into_rows(alloc)?;
-            check_sorted(alloc, catalog, rows.as_slice())?;
-            Ok(sorted_on_pages(alloc, rows)?)
-        }
-        Gathered::AnyOrder(store) => {
-            check(alloc, catalog, &store)?;
-            Ok(on_pages(alloc, store)?)
-        }
-    }
 }
 
 impl GatheredTables {
@@ -115,7 +51,9 @@ impl GatheredTables {
             → IsSome (map.get self.old.cards (card_key card))) }
     {
         self.cards.add(card)?;
-        self.rows.put(self.alloc, key, row)?;
+        if let Some(late) = self.rows.push(&key, row)? {
+            self.rows.insert(self.alloc, key, late)?;
+        }
         Ok(())
     }
 
@@ -127,13 +65,17 @@ impl GatheredTables {
         ensures fresh { OnOk result (map.get (gathered self.old.rows) key ≡ None) }
         ensures twice { IfErr result (λ e. e ≡ catalog_error.Twice → IsSome (map.get (gathered self.old.rows) key)) }
     {
-        if self.rows.put(self.alloc, key, row)? {
+        let Some(late) = self.rows.push(&key, row)? else {
+            return Ok(());
+        };
+        if self.rows.has(&key) {
             return Err(CatalogError::Twice);
         }
+        self.rows.insert(self.alloc, key, late)?;
         Ok(())
     }
 
-    /// Takes in what a record says; `Twice` where its key came before.
+    /// Takes in what a record says; `Twice` where its key came before. After an error the tables are of no use.
     pub fn add(&mut self, said: ImageRecord) -> Result<(), CatalogError>
         ensures ok { OnOk result (gathered_database self.new ≡ with_record (gathered_database self.old) said) }
         ensures fresh { OnOk result (is_taken (gathered_database self.old) said ≡ false) }
@@ -147,29 +89,13 @@ impl GatheredTables {
         }
     }
 
-    /// The catalog and the rows, on the pages of their leaves, unchecked.
-    pub fn finish(self, alloc: Global) -> Result<(Catalog, PointedStore), Memory>
-        ensures ok { IfOk result (λ db. loaded db ≡ gathered_database self) }
-        ensures points { IfOk result (λ db. db.1.points ≡ []) }
-        ensures clean { IfOk result (λ db. AreClean db.1.dirty) }
+    /// The catalog and the rows, unchecked.
+    pub fn finish(self) -> Result<(Catalog, UnpagedRows), Memory>
+        ensures { IfOk result (λ db. database db.0 db.1 ≡ gathered_database self) }
     {
-        let GatheredTables { cards, rows, .. } = self;
+        let GatheredTables { cards, rows, alloc } = self;
         let catalog = cards.finish(alloc)?;
-        let rows = gathered_on_pages(alloc, rows)?;
-        Ok((catalog, rows))
-    }
-
-    /// The catalog and the rows, on the pages of their leaves, where the tables are sound.
-    pub fn finish_sound(self, alloc: Global) -> Result<(Catalog, PointedStore), LoadError>
-        ensures ok { IfOk result (λ db. checked (gathered_database self) ≡ Ok (loaded db)) }
-        ensures points { IfOk result (λ db. db.1.points ≡ []) }
-        ensures clean { IfOk result (λ db. AreClean db.1.dirty) }
-        ensures err { IfErr result (λ e. StopsBy e (checked (gathered_database self))) }
-        ensures kinds { IfErr result IsOfText }
-    {
-        let GatheredTables { cards, rows, .. } = self;
-        let catalog = cards.finish(alloc)?;
-        let rows = checked_on_pages(alloc, &catalog, rows)?;
+        let rows = UnpagedRows::of(alloc, rows)?;
         Ok((catalog, rows))
     }
 }

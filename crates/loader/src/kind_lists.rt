@@ -1,13 +1,13 @@
 //! Rows that come in the order of their keys within each kind, as those of an image do.
 ghost use Rattle.std.specs.Prelude.{◌≡◌, ◌<◌, Err, None, Ok, IfOk, IsTrue, OnErr, Some, is_some, length, true};
 ghost use Rattle.std.specs.FinMap as map;
-ghost use Rattle.std.specs.List.{list_all};
 ghost use Rattle.image_checks.specs.Sorted.{rows_in};
 ghost use Rattle.loader.specs.Kinds.{kind};
 ghost use Rattle.tpcc_rows.specs.Places.{IsPlaceOf, are_in_order};
 ghost use Rattle.tpcc_rows.specs.RowKinds.{fits};
 ghost use Rattle.tpcc_rows.specs.RowMap.{row_key_cmp};
 
+use crate::sorted_rows::SortedRows;
 use std::alloc::Global;
 use std::marker::Model;
 use tpcc_rows::key::RowKey;
@@ -66,6 +66,22 @@ fn is_behind(rows: &[(RowKey, Row)], key: &RowKey) -> bool
     }
 }
 
+/// Where the key's row is, or where one would stand.
+fn place_of(rows: &[(RowKey, Row)], key: &RowKey) -> Result<usize, usize>
+    requires { are_in_order row_key_cmp rows.now ≡ true }
+    ensures { IsPlaceOf row_key_cmp key.now rows.now result }
+{
+    rows.binary_search_by(|entry| entry.0.cmp(key))
+}
+
+/// Whether one of the rows has the key.
+fn has(rows: &[(RowKey, Row)], key: &RowKey) -> bool
+    requires { are_in_order row_key_cmp rows.now ≡ true }
+    ensures { result ≡ is_some (map.get (rows_in rows.now) key.now) }
+{
+    place_of(rows, key).is_ok()
+}
+
 impl KindLists {
     /// No rows, and a list for each kind.
     pub(crate) fn new(alloc: Global) -> Result<KindLists, Memory>
@@ -95,16 +111,21 @@ impl KindLists {
         Ok(None)
     }
 
+    /// Whether the key has a row.
+    pub(crate) fn has(&self, key: &RowKey) -> bool
+        ensures { result ≡ is_some (map.get self.now key.now) }
+    {
+        has(&self.lists[kind(key)], key)
+    }
+
     /// The rows in the order of their keys.
-    pub(crate) fn into_rows(self, alloc: Global) -> Result<Vec<(RowKey, Row)>, Memory>
-        ensures order { IfOk result (λ rows. are_in_order row_key_cmp rows.items ≡ true) }
-        ensures kinds { IfOk result (λ rows. list_all (λ row. fits row.0 row.1) rows.items ≡ true) }
-        ensures all { IfOk result (λ rows. rows_in rows.items ≡ self) }
+    pub(crate) fn into_rows(self, alloc: Global) -> Result<SortedRows, Memory>
+        ensures { IfOk result (λ rows. rows ≡ self) }
     {
         let mut rows = Vec::new(alloc);
         for mut list in self.lists {
             rows.append(&mut list)?;
         }
-        Ok(rows)
+        Ok(SortedRows::of(rows))
     }
 }

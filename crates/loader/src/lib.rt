@@ -9,8 +9,11 @@ mod image;
 mod kind_lists;
 pub mod laws;
 mod reading;
+mod sorted_rows;
 pub mod tables;
+pub mod unpaged;
 
 pub use gathered_tables::GatheredTables;
-pub use image::load;
+pub use image::{load, read_image};
 pub use tables::{Tables, on_pages};
+pub use unpaged::UnpagedRows;

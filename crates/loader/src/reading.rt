@@ -131,7 +131,8 @@ fn read_records(
     read_rest(alloc, reader, fields, tables)
 }
 
-/// The tables of a text, unchecked.
+/// The tables of a text, unchecked. It has a frame of its own, so that its room isn't added to that of the checks.
+#[inline(never)]
 pub(crate) fn read_tables(alloc: Global, text: &[u8]) -> Result<GatheredTables, LoadError>
     requires { length text.now < 2 ^ 32 }
     ensures ok { IfOk result (λ tables. read_all (records_in text.now) ≡ Ok (gathered_database tables)) }

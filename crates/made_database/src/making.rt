@@ -225,5 +225,6 @@ pub fn make(
 {
     let mut tables = GatheredTables::new(alloc)?;
     fill(alloc, &mut tables, warehouses, customers, items)?;
-    tables.finish(alloc)
+    let (catalog, rows) = tables.finish()?;
+    Ok((catalog, rows.on_pages(alloc)?))
 }

@@ -1,4 +1,4 @@
-use Rattle.std.proofs.Common.{◌≡◌, ◌++◌, ◌∙◌, [], ap, append-nil, map as each, sym, true}
+use Rattle.std.proofs.Common.{◌≡◌, ◌++◌, ◌∙◌, [], ap, append-nil, map as each, sym}
 use Rattle.std.proofs.lemmas.List.{nil_from_length}
 use Rattle.std.specs.List.{list_all}
 use Rattle.loader.specs.Kinds.{all_kinds}
@@ -18,8 +18,8 @@ whole c =
     sym (append-nil c.loop-list.rows.items) ∙ ap (λ lists. c.loop-list.rows.items ++ all_kinds (each (λ list. list.items) lists)) (sym end) ∙ c.loop-list.invariant
     ∙ ap (λ lists. all_kinds (each (λ list. list.items) lists)) given
 
-pub returns-clause-order : goal.returns-clause-order
-returns-clause-order c = ap (are_in_order row_key_cmp) (whole c) ∙ kinds_in_order _ c.self.invariant
-
-pub returns-clause-kinds : goal.returns-clause-kinds
-returns-clause-kinds c = ap (list_all (λ row. fits row.0 row.1)) (whole c) ∙ kinds_fit _ c.self.invariant
+pub of-requires : goal.of-requires
+of-requires c = record {
+  order = ap (are_in_order row_key_cmp) (whole c) ∙ kinds_in_order _ c.self.invariant;
+  fit = ap (list_all (λ row. fits row.0 row.1)) (whole c) ∙ kinds_fit _ c.self.invariant;
+}

@@ -1,7 +1,7 @@
 use Rattle.std.proofs.Common.{◌≡◌, ◌∙◌, [], ap, sym}
 use Rattle.std.proofs.lemmas.List.{nil_from_length}
 use Rattle.loader.proofs.KindLists.{with_each-sorted}
-use Rattle.loader.proofs.gathered_tables.sorted_on_pages.Goals as goal
+use Rattle.loader.proofs.sorted_rows.sorted_on_pages.Goals as goal
 use Rattle.tpcc_rows.specs.Changing.{with_each}
 
 pub returns-clause-rows : goal.returns-clause-rows

@@ -1,5 +1,5 @@
 use Rattle.pages.proofs.Moving.{IsMoving}
-use Rattle.loader.proofs.gathered_tables.sorted_on_pages.Given as goal
+use Rattle.loader.proofs.sorted_rows.sorted_on_pages.Given as goal
 
 abbrev pub invariant-loop-key : goal.invariant-loop-key
 invariant-loop-key l = IsMoving l.fn.rows.items l.key-iterator.rest.items l.store

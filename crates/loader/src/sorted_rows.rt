@@ -1,0 +1,81 @@
+//! Rows that stand in the order of their keys.
+ghost use Rattle.std.specs.Prelude.{◌≡◌, [], IfOk, true};
+ghost use Rattle.image_checks.specs.Sorted.{rows_in};
+ghost use Rattle.loader.specs.Kinds.{AreSorted};
+ghost use Rattle.rollback.specs.Marks.{AreClean};
+ghost use Rattle.tpcc_rows.specs.Places.{are_in_order};
+ghost use Rattle.tpcc_rows.specs.RowMap.{row_key_cmp};
+
+use rollback::PointedStore;
+use std::alloc::Global;
+use std::marker::Model;
+use tpcc_rows::key::RowKey;
+use tpcc_rows::memory::Memory;
+use tpcc_rows::plain::RowStore;
+use tpcc_rows::row::Row;
+
+/// A finite map from keys to rows, each row of its key's kind: a list in the order of the keys.
+#[derive(Drop)]
+pub(crate) struct SortedRows {
+    rows: Vec<(RowKey, Row)>,
+}
+
+impl Model for SortedRows {
+    ghost use Rattle.image_checks.specs.Sorted.{rows_in};
+    ghost use Rattle.loader.specs.Kinds.{AreSorted};
+    ghost use Rattle.tpcc_rows.specs.RowMap.{Rows, rows_code};
+
+    ghost Value = { Rows };
+
+    ghost coded = { rows_code };
+
+    ghost view = { λ s. rows_in s.rows.items };
+
+    ghost invariant = { λ s. AreSorted s.rows.items };
+}
+
+/// Rows in the order of their keys, on the pages of their leaves, of which none has changed, without a point.
+fn sorted_on_pages(alloc: Global, rows: Vec<(RowKey, Row)>) -> Result<PointedStore, Memory>
+    requires { AreSorted rows.items }
+    ensures rows { IfOk result (λ store. store.rows ≡ rows_in rows.items) }
+    ensures points { IfOk result (λ store. store.points ≡ []) }
+    ensures clean { IfOk result (λ store. AreClean store.dirty) }
+{
+    let mut store = pages::RowStore::new(alloc)?;
+    for (key, row) in rows {
+        store.put(key, row)?;
+    }
+    Ok(PointedStore::new(alloc, store))
+}
+
+impl SortedRows {
+    pub(crate) fn of(rows: Vec<(RowKey, Row)>) -> SortedRows
+        requires { AreSorted rows.items }
+        ensures { result ≡ rows_in rows.items }
+    {
+        SortedRows { rows }
+    }
+
+    pub(crate) fn as_slice(&self) -> &[(RowKey, Row)]
+        ensures order { are_in_order row_key_cmp result.now ≡ true }
+        ensures all { rows_in result.now ≡ self.now }
+    {
+        self.rows.as_slice()
+    }
+
+    /// The rows in a map.
+    pub(crate) fn into_store(self, alloc: Global) -> Result<RowStore, Memory>
+        ensures { IfOk result (λ store. store ≡ self) }
+    {
+        RowStore::from_rows(alloc, self.rows)
+    }
+
+    /// The rows on the pages of their leaves, of which none has changed, without a point.
+    pub(crate) fn on_pages(self, alloc: Global) -> Result<PointedStore, Memory>
+        ensures rows { IfOk result (λ store. store.rows ≡ self) }
+        ensures points { IfOk result (λ store. store.points ≡ []) }
+        ensures clean { IfOk result (λ store. AreClean store.dirty) }
+    {
+        sorted_on_pages(alloc, self.rows)
+    }
+}

@@ -1,0 +1,79 @@
+//! Rows that are still to be put on the pages of their leaves.
+ghost use Rattle.std.specs.Prelude.{◌≡◌, [], IfErr, IfOk, Ok, OnOk};
+ghost use Rattle.image_checks.specs.Checks.{checked};
+ghost use Rattle.image_records.specs.Faults.{IsOfText, StopsBy};
+ghost use Rattle.loader.specs.Gathered.{gathered};
+ghost use Rattle.rollback.specs.Marks.{AreClean};
+ghost use Rattle.tpcc_model.specs.Database.{database};
+
+use crate::gathered::Gathered;
+use crate::sorted_rows::SortedRows;
+use crate::tables::on_pages;
+use catalog::Catalog;
+use image_checks::{check, check_sorted};
+use image_records::fault::LoadError;
+use rollback::PointedStore;
+use std::alloc::Global;
+use std::marker::Model;
+use tpcc_rows::memory::Memory;
+use tpcc_rows::plain::RowStore;
+
+/// Rows in the order of their keys, or in a map.
+#[derive(Drop)]
+pub(crate) enum Unpaged {
+    Sorted(SortedRows),
+    Mapped(RowStore),
+}
+
+/// A finite map from keys to rows, each row of its key's kind.
+#[derive(Drop)]
+pub struct UnpagedRows {
+    rows: Unpaged,
+}
+
+impl Model for UnpagedRows {
+    ghost use Rattle.loader.specs.Gathered.{unpaged};
+    ghost use Rattle.tpcc_rows.specs.RowMap.{Rows, rows_code};
+
+    ghost Value = { Rows };
+
+    ghost coded = { rows_code };
+
+    ghost view = { λ s. unpaged s.rows };
+}
+
+impl UnpagedRows {
+    pub(crate) fn of(alloc: Global, rows: Gathered) -> Result<UnpagedRows, Memory>
+        ensures { IfOk result (λ unpaged. unpaged ≡ gathered rows) }
+    {
+        let rows = match rows {
+            Gathered::InOrder(lists) => Unpaged::Sorted(lists.into_rows(alloc)?),
+            Gathered::AnyOrder(store) => Unpaged::Mapped(store),
+        };
+        Ok(UnpagedRows { rows })
+    }
+
+    /// Whether the rows are sound with the cards.
+    pub(crate) fn check(&self, alloc: Global, catalog: &Catalog) -> Result<(), LoadError>
+        ensures ok { OnOk result (checked (database catalog.now self.now) ≡ Ok (database catalog.now self.now)) }
+        ensures err { IfErr result (λ e. StopsBy e (checked (database catalog.now self.now))) }
+        ensures kinds { IfErr result IsOfText }
+    {
+        match &self.rows {
+            Unpaged::Sorted(rows) => check_sorted(alloc, catalog, rows.as_slice()),
+            Unpaged::Mapped(store) => check(alloc, catalog, store),
+        }
+    }
+
+    /// The rows on the pages of their leaves, of which none has changed, without a point.
+    pub fn on_pages(self, alloc: Global) -> Result<PointedStore, Memory>
+        ensures rows { IfOk result (λ store. store.rows ≡ self) }
+        ensures points { IfOk result (λ store. store.points ≡ []) }
+        ensures clean { IfOk result (λ store. AreClean store.dirty) }
+    {
+        match self.rows {
+            Unpaged::Sorted(rows) => rows.on_pages(alloc),
+            Unpaged::Mapped(store) => on_pages(alloc, store),
+        }
+    }
+}
