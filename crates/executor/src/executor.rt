@@ -1,6 +1,7 @@
 //! The execution of batches on one database.
 ghost use Rattle.std.specs.Prelude.{◌≡◌, ◌↔◌, ◌<◌, ◌==◌, [], ◌∷◌, IfErr, IfOk, IsErr, OnErr, OnOk, None, Some, length, map, slice_get, take};
 ghost use Rattle.std.specs.List.{position};
+ghost use Rattle.catalog.specs.CardBytes.{catalog_digest};
 ghost use Rattle.executor.specs.Executions.{IsRecordOf, IsRefusedFor, path_in, refusal_for};
 ghost use Rattle.executor.specs.Headline.{Headline, completed};
 ghost use Rattle.executor.specs.Lines.{HasNone, IsReturned, committed, extended, opening_line, states};
@@ -8,13 +9,14 @@ ghost use Rattle.executor.specs.Paths.{path_of};
 ghost use Rattle.executor.specs.States.{IsSoundState};
 ghost use Rattle.executor.specs.declared.path.Path.TheVariants as path;
 ghost use Rattle.executor.specs.declared.refusal.Refusal.TheVariants as refusal;
+ghost use Rattle.merkle.specs.Nodes.{IsOf};
 ghost use Rattle.tpcc_model.specs.Database.{database};
 ghost use Rattle.tpcc_model.specs.Soundness.{IsSound};
 
 use crate::engine::Engine;
 use crate::laws::sound_states;
 use crate::next_batch::{LAST_NUMBER, MOST_REQUESTS, NextBatch};
-use crate::opening::{digest_and_tree, next_number};
+use crate::opening::{beside_digest, next_number};
 use crate::record::Record;
 use crate::refusal::Refusal;
 use crate::stamp::Stamp;
@@ -79,10 +81,29 @@ impl Executor {
         ensures line { IfOk result (λ e. e ≡ opening_line catalog store.rows) }
         ensures sound { IfOk result (λ e. IsSoundState e.cards e.present) }
     {
+        let (digest, built) = beside_digest(
+            rt,
+            &catalog,
+            || -> Result<Tree, Memory>
+                ensures { IfOk result (λ tree. IsOf tree store.rows) }
+            { Tree::build(rt, alloc, &store) },
+        );
+        let tree = built?;
+        Ok(Executor::of_parts(catalog, digest, store, tree))
+    }
+
+    /// A database before any batch, of the digest of its cards and the tree of its rows, numbered as by `new`.
+    #[inline(never)]
+    pub fn of_parts(catalog: Catalog, digest: [u8; 32], store: PointedStore, tree: Tree) -> Executor
+        requires sound { IsSound (database catalog store.rows) }
+        requires points { store.points ≡ [] }
+        requires digest { digest ≡ catalog_digest catalog }
+        requires tree { IsOf tree store.rows }
+        ensures line { result ≡ opening_line catalog store.rows }
+        ensures sound { IsSoundState result.cards result.present }
+    {
         sound_states();
         let next = next_number(&store);
-        let (digest, built) = digest_and_tree(rt, alloc, &catalog, &store);
-        let tree = built?;
         let parts = TokenParts {
             sequence: 0,
             prior: [0; 32],
@@ -90,7 +111,7 @@ impl Executor {
             root: tree.root(),
             replies: reply_digest(next, &[]),
         };
-        Ok(Executor {
+        Executor {
             engine: Engine {
                 catalog,
                 digest,
@@ -103,7 +124,7 @@ impl Executor {
                 sequence: 0,
                 token: parts.token(),
             },
-        })
+        }
     }
 
     /// Keeps threads that hash beside the one that calls, for batches by so many workers.

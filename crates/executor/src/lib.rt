@@ -24,6 +24,7 @@ mod stamp;
 
 pub use executor::Executor;
 pub use next_batch::{LAST_NUMBER, MOST_REQUESTS};
+pub use opening::beside_digest;
 pub use record::Record;
 pub use refusal::Refusal;
 pub use run::RunEnd;

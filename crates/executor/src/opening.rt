@@ -1,7 +1,6 @@
-//! What a database has before any batch: the number of the first request, the digest of the catalog, and the tree of the rows.
-ghost use Rattle.std.specs.Prelude.{◌≡◌, ◌≤◌, IfOk, unwrap_or};
+//! What a database has before any batch: the number of the first request, and the digest of the catalog beside what else is made.
+ghost use Rattle.std.specs.Prelude.{◌≡◌, ◌≤◌, unwrap_or};
 ghost use Rattle.catalog.specs.CardBytes.{catalog_digest};
-ghost use Rattle.merkle.specs.Nodes.{IsOf};
 ghost use Rattle.tpcc_model.specs.Serial.{history_pick, next_number};
 ghost use Rattle.tpcc_rows.specs.Limits.{IsBetween};
 ghost use Rattle.tpcc_rows.specs.Picks.{greatest, picked};
@@ -9,14 +8,12 @@ ghost use Rattle.tpcc_rows.specs.Picks.{greatest, picked};
 use crate::next_batch::LAST_NUMBER;
 use catalog::Catalog;
 use leaf_rows::LeafRows;
-use merkle::Tree;
 use rollback::PointedStore;
-use std::alloc::Global;
-use std::thread::{Threads, join};
+use std::num::NonZeroUsize;
+use std::thread::{self, Threads, join};
 use tpcc_rows::codes::LEAVES;
 use tpcc_rows::id::END_OF_NUMBERS;
 use tpcc_rows::key::RowKey;
-use tpcc_rows::memory::Memory;
 
 /// The greatest number of HISTORY on a page, 0 where there is none.
 #[tactic(auto, unfolding(tpcc_rows::specs::Picks::picked))]
@@ -49,24 +46,39 @@ pub(crate) fn next_number(store: &PointedStore) -> u64
 /// How many cards a catalog has at least whose digest is worth the start of a thread.
 const FEWEST_CARDS: usize = 8_192;
 
-/// The digest of a catalog, and the tree of the rows, which is built meanwhile where there are many cards and a thread can be made.
-pub(crate) fn digest_and_tree<R: Threads + Sync>(
-    rt: &R,
-    alloc: Global,
-    catalog: &Catalog,
-    store: &PointedStore,
-) -> ([u8; 32], Result<Tree, Memory>)
+/// Whether the digest of a catalog is worth a thread of its own.
+fn pays<R: Threads + Sync>(rt: &R, catalog: &Catalog) -> bool {
+    let processors = thread::available_parallelism(rt).map_or(1, NonZeroUsize::get);
+    processors > 1 && catalog.len() >= FEWEST_CARDS
+}
+
+/// The digest of a catalog, and then what else is to be made.
+#[inline(never)]
+fn behind_digest<F: FnOnce() -> T, T>(catalog: &Catalog, other: F) -> ([u8; 32], T)
+    requires { F.pre other }
     ensures digest { result.0 ≡ catalog_digest catalog.now }
-    ensures tree { IfOk result.1 (λ tree. IsOf tree store.now.rows) }
+    ensures other { F.post other result.1 }
 {
-    if catalog.len() < FEWEST_CARDS {
-        return (catalog.digest(), Tree::build(rt, alloc, store));
+    (catalog.digest(), other())
+}
+
+/// The digest of a catalog, and what else is to be made: this is made meanwhile where there are many cards, several processors, and
+/// memory for a thread. It has a frame of its own, since what is made may be large.
+#[inline(never)]
+pub fn beside_digest<R: Threads + Sync, F: FnOnce() -> T, T>(
+    rt: &R,
+    catalog: &Catalog,
+    other: F,
+) -> ([u8; 32], T)
+    requires { F.pre other }
+    ensures digest { result.0 ≡ catalog_digest catalog.now }
+    ensures other { F.post other result.1 }
+{
+    if !pays(rt, catalog) {
+        return behind_digest(catalog, other);
     }
     let digest = || -> [u8; 32]
         ensures { result ≡ catalog_digest catalog.entry.now }
     { catalog.digest() };
-    let tree = || -> Result<Tree, Memory>
-        ensures { IfOk result (λ tree. IsOf tree store.entry.now.rows) }
-    { Tree::build(rt, alloc, store) };
-    join(rt, digest, tree)
+    join(rt, digest, other)
 }

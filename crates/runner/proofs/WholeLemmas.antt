@@ -10,7 +10,7 @@ use Rattle.records.specs.Io.{AppendsFront, IsOfWholeInput}
 use Rattle.requests.specs.Batches.{batches}
 use Rattle.runner.proofs.RunLemmas.{then_kept, took_none}
 use Rattle.runner.specs.CheckTexts.{ChecksImage, LeavesCheck, check_text}
-use Rattle.runner.specs.Openings.{IsOpened, IsUnopened}
+use Rattle.runner.specs.Openings.{IsOfOpening, IsOpened, IsRefused, IsUnopened}
 use Rattle.records.specs.declared.fault.ReadError.{ReadError}
 use Rattle.records.specs.declared.fault.ReadError.TheVariants as read_error
 use Rattle.runner.specs.Runs.{IsOfBatches, Taken, line_on}
@@ -26,10 +26,16 @@ pub opened_on : (images : Option (List ℕ)) (db : Database) (line : Line) → I
 opened_on None db line is same = tt
 opened_on (Some image_bytes) db line is same = (db, is, same)
 
-pub refused_on : (images : Option (List ℕ)) (db : Database) → IfSome images (λ image_bytes. image image_bytes ≡ Ok db) → IsSoundState db.cards (opening db.cards db.rows)
-    → IfSome images (λ image_bytes. IsUnopened (run_fault.Exec refusal.Memory) image_bytes)
-refused_on None db is sound = tt
-refused_on (Some image_bytes) db is sound = (db, is, sound)
+-- memory was refused for the database of an image
+pub refused_on : (e : RunFault) (images : Option (List ℕ)) (db : Database) → IsRefused e → IfSome images (λ image_bytes. image image_bytes ≡ Ok db) → IsSoundState db.cards (opening db.cards db.rows)
+    → IfSome images (λ image_bytes. IsUnopened e image_bytes)
+refused_on e None db refused is sound = tt
+refused_on e (Some image_bytes) db (inl load) is sound = subst (λ (f : RunFault). IsUnopened f image_bytes) (sym load) (inl refl)
+refused_on e (Some image_bytes) db (inr exec) is sound = subst (λ (f : RunFault). IsUnopened f image_bytes) (sym exec) (db, is, sound)
+
+pub refused_opening : (e : RunFault) → IsRefused e → IsOfOpening e
+refused_opening e (inl load) = subst IsOfOpening (sym load) tt
+refused_opening e (inr exec) = subst IsOfOpening (sym exec) tt
 
 -- ---- a run that ends before its first batch
 pub same_kept : (t : Taken) → Keeps t t

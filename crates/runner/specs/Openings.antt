@@ -1,8 +1,9 @@
 -- What an image gives before any batch.
-use Rattle.std.specs.Prelude.{◌≡◌, ℕ, List, Ok}
+use Rattle.std.specs.Prelude.{◌≡◌, ◌⊎◌, ℕ, List, Ok}
 use Rattle.executor.specs.Lines.{Line, opening_line}
 use Rattle.executor.specs.States.{IsSoundState}
 use Rattle.executor.specs.declared.refusal.Refusal.TheVariants as refusal
+use Rattle.image_records.specs.declared.fault.LoadError.TheVariants as load_error
 use Rattle.loader.specs.Image.{image}
 use Rattle.runner.specs.WholeRuns.{IsImageFault}
 use Rattle.runner.specs.declared.fault.RunFault.{RunFault}
@@ -25,3 +26,7 @@ abbrev pub IsOfOpening : RunFault → Type 0
 IsOfOpening (run_fault.Load e) = Unit {0}
 IsOfOpening (run_fault.Exec refusal.Memory) = Unit {0}
 IsOfOpening _ = ⊥
+
+-- memory was refused for a database that was read: for the pages of its rows, or for their tree
+abbrev pub IsRefused : RunFault → Type 0
+IsRefused e = (e ≡ run_fault.Load load_error.Memory) ⊎ (e ≡ run_fault.Exec refusal.Memory)

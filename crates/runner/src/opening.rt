@@ -2,40 +2,90 @@
 ghost use Rattle.std.specs.Prelude.{◌≡◌, ◌+◌, ◌<◌, ◌≤◌, ◌^◌, [], IfErr, IfOk, IfSome, if◌then◌else◌};
 ghost use Rattle.executor.specs.Lines.{opening_line};
 ghost use Rattle.executor.specs.States.{IsSoundState};
-ghost use Rattle.executor.specs.declared.refusal.Refusal.TheVariants as refusal;
-ghost use Rattle.image_records.specs.Databases.{loaded};
-ghost use Rattle.runner.specs.Openings.{IsOfOpening, IsOpened, IsUnopened};
+ghost use Rattle.merkle.specs.Nodes.{IsOf};
+ghost use Rattle.runner.specs.Openings.{IsOfOpening, IsOpened, IsRefused, IsUnopened};
 ghost use Rattle.runner.specs.WholeRuns.{is_image_read};
-ghost use Rattle.runner.specs.declared.fault.RunFault.TheVariants as run_fault;
+ghost use Rattle.tpcc_model.specs.Database.{database};
 ghost use Rattle.tpcc_model.specs.Soundness.{IsSound};
 
 use crate::fault::RunFault;
 use catalog::Catalog;
 use executor::laws::sound_states;
-use executor::{Executor, Refusal};
-use loader::load;
+use executor::{Executor, Refusal, beside_digest};
+use image_records::LoadError;
+use loader::{UnpagedRows, read_image};
+use merkle::Tree;
 use records::io::Source;
 use rollback::PointedStore;
 use std::alloc::Global;
 use std::thread::Threads;
 
-/// The executor of a database that was loaded. Its frame has the room of the executor, and that of `load_executor` the database's.
+/// The parts of an executor in a box: a frame that passes them on by value has room for them several times, 15 KB each.
+#[inline(never)]
+fn boxed(
+    alloc: Global,
+    store: PointedStore,
+    tree: Tree,
+) -> Result<Box<(PointedStore, Tree)>, RunFault>
+    ensures ok { IfOk result (λ built. built.value ≡ (store, tree)) }
+    ensures err { IfErr result IsRefused }
+{
+    match Box::new(alloc, (store, tree)) {
+        Ok(built) => Ok(built),
+        Err(_) => Err(RunFault::Exec(Refusal::Memory)),
+    }
+}
+
+/// The rows on their pages, and their tree.
+#[inline(never)]
+fn build<R: Threads + Sync>(
+    rt: &R,
+    alloc: Global,
+    rows: UnpagedRows,
+) -> Result<Box<(PointedStore, Tree)>, RunFault>
+    ensures rows { IfOk result (λ built. built.value.0.rows ≡ rows) }
+    ensures points { IfOk result (λ built. built.value.0.points ≡ []) }
+    ensures tree { IfOk result (λ built. IsOf built.value.1 built.value.0.rows) }
+    ensures err { IfErr result IsRefused }
+{
+    let Ok(store) = rows.on_pages(alloc) else {
+        return Err(RunFault::Load(LoadError::Memory));
+    };
+    let Ok(tree) = Tree::build(rt, alloc, &store) else {
+        return Err(RunFault::Exec(Refusal::Memory));
+    };
+    boxed(alloc, store, tree)
+}
+
+/// The executor of a database that was read. Many cards are hashed while the rows go to their pages and their tree is built.
 #[inline(never)]
 fn executor_of<R: Threads + Sync>(
     rt: &R,
     alloc: Global,
-    database: (Catalog, PointedStore),
+    catalog: Catalog,
+    rows: UnpagedRows,
 ) -> Result<Executor, RunFault>
-    requires sound { IsSound (loaded database) }
-    requires points { database.1.points ≡ [] }
-    ensures line { IfOk result (λ executor. executor ≡ opening_line database.0 database.1.rows) }
+    requires { IsSound (database catalog rows) }
+    ensures line { IfOk result (λ executor. executor ≡ opening_line catalog rows) }
     ensures sound { IfOk result (λ executor. IsSoundState executor.cards executor.present) }
-    ensures err { IfErr result (λ e. e ≡ run_fault.Exec refusal.Memory) }
+    ensures err { IfErr result IsRefused }
 {
-    let (catalog, store) = database;
-    match Executor::new(rt, alloc, catalog, store) {
-        Ok(executor) => Ok(executor),
-        Err(_) => Err(RunFault::Exec(Refusal::Memory)),
+    let (digest, built) = beside_digest(
+        rt,
+        &catalog,
+        || -> Result<Box<(PointedStore, Tree)>, RunFault>
+            ensures rows { IfOk result (λ built. built.value.0.rows ≡ rows) }
+            ensures points { IfOk result (λ built. built.value.0.points ≡ []) }
+            ensures tree { IfOk result (λ built. IsOf built.value.1 built.value.0.rows) }
+            ensures err { IfErr result IsRefused }
+        { build(rt, alloc, rows) },
+    );
+    match built {
+        Ok(built) => {
+            let (store, tree) = Box::into_inner(built);
+            Ok(Executor::of_parts(catalog, digest, store, tree))
+        }
+        Err(fault) => Err(fault),
     }
 }
 
@@ -56,8 +106,8 @@ pub fn load_executor<R: Threads + Sync, I: Source>(
     ensures image_failures { I.failed image.new ≡ I.failed image.old + (if is_image_read result then 1 else 0) }
 {
     sound_states();
-    match load(alloc, image) {
-        Ok(database) => executor_of(rt, alloc, database),
+    match read_image(alloc, image) {
+        Ok((catalog, rows)) => executor_of(rt, alloc, catalog, rows),
         Err(error) => Err(RunFault::Load(error)),
     }
 }

@@ -6,14 +6,14 @@ use Rattle.executor.specs.States.{IsSoundState}
 use Rattle.executor.specs.declared.stamp.Stamp.{Stamp}
 use Rattle.executor.proofs.LineFacts.{all-none}
 use Rattle.executor.proofs.Openings.{opening_stamp}
-use Rattle.executor.proofs.executor.Executor.new.Goals as goal
+use Rattle.executor.proofs.executor.Executor.of_parts.Goals as goal
 
 pub invariant_of-result-2 : goal.invariant_of-result-2
-invariant_of-result-2 g c =
+invariant_of-result-2 c =
     let rows = c.args.store.rows in
     let stamp : Stamp = record { next = c.next_number-next.result; sequence = 0; token = c.token.result } in
     let state : state_of rows stamp ≡ opening c.args.catalog rows =
-    opening_stamp c.args.catalog rows stamp c.digest_and_tree-built.result.0 c.root.result c.reply_digest.result c.next_number-next.ensures.value c.digest_and_tree-built.ensures.digest (c.root.ensures rows (rw c.in_ok-tree.was at c.digest_and_tree-built.ensures.tree)) c.reply_digest.ensures c.token.ensures in
+    opening_stamp c.args.catalog rows stamp c.args.digest c.root.result c.reply_digest.result c.next_number-next.ensures.value c.requires.digest (c.root.ensures rows c.requires.tree) c.reply_digest.ensures c.token.ensures in
     record {
       stamped = ap length c.new.ensures ∙ sym (ap length c.requires.points);
       earlier = all-none (IsKeptState c.args.catalog) c.args.store.points c.new.result.items c.requires.points;
@@ -25,17 +25,17 @@ invariant_of-result-2 g c =
     }
 
 pub returns-clause-line : goal.returns-clause-line
-returns-clause-line g c =
+returns-clause-line c =
     let rows = c.args.store.rows in
     let stamp : Stamp = record { next = c.next_number-next.result; sequence = 0; token = c.token.result } in
     let state : state_of rows stamp ≡ opening c.args.catalog rows =
-    opening_stamp c.args.catalog rows stamp c.digest_and_tree-built.result.0 c.root.result c.reply_digest.result c.next_number-next.ensures.value c.digest_and_tree-built.ensures.digest (c.root.ensures rows (rw c.in_ok-tree.was at c.digest_and_tree-built.ensures.tree)) c.reply_digest.ensures c.token.ensures in
+    opening_stamp c.args.catalog rows stamp c.args.digest c.root.result c.reply_digest.result c.next_number-next.ensures.value c.requires.digest (c.root.ensures rows c.requires.tree) c.reply_digest.ensures c.token.ensures in
     ap₂ (λ (earlier : List State) (present : State). let l : Line = record { cards = c.args.catalog; earlier = earlier; present = present } in l) (ap (λ points. states_of points c.new.result.items) c.requires.points) state
 
 pub returns-clause-sound : goal.returns-clause-sound
-returns-clause-sound g c =
+returns-clause-sound c =
     let rows = c.args.store.rows in
     let stamp : Stamp = record { next = c.next_number-next.result; sequence = 0; token = c.token.result } in
     let state : state_of rows stamp ≡ opening c.args.catalog rows =
-    opening_stamp c.args.catalog rows stamp c.digest_and_tree-built.result.0 c.root.result c.reply_digest.result c.next_number-next.ensures.value c.digest_and_tree-built.ensures.digest (c.root.ensures rows (rw c.in_ok-tree.was at c.digest_and_tree-built.ensures.tree)) c.reply_digest.ensures c.token.ensures in
+    opening_stamp c.args.catalog rows stamp c.args.digest c.root.result c.reply_digest.result c.next_number-next.ensures.value c.requires.digest (c.root.ensures rows c.requires.tree) c.reply_digest.ensures c.token.ensures in
     subst (IsSoundState c.args.catalog) (sym state) (c.sound_states.ensures.opening (database c.args.catalog rows) c.requires.sound)
