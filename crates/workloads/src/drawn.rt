@@ -6,19 +6,28 @@ pub struct Draw {
     state: u64,
 }
 
+/// What is added to the state for each number.
+const STEP: u64 = 0x9e37_79b9_7f4a_7c15;
+
+/// The number of a state: states that are near each other give numbers that have nothing in common.
+fn mixed(state: u64) -> u64 {
+    let mut word = state;
+    word = (word ^ (word >> 30)).wrapping_mul(0xbf58_476d_1ce4_e5b9);
+    word = (word ^ (word >> 27)).wrapping_mul(0x94d0_49bb_1331_11eb);
+    word ^ (word >> 31)
+}
+
 impl Draw {
+    /// The seed is mixed before it becomes the state, so that no two seeds begin a few steps from each other.
     pub fn new(seed: u32) -> Draw {
         Draw {
-            state: u64::from(seed).wrapping_mul(0x9e37_79b9_7f4a_7c15),
+            state: mixed(u64::from(seed).wrapping_add(STEP)),
         }
     }
 
     fn next(&mut self) -> u64 {
-        self.state = self.state.wrapping_add(0x9e37_79b9_7f4a_7c15);
-        let mut word = self.state;
-        word = (word ^ (word >> 30)).wrapping_mul(0xbf58_476d_1ce4_e5b9);
-        word = (word ^ (word >> 27)).wrapping_mul(0x94d0_49bb_1331_11eb);
-        word ^ (word >> 31)
+        self.state = self.state.wrapping_add(STEP);
+        mixed(self.state)
     }
 
     /// One of the numbers from `low` to `high`.
