@@ -1,6 +1,5 @@
 pub mod BitSets
 pub mod Indexing
-pub mod Listing
 pub mod Moving
 pub mod Numbering
 pub mod Paging

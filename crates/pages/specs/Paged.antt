@@ -1,13 +1,10 @@
 -- Rows by leaf: a list of pages, the one at n having the rows of leaf n.
-use Rattle.std.specs.Prelude.{◌≡◌, ℕ, eqb, true, false, map as each, List, [], ◌∷◌, ◌++◌, length, get_or, None}
+use Rattle.std.specs.Prelude.{◌≡◌, ℕ, eqb, false, List, [], ◌∷◌, ◌++◌, length, get_or, None}
 use Rattle.std.specs.FinMap as map
 use Rattle.tpcc_rows.specs.declared.codes.TheConstants.{LEAVES}
 use Rattle.tpcc_rows.specs.declared.key.RowKey.{RowKey}
 use Rattle.tpcc_rows.specs.declared.row.Row.{Row}
-use Rattle.std.specs.List.{list_all}
-use Rattle.tpcc_rows.specs.Changing.{with_each}
 use Rattle.tpcc_rows.specs.Leaves.{leaf}
-use Rattle.tpcc_rows.specs.RowKinds.{fits}
 use Rattle.tpcc_rows.specs.RowMap.{Rows}
 
 -- all entries, page after page
@@ -35,12 +32,3 @@ pub record AreOfLeaf (n : ℕ) (rows : Rows) : Type 0 where
 pub record IsPaged (pages : List Rows) : Type 0 where
   pub full : length pages ≡ LEAVES
   pub fits : IsByLeaf pages
-
--- the pages of lists of rows, each list's rows put one after the other
-abbrev pub pages_of : List (List (RowKey × Row)) → List Rows
-pages_of lists = each (λ es. with_each es map.empty) lists
-
--- rows in a list for each leaf, each row of its key's kind
-pub record ArePageRows (lists : List (List (RowKey × Row))) : Type 0 where
-  pub paged : IsPaged (pages_of lists)
-  pub fit : list_all (list_all (λ e. fits e.0 e.1)) lists ≡ true

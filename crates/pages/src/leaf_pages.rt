@@ -7,7 +7,7 @@ ghost use Rattle.tpcc_rows.specs.Leaves.{page_rows};
 ghost use Rattle.tpcc_rows.specs.RowKinds.{fits};
 
 use crate::kept::{LeafPage, OldRow};
-use crate::leaf_lists::LeafLists;
+use crate::rooms::Rooms;
 use leaf_rows::LeafRows;
 use std::alloc::Global;
 use std::marker::Model;
@@ -49,16 +49,27 @@ impl Pages {
         Ok(Pages { pages })
     }
 
-    /// The rows of a plain store, each moved to its page.
+    /// No rows, and a place for each page, which has its room.
+    pub(crate) fn with_rooms(alloc: Global, rooms: &Rooms) -> Result<Pages, Memory>
+        ensures { IfOk result (λ store. store ≡ map.empty) }
+    {
+        let mut pages = Vec::with_capacity(alloc, LEAVES)?;
+        for leaf in 0..LEAVES {
+            pages.push(LeafRows::with_room(alloc, rooms.at(leaf))?)?;
+        }
+        Ok(Pages { pages })
+    }
+
+    /// The rows of a plain store, each moved to its page, which has their room from the first.
     pub(crate) fn from_plain(alloc: Global, rows: plain::RowStore) -> Result<Pages, Memory>
         ensures { IfOk result (λ store. store ≡ rows) }
     {
-        let mut lists = LeafLists::new(alloc)?;
+        let rooms = Rooms::of_plain(alloc, &rows)?;
+        let mut pages = Pages::with_rooms(alloc, &rooms)?;
         for (key, row) in rows.into_rows() {
-            lists.push(key, row)?;
+            pages.put(key, row)?;
         }
-        let pages = lists.into_pages(alloc)?;
-        Ok(Pages { pages })
+        Ok(pages)
     }
 
     /// A store with the same rows.

@@ -3,8 +3,8 @@
 
 mod bits;
 mod kept;
-mod leaf_lists;
 mod leaf_pages;
+mod rooms;
 pub mod saved;
 pub mod store;
 

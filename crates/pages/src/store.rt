@@ -2,6 +2,7 @@
 ghost use Rattle.std.specs.Prelude.{◌≡◌, ◌<◌, ◌||◌, ℕ, IfNone, IfOk, IfSome, OnOk, OnErr, cond, false, length, option_copied, true};
 ghost use Rattle.std.specs.BTreeSet.{contains};
 ghost use Rattle.std.specs.FinMap as map;
+ghost use Rattle.std.specs.List.{list_all};
 ghost use Rattle.std.specs.Ordering.{nat_cmp};
 ghost use Rattle.indexes.specs.declared.place.TheConstants.{PLACES};
 ghost use Rattle.indexes.specs.Indexed.{AreOf, has};
@@ -13,6 +14,7 @@ ghost use Rattle.pages.specs.Saving.{AreThere, HasBefore, HasNumbers, IsLacking,
 ghost use Rattle.pages.specs.Saving.{is_added, restored, undone, with_pages, with_parts};
 ghost use Rattle.tpcc_rows.specs.declared.key.RowKey.{RowKey};
 ghost use Rattle.tpcc_rows.specs.declared.codes.TheConstants.{LEAVES};
+ghost use Rattle.tpcc_rows.specs.Changing.{with_each};
 ghost use Rattle.tpcc_rows.specs.Leaves.{leaf, page_rows};
 ghost use Rattle.tpcc_rows.specs.Picks.{latest, oldest};
 ghost use Rattle.tpcc_rows.specs.RowKinds.{fits};
@@ -20,6 +22,7 @@ ghost use Rattle.tpcc_rows.specs.Rows.{customer_row, district_row, warehouse_row
 
 use crate::kept::{AddedNumber, IndexPart, LeafPage, OldRow};
 use crate::leaf_pages::Pages;
+use crate::rooms::Rooms;
 use crate::saved::Saved;
 use indexes::Indexes;
 use indexes::owner::{Owner, is_nobody, owner_of, same_owner};
@@ -157,7 +160,29 @@ impl RowStore {
         Ok(RowStore { pages, indexes })
     }
 
-    /// The rows of a plain store, each moved to its page.
+    /// No rows, and a place for each page, which has its room.
+    fn with_rooms(alloc: Global, rooms: &Rooms) -> Result<RowStore, Memory>
+        ensures { IfOk result (λ store. store ≡ map.empty) }
+    {
+        let pages = Pages::with_rooms(alloc, rooms)?;
+        let indexes = Indexes::new(alloc)?;
+        Ok(RowStore { pages, indexes })
+    }
+
+    /// The rows of a list, each moved to its page, which has their room from the first. Of a key's the last one stays.
+    pub fn from_rows(alloc: Global, rows: Vec<(RowKey, Row)>) -> Result<RowStore, Memory>
+        requires { list_all (λ row. fits row.0 row.1) rows.items ≡ true }
+        ensures { IfOk result (λ store. store ≡ with_each rows.items map.empty) }
+    {
+        let rooms = Rooms::of_list(alloc, &rows)?;
+        let mut store = RowStore::with_rooms(alloc, &rooms)?;
+        for (key, row) in rows {
+            store.put(key, row)?;
+        }
+        Ok(store)
+    }
+
+    /// The rows of a plain store, each moved to its page, which has their room from the first.
     pub fn from_plain(alloc: Global, rows: plain::RowStore) -> Result<RowStore, Memory>
         ensures { IfOk result (λ store. store ≡ rows) }
     {

@@ -4,4 +4,4 @@ use Rattle.tpcc_rows.proofs.Puts.{with_each-entries}
 use Rattle.pages.proofs.leaf_pages.Pages.from_plain.Goals as goal
 
 pub returns : goal.returns
-returns c = c.in_ok-pages.ensures.rows ∙ ap (λ es. with_each es c.loop-key.lists) (sym c.in-None.ensures.steps.0) ∙ c.loop-key.invariant.whole ∙ with_each-entries c.args.rows
+returns c = ap (λ es. with_each es c.loop-key.pages) (sym c.in-None.ensures.steps.0) ∙ c.loop-key.invariant.whole ∙ with_each-entries c.args.rows
