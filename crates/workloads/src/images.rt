@@ -8,10 +8,18 @@ pub struct Size {
     pub warehouses: u64,
     /// Customers of each district.
     pub customers: u64,
+    /// The least length of a customer's data; the greatest is `LONGEST_DATA`.
+    pub least_data: u64,
     pub items: u64,
     /// Orders of each district; three of ten are new.
     pub orders: u64,
 }
+
+/// The least length of a customer's data where a database is filled as the standard has it.
+pub const STANDARD_DATA: u64 = 300;
+
+/// The greatest length of a customer's data.
+pub const LONGEST_DATA: u64 = 500;
 
 /// How many last names there are.
 pub const NAMES: u64 = 1_000;
@@ -43,7 +51,7 @@ fn put_districts(text: &mut Text, w: u64, size: Size) -> Result<(), AllocError> 
     Ok(())
 }
 
-fn put_customer(text: &mut Text, w: u64, d: u64, c: u64) -> Result<(), AllocError> {
+fn put_customer(text: &mut Text, w: u64, d: u64, c: u64, size: Size) -> Result<(), AllocError> {
     let name = if c <= NAMES {
         c.saturating_sub(1)
     } else {
@@ -59,14 +67,14 @@ fn put_customer(text: &mut Text, w: u64, d: u64, c: u64) -> Result<(), AllocErro
     let discount = text.draw.between(0, 5_000);
     text.numbers(&[discount])?;
     text.put(b",-1000,1000,1,0")?;
-    text.letters(300, 500)?;
+    text.letters(size.least_data, LONGEST_DATA)?;
     text.end()
 }
 
 fn put_customers(text: &mut Text, w: u64, size: Size) -> Result<(), AllocError> {
     for d in 1..11 {
         for c in 1..size.customers.saturating_add(1) {
-            put_customer(text, w, d, c)?;
+            put_customer(text, w, d, c, size)?;
         }
     }
     Ok(())

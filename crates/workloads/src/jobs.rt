@@ -1,6 +1,6 @@
 //! The jobs that a user waits for, on inputs that are made of a seed.
 use crate::batches::{flights, mixed, small};
-use crate::images::{Size, image, reversed};
+use crate::images::{LONGEST_DATA, STANDARD_DATA, Size, image, reversed};
 use hashers::Host;
 use requests::{BytesSink, BytesSource};
 use runner::{check_text, make_text, run_and_store, run_text};
@@ -75,6 +75,7 @@ fn mix<R: Host>(rt: &R, alloc: Global, seed: u32, scale: Scale) -> Option<Vec<u8
     let size = Size {
         warehouses: 1,
         customers: scale.of(3_000, 10),
+        least_data: STANDARD_DATA,
         items: scale.of(100_000, 50),
         orders: 0,
     };
@@ -88,6 +89,7 @@ fn workers<R: Host>(rt: &R, alloc: Global, seed: u32, scale: Scale) -> Option<Ve
     let size = Size {
         warehouses: scale.of(10, 2),
         customers: scale.of(300, 10),
+        least_data: STANDARD_DATA,
         items: scale.of(10_000, 50),
         orders: scale.of(100, 10),
     };
@@ -101,6 +103,7 @@ fn payments<R: Host>(rt: &R, alloc: Global, seed: u32, scale: Scale) -> Option<V
     let size = Size {
         warehouses: scale.of(100, 2),
         customers: 10,
+        least_data: STANDARD_DATA,
         items: scale.of(1_000, 50),
         orders: 0,
     };
@@ -114,6 +117,7 @@ fn load<R: Host>(rt: &R, alloc: Global, seed: u32, scale: Scale) -> Option<Vec<u
     let size = Size {
         warehouses: 1,
         customers: scale.of(3_000, 10),
+        least_data: STANDARD_DATA,
         items: scale.of(100_000, 50),
         orders: scale.of(3_000, 10),
     };
@@ -139,6 +143,7 @@ fn store<R: Host>(rt: &R, alloc: Global, seed: u32, scale: Scale) -> Option<Vec<
     let size = Size {
         warehouses: 1,
         customers: scale.of(1_000, 10),
+        least_data: STANDARD_DATA,
         items: scale.of(30_000, 50),
         orders: scale.of(1_000, 10),
     };
@@ -170,6 +175,7 @@ fn awkward<R: Host>(rt: &R, alloc: Global, seed: u32, scale: Scale) -> Option<Ve
     let size = Size {
         warehouses: 2,
         customers: scale.of(600, 10),
+        least_data: STANDARD_DATA,
         items: scale.of(5_000, 50),
         orders: scale.of(200, 10),
     };
@@ -177,6 +183,21 @@ fn awkward<R: Host>(rt: &R, alloc: Global, seed: u32, scale: Scale) -> Option<Ve
     let image = reversed(alloc, image.as_slice()).ok()?;
     let commands = flights(alloc, seed, size, scale.of(6, 1), scale.of(200, 20)).ok()?;
     session(rt, alloc, image.as_slice(), commands.as_slice(), 2)
+}
+
+/// Batches of the mix, by four workers, on a database whose leaves have more bytes than are hashed four at once: some forty customers
+/// each, whose data are as long as they can be.
+fn long_leaves<R: Host>(rt: &R, alloc: Global, seed: u32, scale: Scale) -> Option<Vec<u8>> {
+    let size = Size {
+        warehouses: scale.of(6, 2),
+        customers: scale.of(2_750, 10),
+        least_data: LONGEST_DATA,
+        items: scale.of(10_000, 50),
+        orders: 0,
+    };
+    let image = image(alloc, seed, size).ok()?;
+    let batches = mixed(alloc, seed, size, scale.of(10, 2), scale.of(1_000, 40)).ok()?;
+    answers(rt, alloc, image.as_slice(), batches.as_slice(), 4)
 }
 
 /// What the job of this name gives; None where there is no such job, or it fails.
@@ -194,6 +215,7 @@ pub fn done<R: Host>(
         "load" => load(rt, alloc, seed, scale),
         "store" => store(rt, alloc, seed, scale),
         "awkward" => awkward(rt, alloc, seed, scale),
+        "scale" => long_leaves(rt, alloc, seed, scale),
         _ => None,
     }
 }

@@ -16,7 +16,9 @@ use std::process::ExitCode;
 use std::rt::Env;
 
 /// The names of the jobs.
-const JOBS: [&str; 6] = ["mix", "workers", "payments", "load", "store", "awkward"];
+const JOBS: [&str; 7] = [
+    "mix", "workers", "payments", "load", "store", "awkward", "scale",
+];
 
 /// The job and the seed of the command line, where it has words.
 fn words<R: Env + AllocGlobal>(rt: &R) -> Option<(String, u32)> {
