@@ -42,6 +42,29 @@ def customers(count):
     return [f'C,1,{1 + place // 2999},{2 + place % 2999},,,,GC,0,0,0,0,0,' for place in range(count)]
 
 
+def orders(districts, count, lines, are_new):
+    """Records of so many orders in each of the first districts, of so many lines each."""
+    each = [(d, o) for d in range(1, districts + 1) for o in range(1, count + 1)]
+    carrier, delivery = ('-', '-') if are_new else (1, 0)
+    made = [f'O,1,{d},{o},1,0,{carrier},{lines},1' for d, o in each]
+    made += [f'N,1,{d},{o}' for d, o in each if are_new]
+    return made + [f'L,1,{d},{o},{number},1,1,{delivery},0,0,' for d, o in each for number in range(1, lines + 1)]
+
+
+def with_orders(image, districts, count, records):
+    """The image, in which no district has an order, with records of so many orders in each of the first districts."""
+    lines = image.splitlines()
+    for place, line in enumerate(lines):
+        if line.startswith('D,1,') and int(line.split(',')[2]) <= districts:
+            lines[place] = line.rsplit(',', 1)[0] + f',{count + 1}'
+    return with_records('\n'.join(lines), records)
+
+
+def late(records):
+    """The records, every second one behind all others."""
+    return records[::2] + records[1::2]
+
+
 def batches(request, a_batch, count):
     """So many batches of one request."""
     return (f'B,0,commit,{a_batch}\n' + f'{request}\n' * a_batch) * count
@@ -54,6 +77,20 @@ def orders_of_all(count):
     return '\n'.join([f'B,0,commit,{count}', *lines, ''])
 
 
+def shapes(program):
+    """Images of some 1,100,000 short rows in several shapes: what each is, and the image."""
+    small, middle = made(program, SMALL), made(program, (1, 10, 10))
+    rows = payments(1100000)
+    yield '1100000 short payments of the history', with_records(small, rows)
+    yield 'the same, every second one late', with_records(small, late(rows))
+    rows = orders(1, 367000, 1, True)
+    yield '367000 new orders of one line in a district', with_orders(small, 1, 367000, rows)
+    yield 'the same, every second record late', with_orders(small, 1, 367000, late(rows))
+    rows = orders(10, 10000, 10, False)
+    yield '10000 orders of 10 lines in each of ten districts', with_orders(middle, 10, 10000, rows)
+    yield 'the same, every second record late', with_orders(middle, 10, 10000, late(rows))
+
+
 def inputs(program):
     """What each input is, its image and its batches."""
     small, middle = made(program, SMALL), made(program, (1, 45, 100))
@@ -64,6 +101,8 @@ def inputs(program):
         yield f'{count} short customers', with_records(small, customers(count)), ''
     for count in 10000, 100000, 1000000:
         yield f'{count} short payments of the history', with_records(small, payments(count)), ''
+    for what, image in shapes(program):
+        yield what, image, ''
     yield '100 batches of 1000 new orders of 5 lines', middle, batches(SHORT_ORDER, 1000, 100)
     for count in 1, 10, 100:
         yield f'{count} batches of 1000 new orders of 15 lines', middle, batches(NEW_ORDER, 1000, count)
