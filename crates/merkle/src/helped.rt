@@ -12,7 +12,7 @@ use crate::hashing::{LEAF_BYTES, NODE_BYTES};
 use crate::jobs::Job;
 use crate::leaves::Leaves;
 use crate::levels::InnerNodes;
-use crate::places::{Places, do_jobs, sort_by_bytes};
+use crate::places::{Places, do_jobs, sort_by_measure};
 use arrayvec::ArrayVec;
 use hashers::{Helpers, Host, LONG_TEXTS, TEXTS, Ticket};
 use std::alloc::{AllocError, Global};
@@ -333,7 +333,7 @@ impl Helped {
             most,
             size: LONG_TEXTS,
         };
-        sort_by_bytes(jobs, &whole);
+        sort_by_measure(jobs, &whole);
         do_rounds(&mut self.helpers, &plan, jobs, &mut self.leaves);
     }
 

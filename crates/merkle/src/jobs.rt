@@ -7,19 +7,39 @@ ghost use Rattle.rollback.specs.Marks.{is_dirty};
 
 use tpcc_rows::codes::LEAVES;
 
+/// How many bytes of a place will likely be hashed, and how many all of it has. The first tell which of two measures is the
+/// greater, and the second where the first tie.
+#[derive(Clone, Copy, PartialEq, Eq, PartialOrd, Ord)]
+pub(crate) struct Measure {
+    pub(crate) likely: usize,
+    pub(crate) whole: usize,
+}
+
+impl Measure {
+    /// Of a place that will be hashed whole.
+    pub(crate) fn of_whole(bytes: usize) -> Measure {
+        Measure {
+            likely: bytes,
+            whole: bytes,
+        }
+    }
+}
+
 /// A place whose hash is to be found: a leaf by its number, or a node by its place in heap order.
 #[derive(Clone, Copy)]
 pub(crate) struct Job {
     pub(crate) place: usize,
-    /// How many bytes will likely be hashed.
-    pub(crate) bytes: usize,
+    pub(crate) measure: Measure,
     pub(crate) hash: [u8; 32],
 }
 
 impl Job {
     pub(crate) const NONE: Job = Job {
         place: 0,
-        bytes: 0,
+        measure: Measure {
+            likely: 0,
+            whole: 0,
+        },
         hash: [0; 32],
     };
 }

@@ -6,22 +6,26 @@ ghost use Rattle.sha2_lanes.specs.Starts.{IsStart};
 ghost use Rattle.merkle.specs.declared.kept.TheConstants.{CHUNK_BYTES};
 
 use crate::hashing::LEAF_BYTES;
+use crate::jobs::Measure;
 use leaf_rows::LeafRows;
+use rollback::PointedStore;
 use sha2_lanes::{Message, Start, digests_from_four, starts_of_four};
 use std::alloc::Global;
+use std::boxed::BoxedSlice;
 use std::sync::Mutex;
 use tpcc_rows::codes::LEAVES;
 use tpcc_rows::encoding::enough_bytes;
+use tpcc_rows::number::{Carrier, Moment};
 use tpcc_rows::row::Row;
 
 /// How many bytes of a text a chunk has.
 pub(crate) const CHUNK_BYTES: usize = 256;
 
-/// How many parts of a page are looked at by themselves: the rows before the stocks, three times some stocks, and all that is left.
-const PARTS: usize = 5;
+/// How many bytes of a page a part has that is looked at by itself.
+const PART_BYTES: usize = 512;
 
-/// How many stocks are looked at together. A leaf has some 24 stocks of each hundred thousand.
-const STOCKS: usize = 8;
+/// How many parts a page has, as many as the longest text of which something is kept. The last has all that is left.
+const PARTS: usize = 40;
 
 /// Some bytes of a text, the start before them, and the one behind them.
 #[derive(Clone, Copy)]
@@ -33,17 +37,18 @@ pub(crate) struct Chunk {
 }
 
 impl Chunk {
-    /// These bytes, between these starts.
-    fn new(before: Start, bytes: &[u8], after: Start) -> Chunk
-        requires room { length bytes.now ≡ CHUNK_BYTES }
-        requires goes_on { (p : List ℕ) → IsStart before p → IsStart after (p ++ bytes.now) }
-    {
-        let mut copy = [0; CHUNK_BYTES];
-        copy.copy_from_slice(bytes);
+    /// Zeros, at the beginning of a text.
+    fn zeros() -> Chunk {
+        let bytes = [0; CHUNK_BYTES];
+        let message = Message {
+            start: Start::first(),
+            rest: &bytes,
+        };
+        let starts = starts_of_four(&message, &message, &message, &message);
         Chunk {
-            before,
-            bytes: copy,
-            after,
+            before: message.start,
+            bytes,
+            after: starts[0],
         }
     }
 
@@ -61,9 +66,8 @@ impl Chunk {
 /// What is kept of the text of a leaf, and what the parts of its page looked like.
 #[derive(Drop)]
 pub(crate) struct Kept {
-    chunks: Vec<Chunk>,
-    /// How many chunks there is room for; None before the first survey.
-    room: Option<usize>,
+    /// As many as there is room for: zeros, until a chunk of the text is put in their place. They never become more.
+    chunks: BoxedSlice<Chunk>,
     looks: [u64; PARTS],
 }
 
@@ -74,7 +78,7 @@ pub(crate) struct Survey {
     bytes: usize,
     /// How many for the rows of each part.
     part_bytes: [usize; PARTS],
-    /// A number for each part that mostly changes where one of its rows does.
+    /// A number for each part that mostly changes where one of its rows does, or where a row comes or goes.
     looks: [u64; PARTS],
 }
 
@@ -89,20 +93,20 @@ fn look_of(row: &Row) -> u64 {
         }
         Row::Stock(row) => { u64::from(row.ytd.value()) << 32 | u64::from(row.order_count.value()) }
         Row::Warehouse(row) => row.ytd.amount().cast_unsigned(),
-        Row::District(row) => row.ytd.amount().cast_unsigned(),
-        _ => 1,
+        Row::District(row) => {
+            row.ytd.amount().cast_unsigned() ^ u64::from(row.next_order.number()) << 32
+        }
+        Row::Order(row) => u64::from(row.carrier.map_or(0, Carrier::number)),
+        Row::OrderLine(row) => row.delivery.map_or(0, Moment::seconds),
+        Row::NewOrder | Row::History(_) => 0,
     }
 }
 
-/// The part of a row, where so many stocks stand before it.
-fn part_of(row: &Row, stocks: usize) -> usize
+/// The part of a row that stands behind so many bytes.
+fn part_behind(bytes: usize) -> usize
     ensures { result < PARTS }
 {
-    match row {
-        Row::Warehouse(_) | Row::District(_) | Row::Customer(_) => 0,
-        Row::Stock(_) => (1 + stocks / STOCKS).min(PARTS - 1),
-        _ => PARTS - 1,
-    }
+    (bytes / PART_BYTES).min(PARTS - 1)
 }
 
 /// Prefetches the rows of a page; the answer is how many bytes suffice for them. A customer's row is reference-counted, and
@@ -122,13 +126,15 @@ impl Survey {
         let mut survey = Survey {
             bytes: prefetch_rows(page),
             part_bytes: [0; PARTS],
-            looks: [0; PARTS],
+            // From 1 on, so that a row that looks like 0 makes a difference, too.
+            looks: [1; PARTS],
         };
-        let mut stocks = 0usize;
+        let mut before = 0usize;
         for (_, row) in page.as_slice() {
-            let part = part_of(row, stocks);
-            stocks = stocks.saturating_add(usize::from(part > 0));
-            survey.part_bytes[part] = survey.part_bytes[part].saturating_add(enough_bytes(row));
+            let part = part_behind(before);
+            let bytes = enough_bytes(row);
+            before = before.saturating_add(bytes);
+            survey.part_bytes[part] = survey.part_bytes[part].saturating_add(bytes);
             let look = survey.looks[part].wrapping_mul(0x9e37_79b9_7f4a_7c15);
             survey.looks[part] = look.wrapping_add(look_of(row));
         }
@@ -148,35 +154,14 @@ impl Survey {
 }
 
 impl Kept {
-    /// Nothing.
-    fn new(alloc: Global) -> Kept {
-        Kept {
-            chunks: Vec::new(alloc),
-            room: None,
-            looks: [0; PARTS],
-        }
-    }
-
-    /// Makes room for the chunks of a page with so many bytes at its first survey, as far as there is memory, and never again. A page
-    /// of more bytes than are hashed beside others gets none.
-    fn make_room(&mut self, bytes: usize) {
-        if self.room.is_none() {
-            let room = if bytes <= LEAF_BYTES {
-                bytes / CHUNK_BYTES
-            } else {
-                0
-            };
-            let is_made = self.chunks.reserve(room).is_ok();
-            self.room = Some(if is_made { room } else { 0 });
-        }
-    }
-
-    /// How many bytes of the surveyed page will likely be hashed: those from the first part on that has changed since the last survey.
-    fn likely_bytes(&mut self, survey: &Survey) -> usize {
-        self.make_room(survey.bytes);
-        let bytes = survey.bytes_since(&self.looks);
+    /// How much of the surveyed page will likely be hashed: all from the first part on that has changed since the last survey.
+    fn measure(&mut self, survey: &Survey) -> Measure {
+        let likely = survey.bytes_since(&self.looks);
         self.looks = survey.looks;
-        bytes
+        Measure {
+            likely,
+            whole: survey.bytes,
+        }
     }
 
     /// These bytes, between these starts, are the chunk of this place from now on, where there is room for it.
@@ -184,47 +169,62 @@ impl Kept {
         requires room { length bytes.now ≡ CHUNK_BYTES }
         requires goes_on { (p : List ℕ) → IsStart before p → IsStart after (p ++ bytes.now) }
     {
-        match self.chunks.get_mut(place) {
-            Some(kept) => kept.set(before, bytes, after),
-            None => {
-                if place == self.chunks.len() && place < self.room.unwrap_or(0) {
-                    let _ = self.chunks.push(Chunk::new(before, bytes, after));
-                }
-            }
+        if let Some(kept) = self.chunks.get_mut(place) {
+            kept.set(before, bytes, after);
         }
     }
 }
 
-/// A shelf for each leaf, where there is memory for them. Nothing is kept there so far.
-pub(crate) fn shelves(alloc: Global) -> Vec<Mutex<Kept>> {
+/// How many chunks of a page's text there is to be room for: none, where it has more bytes than are hashed beside others.
+fn room_for(page: &LeafRows) -> usize {
+    let mut bytes = 0usize;
+    for (_, row) in page.as_slice() {
+        bytes = bytes.saturating_add(enough_bytes(row));
+        if bytes > LEAF_BYTES {
+            return 0;
+        }
+    }
+    bytes / CHUNK_BYTES
+}
+
+/// A shelf with room for the text of a page. There is none where there is to be no room, or no memory for it.
+fn shelf_for(alloc: Global, page: &LeafRows, blank: &Chunk) -> Option<Mutex<Kept>> {
+    let room = room_for(page);
+    if room == 0 {
+        return None;
+    }
+    let Ok(chunks) = vec![in alloc; *blank; room] else {
+        return None;
+    };
+    Some(Mutex::new(Kept {
+        chunks: chunks.into_boxed_slice(),
+        looks: [0; PARTS],
+    }))
+}
+
+/// The shelves of all leaves, with nothing on them so far. Later nothing there takes memory.
+pub(crate) fn shelves(alloc: Global, store: &PointedStore) -> Vec<Option<Mutex<Kept>>> {
     let Ok(mut shelves) = Vec::with_capacity(alloc, LEAVES) else {
         return Vec::new(alloc);
     };
-    for _ in 0..LEAVES {
-        let _ = shelves.push(Mutex::new(Kept::new(alloc)));
+    let blank = Chunk::zeros();
+    for n in 0..LEAVES {
+        let _ = shelves.push(shelf_for(alloc, store.page(n), &blank));
     }
     shelves
-}
-
-/// Asks for no more memory from now on: a leaf that wasn't surveyed so far has no room.
-pub(crate) fn close(shelves: &mut [Mutex<Kept>]) {
-    for shelf in shelves {
-        let kept = shelf.get_mut();
-        kept.room = Some(kept.room.unwrap_or(0));
-    }
 }
 
 /// Where a leaf's text is kept, if it is. Whoever finds it in another's use does without.
 pub(crate) type Shelf<'a> = Option<&'a Mutex<Kept>>;
 
-/// How many bytes of a page will likely be hashed; all, where nothing of it is kept.
-pub(crate) fn likely_bytes(shelf: Shelf<'_>, page: &LeafRows) -> usize {
+/// How much of a page will likely be hashed; all, where it has no shelf.
+pub(crate) fn measure(shelf: Shelf<'_>, page: &LeafRows) -> Measure {
     if let Some(shelf) = shelf
         && let Some(mut kept) = shelf.try_lock()
     {
-        kept.likely_bytes(&Survey::of(page))
+        kept.measure(&Survey::of(page))
     } else {
-        prefetch_rows(page)
+        Measure::of_whole(prefetch_rows(page))
     }
 }
 

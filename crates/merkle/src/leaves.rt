@@ -7,8 +7,8 @@ ghost use Rattle.tpcc_rows.specs.Leaves.{page_rows};
 
 use crate::hashing::{LEAF_BYTES, Leaf, TwoTexts, encode_leaf, hash_four_leaves, hash_leaf};
 use crate::helped::{Encodes, Helped};
-use crate::jobs::{Job, gather_leaves, put_hashes};
-use crate::kept::{Kept, likely_bytes};
+use crate::jobs::{Job, Measure, gather_leaves, put_hashes};
+use crate::kept::{Kept, Shelf, measure};
 use crate::places::Places;
 use crate::shares::{Crew, do_jobs_on};
 use rollback::PointedStore;
@@ -20,21 +20,28 @@ use tpcc_rows::row_buf::ByteBuf;
 /// How many rows one thread takes at least: so many that it is worth its start, which costs a few hundred of them.
 const ROWS_AT_ONCE: usize = 4096;
 
-/// The leaves of a store, and what is kept of their texts.
+/// The leaves of a store, and what is kept of their texts: of a leaf with no shelf nothing.
 #[derive(Clone, Copy)]
 pub(crate) struct Leaves<'a> {
     pub(crate) store: &'a PointedStore,
-    pub(crate) shelves: &'a [Mutex<Kept>],
+    pub(crate) shelves: &'a [Option<Mutex<Kept>>],
 }
 
 impl<'a> Leaves<'a> {
+    fn shelf(&self, n: usize) -> Shelf<'a> {
+        match self.shelves.get(n) {
+            Some(Some(shelf)) => Some(shelf),
+            _ => None,
+        }
+    }
+
     fn leaf(&self, n: usize) -> Leaf<'a>
         requires { n < LEAVES }
         ensures { result.page.now ≡ page_rows self.now.store.now.rows n }
     {
         Leaf {
             page: self.store.page(n),
-            shelf: self.shelves.get(n),
+            shelf: self.shelf(n),
         }
     }
 }
@@ -54,8 +61,8 @@ impl Places for Leaves<'_> {
         TwoTexts::new()
     }
 
-    fn measure(&self, n: usize) -> usize {
-        likely_bytes(self.shelves.get(n), self.store.page(n))
+    fn measure(&self, n: usize) -> Measure {
+        measure(self.shelf(n), self.store.page(n))
     }
 
     #[tactic(auto, unfolding(tpcc_model::specs::Roots::leaf_hash))]

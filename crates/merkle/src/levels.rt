@@ -6,7 +6,7 @@ ghost use Rattle.merkle.specs.Nodes.{IsJoinedFrom, IsNearlyTree, IsTree, at, joi
 
 use crate::hashing::{NODE_BYTES, encode_node, join};
 use crate::helped::{Encodes, Helped};
-use crate::jobs::{Job, gather_nodes, put_hashes};
+use crate::jobs::{Job, Measure, gather_nodes, put_hashes};
 use crate::places::Places;
 use crate::shares::{Crew, do_jobs_on};
 use sha2_lanes::digests_of_four;
@@ -44,8 +44,8 @@ impl Places for InnerNodes<'_> {
 
     fn room() {}
 
-    fn measure(&self, _: usize) -> usize {
-        NODE_BYTES
+    fn measure(&self, _: usize) -> Measure {
+        Measure::of_whole(NODE_BYTES)
     }
 
     fn hash_one(&self, i: usize) -> [u8; 32] {

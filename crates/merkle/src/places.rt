@@ -2,10 +2,10 @@
 ghost use Rattle.std.specs.Prelude.{◌≡◌, ◌∷◌, [], ℕ, List, All, length};
 ghost use Rattle.merkle.specs.Jobs.{IsDone, KeepsPlaces};
 
-use crate::jobs::{Job, give_hashes};
+use crate::jobs::{Job, Measure, give_hashes};
 
-/// How many places are measured together, and are then hashed in the order of their lengths: four neighbours take the time of the
-/// longest of them.
+/// How many places are measured together, and are then put in the order of how much of each will likely be hashed, and of their
+/// lengths where that ties: four neighbours take the time of the one of which most is hashed.
 const WINDOW: usize = 32;
 
 /// What has places, each with its hash.
@@ -22,8 +22,8 @@ pub(crate) trait Places {
 
     fn room() -> Self::Room;
 
-    /// How many bytes will likely be hashed. What the hash is of is prefetched where it lies far apart.
-    fn measure(&self, place: usize) -> usize
+    /// How much will likely be hashed. What the hash is of is prefetched where it lies far apart.
+    fn measure(&self, place: usize) -> Measure
         requires { has self.now place };
 
     fn hash_one(&self, place: usize) -> [u8; 32]
@@ -53,18 +53,18 @@ fn measure<P: Places>(jobs: &mut [Job], places: &P)
     ensures { KeepsPlaces jobs.old jobs.new }
 {
     for k in 0..jobs.len() {
-        jobs[k].bytes = places.measure(jobs[k].place);
+        jobs[k].measure = places.measure(jobs[k].place);
     }
 }
 
-/// Puts the jobs in the order of how much they hash.
-pub(crate) fn sort_by_bytes<P: Places>(jobs: &mut [Job], places: &P)
+/// Puts the jobs in the order of their measures.
+pub(crate) fn sort_by_measure<P: Places>(jobs: &mut [Job], places: &P)
     requires { All (λ job. P.has places.now job.place) jobs.old }
     ensures places { KeepsPlaces jobs.old jobs.new }
     ensures there { All (λ job. P.has places.now job.place) jobs.new }
 {
     measure(jobs, places);
-    jobs.sort_unstable_by_key(|job: &Job| -> usize { job.bytes });
+    jobs.sort_unstable_by_key(|job: &Job| -> Measure { job.measure });
 }
 
 /// Does a few jobs one after the other.
@@ -117,7 +117,7 @@ fn do_window<P: Places>(jobs: &mut [Job], places: &P, front: &mut P::Room, back:
     requires { All (λ job. P.has places.now job.place) jobs.old }
     ensures { IsDone (P.hash places.now) jobs.old jobs.new }
 {
-    sort_by_bytes(jobs, places);
+    sort_by_measure(jobs, places);
     do_neighbours(jobs, places, front, back);
 }
 

@@ -6,7 +6,7 @@ ghost use Rattle.tpcc_rows.specs.RowMap.{Rows};
 
 use crate::helped::Helped;
 use crate::jobs::Job;
-use crate::kept::{Kept, close, shelves};
+use crate::kept::{Kept, shelves};
 use crate::leaves::{Leaves, rehash};
 use crate::levels::rejoin;
 use crate::shares::Crew;
@@ -71,8 +71,8 @@ pub struct Tree {
     // Room for what is to be hashed, so that a refresh takes no memory.
     jobs: Vec<Job>,
     helped: Helped,
-    // What is kept of the text of each leaf, where there is memory for it.
-    shelves: Vec<Mutex<Kept>>,
+    // What is kept of the text of each leaf, where it has a shelf. No shelf grows.
+    shelves: Vec<Option<Mutex<Kept>>>,
 }
 
 impl Model for Tree {
@@ -107,7 +107,7 @@ impl Tree {
         let mut jobs = vec![in alloc; Job::NONE; LEAVES]?;
         let threads = thread::available_parallelism(rt).map_or(1, NonZeroUsize::get);
         let mut helped = Helped::alone(alloc);
-        let mut shelves = shelves(alloc);
+        let shelves = shelves(alloc, store);
         build_nodes(
             &Crew { rt, threads },
             &mut nodes,
@@ -118,7 +118,6 @@ impl Tree {
                 shelves: shelves.as_slice(),
             },
         );
-        close(shelves.as_mut_slice());
         Ok(Tree {
             nodes,
             jobs,

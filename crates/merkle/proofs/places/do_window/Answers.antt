@@ -2,4 +2,4 @@ use Rattle.merkle.proofs.Placing.{moved-done}
 use Rattle.merkle.proofs.places.do_window.Goals as goal
 
 pub returns : goal.returns
-returns g c = moved-done (g.P.Places.hash c.args.places.now) c.args.jobs.now _ _ c.sort_by_bytes.ensures.places.len c.sort_by_bytes.ensures.places.places c.do_neighbours.ensures
+returns g c = moved-done (g.P.Places.hash c.args.places.now) c.args.jobs.now _ _ c.sort_by_measure.ensures.places.len c.sort_by_measure.ensures.places.places c.do_neighbours.ensures

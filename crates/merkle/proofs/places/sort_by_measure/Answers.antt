@@ -1,6 +1,6 @@
 use Rattle.std.proofs.Common.{◌∙◌}
 use Rattle.merkle.proofs.Placing.{all-kept, places-sorted}
-use Rattle.merkle.proofs.places.sort_by_bytes.Goals as goal
+use Rattle.merkle.proofs.places.sort_by_measure.Goals as goal
 
 pub returns-clause-places : goal.returns-clause-places
 returns-clause-places g c = record {
