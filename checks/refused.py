@@ -47,27 +47,27 @@ RUNS_A_LINE = 1000
 
 
 class Tried:
-    """A program with its words, whose growths are counted, and refused."""
+    """A program with its words, whose growths are counted, and refused. The notes are more code of the library."""
 
-    def __init__(self, words, folder):
+    def __init__(self, words, folder, notes=''):
         self.words = [os.path.abspath(words[0]), *words[1:]]
         self.library = os.path.join(folder, 'refusing.so')
         self.growths = os.path.join(folder, 'growths')
         source = os.path.join(folder, 'refusing.c')
         with open(source, 'w') as file:
-            file.write(LIBRARY)
+            file.write(LIBRARY + notes)
         subprocess.run(['cc', '-O2', '-shared', '-fPIC', '-o', self.library, source], check=True)
 
     def run(self, refused):
         """What the program prints and says, its status, and its growths, of which this one is refused; none where it is 0, and
         all from the Nth on where it is -N."""
         with open(self.growths, 'wb') as file:
-            file.write(bytes(8))
+            file.write(bytes(16))
         names = {'LD_PRELOAD': self.library, 'GROWTHS': self.growths, 'REFUSED': str(refused)}
         ended = subprocess.run(self.words, env={**os.environ, **names}, stdin=subprocess.DEVNULL,
                                capture_output=True, timeout=120)
         with open(self.growths, 'rb') as file:
-            return ended, int.from_bytes(file.read(), sys.byteorder)
+            return ended, int.from_bytes(file.read(8), sys.byteorder)
 
 
 def is_part(lines, whole):
