@@ -1,8 +1,6 @@
 -- Cards and rows as they are filled.
-use Rattle.std.specs.Prelude.{◌≡◌, Bool, true, false, Result, MatchResult}
+use Rattle.std.specs.Prelude.{Bool}
 use Rattle.std.specs.FinMap as map
-use Rattle.catalog.specs.declared.builder.CatalogError.{CatalogError}
-use Rattle.catalog.specs.declared.builder.CatalogError.TheVariants as catalog_error
 use Rattle.catalog.specs.declared.card.Card.TheVariants as card
 use Rattle.catalog.specs.declared.card.CardKey.TheVariants as card_key
 use Rattle.tpcc_model.specs.Database.{Database, database}
@@ -11,10 +9,6 @@ use Rattle.tpcc_rows.specs.declared.row.Row.TheVariants as row
 use Rattle.image_records.specs.Databases.{has_card, has_row}
 use Rattle.image_records.specs.declared.image_record.ImageRecord.{ImageRecord}
 use Rattle.image_records.specs.declared.image_record.ImageRecord.TheVariants as said
-use Rattle.loader.specs.declared.tables.Tables.{Tables}
-
-abbrev pub database_of : Tables → Database
-database_of tables = database tables.cards tables.rows
 
 abbrev pub no_tables : Database
 no_tables = database map.empty map.empty
@@ -54,9 +48,3 @@ with_record db (said.Order w d o r) = record db { rows = map.insert db.rows (key
 with_record db (said.NewOrder w d o) = record db { rows = map.insert db.rows (key.NewOrder w d o) row.NewOrder }
 with_record db (said.OrderLine w d o number r) = record db { rows = map.insert db.rows (key.OrderLine w d o number) (row.OrderLine r) }
 with_record db (said.History number r) = record db { rows = map.insert db.rows (key.History number) (row.History r) }
-
--- what the record says is taken in, unless its key came before; memory may be refused at any time
-abbrev pub Adds : {A : Type 0} → Database → ImageRecord → Database → Result A CatalogError → Type 0
-Adds old said new result = MatchResult result
-    (λ _. (new ≡ with_record old said) × (is_taken old said ≡ false))
-    (λ e. e ≡ catalog_error.Twice → is_taken old said ≡ true)

@@ -21,16 +21,18 @@ use tpcc_rows::memory::Memory;
 /// The most bytes of an image.
 const MOST_BYTES: usize = 4_294_967_295;
 
-/// The cards and the rows of a text.
+/// The cards and the rows of a text, which goes before the rows are joined in one list.
 #[inline(never)]
-fn read_text(alloc: Global, text: &[u8]) -> Result<(Catalog, UnpagedRows), LoadError>
-    requires { length text.now ≤ most_bytes }
-    ensures ok { IfOk result (λ db. image text.now ≡ Ok (database db.0 db.1)) }
+fn read_text(alloc: Global, text: Vec<u8>) -> Result<(Catalog, UnpagedRows), LoadError>
+    requires { length text.items ≤ most_bytes }
+    ensures ok { IfOk result (λ db. image text.items ≡ Ok (database db.0 db.1)) }
     ensures sound { IfOk result (λ db. IsSound (database db.0 db.1)) }
-    ensures err { IfErr result (λ e. StopsBy e (image text.now)) }
+    ensures err { IfErr result (λ e. StopsBy e (image text.items)) }
     ensures kinds { IfErr result IsOfText }
 {
-    let (catalog, rows) = read_tables(alloc, text)?.finish()?;
+    let tables = read_tables(alloc, &text)?;
+    drop(text);
+    let (catalog, rows) = tables.finish()?;
     rows.check(alloc, &catalog)?;
     Ok((catalog, rows))
 }
@@ -59,7 +61,7 @@ pub fn read_image<S: Source>(
         Err(ReadError::InputTooLong) => return Err(LoadError::InputTooLong),
         Err(_) => return Err(LoadError::Memory),
     };
-    read_text(alloc, &text)
+    read_text(alloc, text)
 }
 
 /// The database of the bytes that a source has left, of at most 4,294,967,295 bytes. The first record at fault is

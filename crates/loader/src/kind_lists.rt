@@ -82,6 +82,15 @@ fn has(rows: &[(RowKey, Row)], key: &RowKey) -> bool
     place_of(rows, key).is_ok()
 }
 
+/// How many rows the lists have.
+fn count(lists: &[Vec<(RowKey, Row)>]) -> usize {
+    let mut count = 0usize;
+    for list in lists {
+        count = count.saturating_add(list.len());
+    }
+    count
+}
+
 impl KindLists {
     /// No rows, and a list for each kind.
     pub(crate) fn new(alloc: Global) -> Result<KindLists, Memory>
@@ -122,7 +131,7 @@ impl KindLists {
     pub(crate) fn into_rows(self, alloc: Global) -> Result<SortedRows, Memory>
         ensures { IfOk result (λ rows. rows ≡ self) }
     {
-        let mut rows = Vec::new(alloc);
+        let mut rows = Vec::with_capacity(alloc, count(&self.lists))?;
         for mut list in self.lists {
             rows.append(&mut list)?;
         }

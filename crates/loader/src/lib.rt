@@ -8,12 +8,12 @@ pub mod gathered_tables;
 mod image;
 mod kind_lists;
 pub mod laws;
+pub mod mapped_rows;
 mod reading;
 mod sorted_rows;
-pub mod tables;
 pub mod unpaged;
 
 pub use gathered_tables::GatheredTables;
 pub use image::{load, read_image};
-pub use tables::{Tables, on_pages};
+pub use mapped_rows::on_pages;
 pub use unpaged::UnpagedRows;

@@ -34,20 +34,6 @@ impl Model for SortedRows {
     ghost invariant = { λ s. AreSorted s.rows.items };
 }
 
-/// Rows in the order of their keys, on the pages of their leaves, of which none has changed, without a point.
-fn sorted_on_pages(alloc: Global, rows: Vec<(RowKey, Row)>) -> Result<PointedStore, Memory>
-    requires { AreSorted rows.items }
-    ensures rows { IfOk result (λ store. store.rows ≡ rows_in rows.items) }
-    ensures points { IfOk result (λ store. store.points ≡ []) }
-    ensures clean { IfOk result (λ store. AreClean store.dirty) }
-{
-    let mut store = pages::RowStore::new(alloc)?;
-    for (key, row) in rows {
-        store.put(key, row)?;
-    }
-    Ok(PointedStore::new(alloc, store))
-}
-
 impl SortedRows {
     pub(crate) fn of(rows: Vec<(RowKey, Row)>) -> SortedRows
         requires { AreSorted rows.items }
@@ -76,6 +62,7 @@ impl SortedRows {
         ensures points { IfOk result (λ store. store.points ≡ []) }
         ensures clean { IfOk result (λ store. AreClean store.dirty) }
     {
-        sorted_on_pages(alloc, self.rows)
+        let store = pages::RowStore::from_rows(alloc, self.rows)?;
+        Ok(PointedStore::new(alloc, store))
     }
 }

@@ -7,8 +7,8 @@ ghost use Rattle.rollback.specs.Marks.{AreClean};
 ghost use Rattle.tpcc_model.specs.Database.{database};
 
 use crate::gathered::Gathered;
+use crate::mapped_rows::on_pages;
 use crate::sorted_rows::SortedRows;
-use crate::tables::on_pages;
 use catalog::Catalog;
 use image_checks::{check, check_sorted};
 use image_records::fault::LoadError;

@@ -4,8 +4,8 @@ use Rattle.loader.proofs.FaultKinds.{stops-of_records}
 use Rattle.loader.proofs.ImageLaws.{image-sound}
 use Rattle.loader.proofs.image.read_text.Goals as goal
 
-pub returns-in_err-read_tables-clause-kinds : goal.returns-in_err-read_tables-clause-kinds
-returns-in_err-read_tables-clause-kinds c = let p = err_from_is_err_and c.from_residual.result c.from_residual.ensures.1 in rw (p.1, p.2) (stops-of_records c.in_err-read_tables.field-0.0 c.args.text.now (c.in_err-read_tables.ensures.err))
+pub returns-in_err-tables-clause-kinds : goal.returns-in_err-tables-clause-kinds
+returns-in_err-tables-clause-kinds c = let p = err_from_is_err_and c.from_residual.result c.from_residual.ensures.1 in rw (p.1, p.2) (stops-of_records c.in_err-tables.field-0.0 c.deref.result.now (c.in_err-tables.ensures.err))
 
 pub returns-clause-sound : goal.returns-clause-sound
-returns-clause-sound c = image-sound c.args.text.now _ (search rules)
+returns-clause-sound c = image-sound c.args.text.items _ (search rules)
