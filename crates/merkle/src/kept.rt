@@ -188,7 +188,7 @@ fn room_for(page: &LeafRows) -> usize {
 }
 
 /// A shelf with room for the text of a page. There is none where there is to be no room, or no memory for it.
-fn shelf_for(alloc: Global, page: &LeafRows, blank: &Chunk) -> Option<Mutex<Kept>> {
+fn shelf_for(alloc: Global, page: &LeafRows, blank: &Chunk) -> Option<Box<Mutex<Kept>>> {
     let room = room_for(page);
     if room == 0 {
         return None;
@@ -196,14 +196,15 @@ fn shelf_for(alloc: Global, page: &LeafRows, blank: &Chunk) -> Option<Mutex<Kept
     let Ok(chunks) = vec![in alloc; *blank; room] else {
         return None;
     };
-    Some(Mutex::new(Kept {
+    let kept = Kept {
         chunks: chunks.into_boxed_slice(),
         looks: [0; PARTS],
-    }))
+    };
+    Box::new(alloc, Mutex::new(kept)).ok()
 }
 
 /// The shelves of all leaves, with nothing on them so far. Later nothing there takes memory.
-pub(crate) fn shelves(alloc: Global, store: &PointedStore) -> Vec<Option<Mutex<Kept>>> {
+pub(crate) fn shelves(alloc: Global, store: &PointedStore) -> Vec<Option<Box<Mutex<Kept>>>> {
     let Ok(mut shelves) = Vec::with_capacity(alloc, LEAVES) else {
         return Vec::new(alloc);
     };

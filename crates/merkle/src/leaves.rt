@@ -24,7 +24,7 @@ const ROWS_AT_ONCE: usize = 4096;
 #[derive(Clone, Copy)]
 pub(crate) struct Leaves<'a> {
     pub(crate) store: &'a PointedStore,
-    pub(crate) shelves: &'a [Option<Mutex<Kept>>],
+    pub(crate) shelves: &'a [Option<Box<Mutex<Kept>>>],
 }
 
 impl<'a> Leaves<'a> {

@@ -72,7 +72,7 @@ pub struct Tree {
     jobs: Vec<Job>,
     helped: Helped,
     // What is kept of the text of each leaf, where it has a shelf. No shelf grows.
-    shelves: Vec<Option<Mutex<Kept>>>,
+    shelves: Vec<Option<Box<Mutex<Kept>>>>,
 }
 
 impl Model for Tree {
