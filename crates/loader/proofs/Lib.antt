@@ -5,3 +5,4 @@ pub mod RecordLimits
 pub mod ImageLaws
 pub mod Sound
 pub mod KindLists
+pub mod Listing

@@ -10,7 +10,7 @@ use Rattle.loader.specs.declared.unpaged.Unpaged.TheVariants as way
 -- the rows so far
 abbrev pub gathered : Gathered → Rows
 gathered (variant.InOrder lists) = lists
-gathered (variant.AnyOrder store) = store
+gathered (variant.AnyOrder rows) = rows
 
 abbrev pub gathered_database : GatheredTables → Database
 gathered_database tables = database tables.cards (gathered tables.rows)

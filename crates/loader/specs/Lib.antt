@@ -3,3 +3,4 @@ pub mod Image
 pub mod Kinds
 pub mod Gathered
 pub mod Additions
+pub mod AnyOrder

@@ -4,12 +4,12 @@ ghost use Rattle.std.specs.FinMap as map;
 ghost use Rattle.loader.specs.Gathered.{gathered};
 ghost use Rattle.tpcc_rows.specs.RowKinds.{fits};
 
+use crate::any_order::AnyOrderRows;
 use crate::kind_lists::KindLists;
 use std::alloc::Global;
 use std::mem;
 use tpcc_rows::key::RowKey;
 use tpcc_rows::memory::Memory;
-use tpcc_rows::plain::RowStore;
 use tpcc_rows::row::Row;
 
 /// The rows that have come.
@@ -17,7 +17,7 @@ use tpcc_rows::row::Row;
 pub(crate) enum Gathered {
     /// Those of each kind came in the order of their keys.
     InOrder(KindLists),
-    AnyOrder(RowStore),
+    AnyOrder(AnyOrderRows),
 }
 
 impl Gathered {
@@ -28,13 +28,16 @@ impl Gathered {
         Ok(Gathered::InOrder(KindLists::new(alloc)?))
     }
 
-    /// The rows in a map.
-    fn into_store(self, alloc: Global) -> Result<RowStore, Memory>
-        ensures { IfOk result (λ store. store ≡ gathered self) }
+    /// The rows, to which any others may come.
+    fn into_any_order(self, alloc: Global) -> Result<AnyOrderRows, Memory>
+        ensures { IfOk result (λ rows. rows ≡ gathered self) }
     {
         match self {
-            Gathered::InOrder(lists) => lists.into_rows(alloc)?.into_store(alloc),
-            Gathered::AnyOrder(store) => Ok(store),
+            Gathered::InOrder(lists) => AnyOrderRows::of(
+                alloc,
+                lists.into_rows(alloc)?.into_list(),
+            ),
+            Gathered::AnyOrder(rows) => Ok(rows),
         }
     }
 
@@ -58,23 +61,23 @@ impl Gathered {
     {
         match self {
             Gathered::InOrder(lists) => lists.has(key),
-            Gathered::AnyOrder(store) => store.get(key).is_some(),
+            Gathered::AnyOrder(rows) => rows.has(key),
         }
     }
 
-    /// Takes a row that comes late, in place of the one that its key has. From now on all are in a map. Where memory is refused for
-    /// that, the others are lost.
+    /// Takes a row that comes late, in place of the one that its key has. From now on all may come in any order. Where memory is refused
+    /// for that, the others are lost.
     pub(crate) fn insert(&mut self, alloc: Global, key: RowKey, row: Row) -> Result<(), Memory>
         requires { fits key row ≡ true }
         ensures { OnOk result (gathered self.new ≡ map.insert (gathered self.old) key row) }
     {
-        if let Gathered::AnyOrder(store) = self {
-            return store.put(key, row);
+        if let Gathered::AnyOrder(rows) = self {
+            return rows.put(&key, row);
         }
-        let rows = mem::replace(self, Gathered::AnyOrder(RowStore::new(alloc)));
-        let mut store = rows.into_store(alloc)?;
-        store.put(key, row)?;
-        *self = Gathered::AnyOrder(store);
+        let gathered = mem::replace(self, Gathered::AnyOrder(AnyOrderRows::new(alloc)));
+        let mut rows = gathered.into_any_order(alloc)?;
+        rows.put(&key, row)?;
+        *self = Gathered::AnyOrder(rows);
         Ok(())
     }
 }

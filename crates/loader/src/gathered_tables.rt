@@ -21,7 +21,7 @@ use tpcc_rows::memory::Memory;
 use tpcc_rows::row::Row;
 
 /// The cards and the rows of the records so far. Rows that come in the order of their keys within each kind, as those of
-/// an image do, are kept in lists; from the first late one on, all are in a map.
+/// a stored image do, are kept in a list for each kind; from the first late one on, all are in one list, beside a set of their keys.
 #[derive(Drop)]
 pub struct GatheredTables {
     cards: CatalogBuilder,

@@ -1,4 +1,4 @@
-//! Rows that come in the order of their keys within each kind, as those of an image do.
+//! Rows that come in the order of their keys within each kind, as those of a stored image do.
 ghost use Rattle.std.specs.Prelude.{◌≡◌, ◌<◌, Err, None, Ok, IfOk, IsTrue, OnErr, Some, is_some, length, true};
 ghost use Rattle.std.specs.FinMap as map;
 ghost use Rattle.image_checks.specs.Sorted.{rows_in};

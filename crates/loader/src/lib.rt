@@ -3,6 +3,7 @@
 #![tactic(auto)]
 
 mod addition;
+mod any_order;
 mod gathered;
 pub mod gathered_tables;
 mod image;

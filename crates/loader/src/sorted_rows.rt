@@ -1,9 +1,13 @@
 //! Rows that stand in the order of their keys.
 ghost use Rattle.std.specs.Prelude.{◌≡◌, [], IfOk, true};
+ghost use Rattle.std.specs.FinMap as map;
+ghost use Rattle.std.specs.List.{list_all};
 ghost use Rattle.image_checks.specs.Sorted.{rows_in};
 ghost use Rattle.loader.specs.Kinds.{AreSorted};
 ghost use Rattle.rollback.specs.Marks.{AreClean};
+ghost use Rattle.tpcc_rows.specs.Changing.{with_each};
 ghost use Rattle.tpcc_rows.specs.Places.{are_in_order};
+ghost use Rattle.tpcc_rows.specs.RowKinds.{fits};
 ghost use Rattle.tpcc_rows.specs.RowMap.{row_key_cmp};
 
 use rollback::PointedStore;
@@ -11,7 +15,6 @@ use std::alloc::Global;
 use std::marker::Model;
 use tpcc_rows::key::RowKey;
 use tpcc_rows::memory::Memory;
-use tpcc_rows::plain::RowStore;
 use tpcc_rows::row::Row;
 
 /// A finite map from keys to rows, each row of its key's kind: a list in the order of the keys.
@@ -49,11 +52,12 @@ impl SortedRows {
         self.rows.as_slice()
     }
 
-    /// The rows in a map.
-    pub(crate) fn into_store(self, alloc: Global) -> Result<RowStore, Memory>
-        ensures { IfOk result (λ store. store ≡ self) }
+    /// The rows in a list.
+    pub(crate) fn into_list(self) -> Vec<(RowKey, Row)>
+        ensures all { with_each result.items map.empty ≡ self }
+        ensures kinds { list_all (λ row. fits row.0 row.1) result.items ≡ true }
     {
-        RowStore::from_rows(alloc, self.rows)
+        self.rows
     }
 
     /// The rows on the pages of their leaves, of which none has changed, without a point.

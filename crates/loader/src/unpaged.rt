@@ -48,7 +48,7 @@ impl UnpagedRows {
     {
         let rows = match rows {
             Gathered::InOrder(lists) => Unpaged::Sorted(lists.into_rows(alloc)?),
-            Gathered::AnyOrder(store) => Unpaged::Mapped(store),
+            Gathered::AnyOrder(rows) => Unpaged::Mapped(rows.into_store(alloc)?),
         };
         Ok(UnpagedRows { rows })
     }
