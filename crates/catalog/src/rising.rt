@@ -1,4 +1,4 @@
-//! Cards that come in the order of their keys, as those of an image do.
+//! Cards that come in the order of their keys, as those of a stored image do.
 ghost use Rattle.std.specs.Prelude.{◌≡◌, [], None, Ok, OnErr, Some, IfOk, IsTrue, is_some, true};
 ghost use Rattle.std.specs.FinMap as map;
 ghost use Rattle.catalog.specs.CardMap.{IsBefore, IsBehind, card_key_cmp, cards_in};

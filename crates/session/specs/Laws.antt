@@ -7,8 +7,8 @@ use Rattle.requests.specs.declared.request.Batch.{Batch}
 use Rattle.session.specs.Answers.{AnswersAll}
 use Rattle.tpcc_model.specs.Database.{Database}
 
--- whatever commands were answered: each state to which the line can go back, and the present one, is that which one thread leaves
--- after some batches, those that are kept
+-- whatever commands were answered: there are batches of which each state to which the line can go back, and the present one, is that
+-- which one thread leaves after as many as its number says
 abbrev pub SessionsAreSerial : Type 0
 SessionsAreSerial = (db : Database) (commands : List Command) (line : Line) (text : List ℕ)
     → AnswersAll commands (opening_line db.cards db.rows) line text → (kept : List Batch) × IsSerialLine db kept line

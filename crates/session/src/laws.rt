@@ -3,8 +3,8 @@ ghost use Rattle.session.specs.Laws.{SessionsAreSerial};
 
 use executor::laws::line;
 
-/// Whatever commands were answered: each state of the line is the one that one thread leaves after the batches that are kept up to
-/// it.
+/// Whatever commands were answered: there are batches of which each state of the line is the one that one thread leaves after as many
+/// as its number says.
 pub fn serial()
     ensures { SessionsAreSerial }
 {
