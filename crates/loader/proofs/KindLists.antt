@@ -281,6 +281,12 @@ module _ (lists : List Entries) (are : AreKindLists lists) (i : ℕ) (old new : 
   pub fresh-push : get (rows_in (all_kinds lists)) k ≡ None
   fresh-push = get-from_sorted row_key_cmp (all_kinds lists) k order ∙ find-kinds k x old new h.behind h.push 0 i lists are.by_kind from-zero h.small h.here
 
+-- ---- one row more behind all others
+pub order-push : (old : Entries) (k : RowKey) (x : Row) → are_in_order row_key_cmp old ≡ true → IsPlaceOf row_key_cmp k old (Err (length old)) → are_in_order row_key_cmp (old ++ (k, x) ∷ []) ≡ true
+order-push old k x order place =
+    ap (are_in_order row_key_cmp) (sym (ap (put row_key_cmp k x) (sym (append-nil old)) ∙ put-behind k x old [] (behind-placed k old place.1)))
+    ∙ in-order _ (is_sorted-put row_key_cmp row_key_cmp_total k x old (subst T (sym order) tt))
+
 -- ---- rows in order, put one after the other
 pub with_each-sorted : (es : Entries) → are_in_order row_key_cmp es ≡ true → with_each es empty ≡ rows_in es
 with_each-sorted es order = ap (λ (xs : Entries). with_each xs empty) (sym (entries-map_of row_key_cmp es order)) ∙ with_each-entries (rows_in es)

@@ -6,3 +6,4 @@ pub mod ImageLaws
 pub mod Sound
 pub mod KindLists
 pub mod Listing
+pub mod Sorting

@@ -2,6 +2,7 @@
 ghost use Rattle.std.specs.Prelude.{◌≡◌, ◌<◌, ◌++◌, ◌∷◌, [], IfOk, OnOk, is_some, length, true};
 ghost use Rattle.std.specs.FinMap as map;
 ghost use Rattle.std.specs.List.{list_all};
+ghost use Rattle.loader.specs.AnyOrder.{listed};
 ghost use Rattle.tpcc_rows.specs.Changing.{with_each};
 ghost use Rattle.tpcc_rows.specs.RowKinds.{fits};
 
@@ -10,11 +11,10 @@ use std::collections::BTreeSet;
 use std::marker::Model;
 use tpcc_rows::key::RowKey;
 use tpcc_rows::memory::Memory;
-use tpcc_rows::plain::RowStore;
 use tpcc_rows::row::Row;
 
-/// A finite map from keys to rows, each row of its key's kind: a list, in which the last row of a key counts, and the set of the keys. A
-/// map to rows that come between others would have room for twice as many.
+/// A finite map from keys to rows, each row of its key's kind: a list, in which the last row of a key counts, and the set of the keys. In
+/// a map to the rows themselves, those that come between others would leave its nodes half empty.
 #[derive(Drop)]
 pub(crate) struct AnyOrderRows {
     rows: Vec<(RowKey, Row)>,
@@ -40,6 +40,16 @@ fn push(rows: &mut Vec<(RowKey, Row)>, row: (RowKey, Row))
     ensures { rows.new.items ≡ rows.old.items ++ row ∷ [] }
 {
     rows.push(row).unwrap();
+}
+
+/// Puts rows in the order of their keys. Those of a key stay in their order.
+fn sort(rows: &mut Vec<(RowKey, Row)>) -> Result<(), Memory>
+    requires { list_all (λ row. fits row.0 row.1) rows.old.items ≡ true }
+    ensures all { OnOk result (listed rows.new.items ≡ listed rows.old.items) }
+    ensures kinds { list_all (λ row. fits row.0 row.1) rows.new.items ≡ true }
+{
+    rows.sort_by_key(|row: &(RowKey, Row)| -> RowKey { row.0 })?;
+    Ok(())
 }
 
 impl AnyOrderRows {
@@ -83,12 +93,14 @@ impl AnyOrderRows {
         Ok(())
     }
 
-    /// The rows in a map.
-    pub(crate) fn into_store(self, alloc: Global) -> Result<RowStore, Memory>
-        ensures { IfOk result (λ store. store ≡ self) }
+    /// The rows in a list, put in the order of their keys.
+    pub(crate) fn into_list(self) -> Result<Vec<(RowKey, Row)>, Memory>
+        ensures all { IfOk result (λ rows. listed rows.items ≡ self) }
+        ensures kinds { IfOk result (λ rows. list_all (λ row. fits row.0 row.1) rows.items ≡ true) }
     {
-        let AnyOrderRows { rows, keys } = self;
+        let AnyOrderRows { mut rows, keys } = self;
         drop(keys);
-        RowStore::from_rows(alloc, rows)
+        sort(&mut rows)?;
+        Ok(rows)
     }
 }

@@ -66,6 +66,18 @@ fn is_behind(rows: &[(RowKey, Row)], key: &RowKey) -> bool
     }
 }
 
+/// Whether the keys rise from row to row.
+pub(crate) fn is_in_order(rows: &[(RowKey, Row)]) -> bool
+    ensures { IsTrue result → are_in_order row_key_cmp rows.now ≡ true }
+{
+    for place in 0..rows.len() {
+        if !is_behind(&rows[..place], &rows[place].0) {
+            return false;
+        }
+    }
+    true
+}
+
 /// Where the key's row is, or where one would stand.
 fn place_of(rows: &[(RowKey, Row)], key: &RowKey) -> Result<usize, usize>
     requires { are_in_order row_key_cmp rows.now ≡ true }

@@ -1,12 +1,17 @@
 //! Rows that are still to be put on the pages of their leaves.
-ghost use Rattle.std.specs.Prelude.{◌≡◌, [], IfErr, IfOk, Ok, OnOk};
+ghost use Rattle.std.specs.Prelude.{◌≡◌, [], IfErr, IfOk, Ok, OnOk, true};
+ghost use Rattle.std.specs.FinMap as map;
+ghost use Rattle.std.specs.List.{list_all};
 ghost use Rattle.image_checks.specs.Checks.{checked};
 ghost use Rattle.image_records.specs.Faults.{IsOfText, StopsBy};
-ghost use Rattle.loader.specs.Gathered.{gathered};
+ghost use Rattle.loader.specs.Gathered.{gathered, unpaged};
 ghost use Rattle.rollback.specs.Marks.{AreClean};
 ghost use Rattle.tpcc_model.specs.Database.{database};
+ghost use Rattle.tpcc_rows.specs.Changing.{with_each};
+ghost use Rattle.tpcc_rows.specs.RowKinds.{fits};
 
 use crate::gathered::Gathered;
+use crate::kind_lists::is_in_order;
 use crate::mapped_rows::on_pages;
 use crate::sorted_rows::SortedRows;
 use catalog::Catalog;
@@ -15,8 +20,10 @@ use image_records::fault::LoadError;
 use rollback::PointedStore;
 use std::alloc::Global;
 use std::marker::Model;
+use tpcc_rows::key::RowKey;
 use tpcc_rows::memory::Memory;
 use tpcc_rows::plain::RowStore;
+use tpcc_rows::row::Row;
 
 /// Rows in the order of their keys, or in a map.
 #[derive(Drop)]
@@ -42,13 +49,25 @@ impl Model for UnpagedRows {
     ghost view = { λ s. unpaged s.rows };
 }
 
+/// The rows of a list that was put in the order of their keys. Where a key has two of them, which no image brings, they go to a map.
+fn of_list(alloc: Global, rows: Vec<(RowKey, Row)>) -> Result<Unpaged, Memory>
+    requires { list_all (λ row. fits row.0 row.1) rows.items ≡ true }
+    ensures { IfOk result (λ unpaged_rows. unpaged unpaged_rows ≡ with_each rows.items map.empty) }
+{
+    if is_in_order(&rows) {
+        Ok(Unpaged::Sorted(SortedRows::of(rows)))
+    } else {
+        Ok(Unpaged::Mapped(RowStore::from_rows(alloc, rows)?))
+    }
+}
+
 impl UnpagedRows {
     pub(crate) fn of(alloc: Global, rows: Gathered) -> Result<UnpagedRows, Memory>
         ensures { IfOk result (λ unpaged. unpaged ≡ gathered rows) }
     {
         let rows = match rows {
             Gathered::InOrder(lists) => Unpaged::Sorted(lists.into_rows(alloc)?),
-            Gathered::AnyOrder(rows) => Unpaged::Mapped(rows.into_store(alloc)?),
+            Gathered::AnyOrder(rows) => of_list(alloc, rows.into_list()?)?,
         };
         Ok(UnpagedRows { rows })
     }
