@@ -2,9 +2,12 @@
 ghost use Rattle.std.specs.Prelude.{◌≡◌, ◌+◌, ◌<◌, ◌≤◌, ◌^◌, [], IfErr, IfOk, IfSome, if◌then◌else◌};
 ghost use Rattle.executor.specs.Lines.{opening_line};
 ghost use Rattle.executor.specs.States.{IsSoundState};
+ghost use Rattle.executor.specs.declared.refusal.Refusal.TheVariants as refusal;
+ghost use Rattle.image_records.specs.declared.fault.LoadError.TheVariants as load_error;
 ghost use Rattle.merkle.specs.Nodes.{IsOf};
 ghost use Rattle.runner.specs.Openings.{IsOfOpening, IsOpened, IsRefused, IsUnopened};
 ghost use Rattle.runner.specs.WholeRuns.{is_image_read};
+ghost use Rattle.runner.specs.declared.fault.RunFault.TheVariants as run_fault;
 ghost use Rattle.tpcc_model.specs.Database.{database};
 ghost use Rattle.tpcc_model.specs.Soundness.{IsSound};
 
@@ -20,6 +23,18 @@ use rollback::PointedStore;
 use std::alloc::Global;
 use std::thread::Threads;
 
+/// The rows on their pages.
+fn paged(alloc: Global, rows: UnpagedRows) -> Result<PointedStore, RunFault>
+    ensures rows { IfOk result (λ store. store.rows ≡ rows) }
+    ensures points { IfOk result (λ store. store.points ≡ []) }
+    ensures err { IfErr result (λ e. e ≡ run_fault.Load load_error.Memory) }
+{
+    match rows.on_pages(alloc) {
+        Ok(store) => Ok(store),
+        Err(_) => Err(RunFault::Load(LoadError::Memory)),
+    }
+}
+
 /// The parts of an executor in a box: a frame that passes them on by value has room for them several times, 15 KB each.
 #[inline(never)]
 fn boxed(
@@ -28,12 +43,29 @@ fn boxed(
     tree: Tree,
 ) -> Result<Box<(PointedStore, Tree)>, RunFault>
     ensures ok { IfOk result (λ built. built.value ≡ (store, tree)) }
-    ensures err { IfErr result IsRefused }
+    ensures err { IfErr result (λ e. e ≡ run_fault.Exec refusal.Memory) }
 {
     match Box::new(alloc, (store, tree)) {
         Ok(built) => Ok(built),
         Err(_) => Err(RunFault::Exec(Refusal::Memory)),
     }
+}
+
+/// Rows on their pages, and their tree.
+#[inline(never)]
+fn with_tree<R: Threads + Sync>(
+    rt: &R,
+    alloc: Global,
+    store: PointedStore,
+) -> Result<Box<(PointedStore, Tree)>, RunFault>
+    ensures store { IfOk result (λ built. built.value.0 ≡ store) }
+    ensures tree { IfOk result (λ built. IsOf built.value.1 store.rows) }
+    ensures err { IfErr result (λ e. e ≡ run_fault.Exec refusal.Memory) }
+{
+    let Ok(tree) = Tree::build(rt, alloc, &store) else {
+        return Err(RunFault::Exec(Refusal::Memory));
+    };
+    boxed(alloc, store, tree)
 }
 
 /// The rows on their pages, and their tree.
@@ -48,13 +80,10 @@ fn build<R: Threads + Sync>(
     ensures tree { IfOk result (λ built. IsOf built.value.1 built.value.0.rows) }
     ensures err { IfErr result IsRefused }
 {
-    let Ok(store) = rows.on_pages(alloc) else {
-        return Err(RunFault::Load(LoadError::Memory));
-    };
-    let Ok(tree) = Tree::build(rt, alloc, &store) else {
-        return Err(RunFault::Exec(Refusal::Memory));
-    };
-    boxed(alloc, store, tree)
+    match paged(alloc, rows) {
+        Ok(store) => with_tree(rt, alloc, store),
+        Err(fault) => Err(fault),
+    }
 }
 
 /// The executor of a database that was read. Many cards are hashed while the rows go to their pages and their tree is built.
