@@ -57,7 +57,7 @@ fn threads_of(workers: &Option<Workers>) -> usize {
     }
 }
 
-/// How a batch was executed whose verdict asks for no rerun.
+/// The path of a batch whose verdict asks for no rerun.
 fn path_of(strayed: bool) -> Path
     ensures { result ≡ path_by verdict.Commit strayed }
 {
@@ -65,8 +65,8 @@ fn path_of(strayed: bool) -> Path
 }
 
 impl Engine {
-    /// The replies to a batch on the rows of the newest point, and how it was executed: by N workers, where there are any,
-    /// unless a request strays or the verdict asks for a rerun; else one request after the other.
+    /// The replies to a batch on the rows of the newest point, and its path. N workers execute it, where there are any, and it is
+    /// executed once more, one request after the other, where a request strays in a level or the verdict asks for a rerun.
     fn replies_of<R: Threads + Sync, G: Gate>(
         &mut self,
         rt: &R,

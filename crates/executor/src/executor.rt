@@ -227,9 +227,9 @@ impl Executor {
         Ok(record)
     }
 
-    /// Executes a batch on N workers. Its requests run level by level, cut by what they declare; where one strays, or
-    /// where the verdict asks for it, the rows go back and the requests run once more, one after the other. The gate is told
-    /// of each execution.
+    /// Executes a batch on N workers: level by level, cut by what its requests declare, where threads pay or the gate is to be
+    /// told, and else in its order. Where a request strays in a level, or the verdict asks for it, the rows go back and the requests
+    /// run once more, one after the other. The gate is told of each execution.
     pub fn execute<R: Threads + Sync, G: Gate>(
         &mut self,
         rt: &R,

@@ -1,6 +1,6 @@
-//! The execution of batches. A batch is cut into levels by what its requests declare, and run level by level; where no
-//! request strays, this gives what its requests do one after the other. Where one strays, the rows go back to what they were
-//! before the batch, and its requests run once more, one after the other.
+//! The execution of batches. Where threads pay, or a gate is to be told, a batch is cut into levels by what its requests declare,
+//! and run level by level; where a request strays, the rows go back to what they were before the batch, and its requests run once
+//! more, one after the other. Any other batch runs in its order from the first. Each way gives what one thread gives.
 #![tactic(auto)]
 
 mod batch;

@@ -48,8 +48,8 @@ const FEWEST_CARDS: usize = 8_192;
 
 /// Whether the digest of a catalog is worth a thread of its own.
 fn pays<R: Threads + Sync>(rt: &R, catalog: &Catalog) -> bool {
-    let processors = thread::available_parallelism(rt).map_or(1, NonZeroUsize::get);
-    processors > 1 && catalog.len() >= FEWEST_CARDS
+    catalog.len() >= FEWEST_CARDS
+        && thread::available_parallelism(rt).map_or(1, NonZeroUsize::get) > 1
 }
 
 /// The digest of a catalog, and then what else is to be made.

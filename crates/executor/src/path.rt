@@ -1,15 +1,14 @@
-//! How a batch was executed.
+//! The path of a batch: what its levels do.
 
-/// How a batch was executed.
+/// What the levels of a batch do, whether it was executed level by level or in its order.
 #[derive(Clone, Copy, Debug, PartialEq, Eq)]
 pub enum Path {
-    /// Level by level, or in its order: no request strayed.
+    /// No request strays.
     Parallel,
-    /// Level by level until a request strayed, and then once more, one request after the other; or in its order, in which one
-    /// strayed.
+    /// A request strays.
     Reran,
-    /// Once more, one request after the other, since the verdict asked for it.
+    /// The verdict asks for a rerun, whether a request strays or not.
     Verdict,
-    /// One request after the other from the first.
+    /// The batch has no levels: it was to be executed one request after the other.
     Sequential,
 }

@@ -3,7 +3,7 @@ use crate::path::Path;
 use requests::reply::Reply;
 
 /// What a batch did: its number, the number of its first request, the replies in the order of its requests, its token, and
-/// how it was executed.
+/// its path.
 #[derive(Drop)]
 pub struct Record {
     pub sequence: u64,
