@@ -1,0 +1,109 @@
+#!/usr/bin/env python3
+"""sessions.py PROGRAM: runs the sessions that README.md and docs/ show, and compares what they print line by line.
+
+PROGRAM is the built eve-tpcc. A session is a block indented by four spaces that begins with `$ `; each such line is a command, and the
+lines up to the next one are what it prints. The sessions of a document share a folder, in which `examples` and `crates` are the
+repository's, `requests.csv` is that of the examples, and `eve-tpcc` is the program. `cat` of a file that isn't there makes it of the lines
+shown. Then each `old:` line of every wrong body must stand once in its file, as the prover's tool asks of it. A line tells what failed; the
+last one is `N passed, M failed`. Ends with status 1 where anything failed."""
+import glob
+import os
+import re
+import shutil
+import subprocess
+import sys
+import tempfile
+
+TOP = os.path.dirname(os.path.dirname(os.path.abspath(__file__)))
+INDENT = '    '
+SECONDS = 60
+
+
+def blocks(path):
+    """The indented blocks of a document that are sessions."""
+    block = []
+    with open(path, encoding='utf-8') as file:
+        for line in [*file.read().split('\n'), '']:
+            if line.startswith(INDENT):
+                block.append(line[len(INDENT):])
+                continue
+            if block and block[0].startswith('$ '):
+                yield block
+            block = []
+
+
+def commands(block):
+    """Each command of a session, and the lines that it prints."""
+    for line in block:
+        if line.startswith('$ '):
+            command, printed = line[2:], []
+            yield command, printed
+        else:
+            printed.append(line)
+
+
+def make_room(folder, program):
+    """Lays out the folder of a document's sessions."""
+    os.mkdir(os.path.join(folder, 'bin'))
+    os.symlink(program, os.path.join(folder, 'bin', 'eve-tpcc'))
+    for name in ('examples', 'crates'):
+        os.symlink(os.path.join(TOP, name), os.path.join(folder, name))
+    shutil.copy(os.path.join(TOP, 'examples', 'requests.csv'), folder)
+
+
+def printed_by(command, wanted, folder):
+    """The lines that a command prints."""
+    shown = re.fullmatch(r'cat (\S+)', command)
+    if shown and not os.path.exists(os.path.join(folder, shown[1])):
+        with open(os.path.join(folder, shown[1]), 'w', encoding='utf-8') as file:
+            file.write(''.join(line + '\n' for line in wanted))
+    names = {**os.environ, 'PATH': os.path.join(folder, 'bin') + os.pathsep + os.environ['PATH']}
+    ended = subprocess.run(['bash', '-c', command], cwd=folder, env=names, stdin=subprocess.DEVNULL, stdout=subprocess.PIPE,
+                           stderr=subprocess.STDOUT, timeout=SECONDS, check=False)
+    return ended.stdout.decode('utf-8', 'replace').splitlines()
+
+
+def sessions(document, program):
+    """Runs the sessions of a document; for each command, what is wrong with it, or nothing."""
+    with tempfile.TemporaryDirectory() as folder:
+        make_room(folder, program)
+        for block in blocks(document):
+            listed = [(command, list(printed)) for command, printed in [*commands(block)]]
+            for command, wanted in listed:
+                got = printed_by(command, wanted, folder)
+                yield None if got == wanted else f'{os.path.relpath(document, TOP)}: $ {command}\n  wanted {wanted}\n  got    {got}'
+
+
+def wrong_bodies():
+    """For each wrong body, what is wrong with its `old:` lines, or nothing."""
+    for edit in sorted(glob.glob(f'{TOP}/crates/*/must-fail/*.edit') + glob.glob(f'{TOP}/checks/wrong_bodies/*/*.edit')):
+        crate = edit.split(os.sep)[-3] if '/must-fail/' in edit else edit.split(os.sep)[-2]
+        with open(edit, encoding='utf-8') as file:
+            lines = file.read().split('\n')
+        text, fault = '', None
+        for line in lines:
+            if line.startswith('file: '):
+                with open(os.path.join(TOP, 'crates', crate, line[6:].strip()), encoding='utf-8') as file:
+                    text = file.read()
+            elif line.startswith('old: '):
+                old = line[5:]
+                if text.count(old) != 1:
+                    fault = f'{os.path.relpath(edit, TOP)}: stands {text.count(old)} times: {old}'
+            elif line.startswith('new: '):
+                text = text.replace(old, line[5:], 1)
+        yield fault
+
+
+def main(program):
+    documents = [os.path.join(TOP, 'README.md'), *sorted(glob.glob(f'{TOP}/docs/*.md'))]
+    told = [fault for document in documents for fault in sessions(document, os.path.abspath(program))]
+    told += wrong_bodies()
+    faults = [fault for fault in told if fault]
+    for fault in faults:
+        print(fault)
+    print(f'{len(told) - len(faults)} passed, {len(faults)} failed')
+    return 1 if faults else 0
+
+
+if __name__ == '__main__':
+    sys.exit(main(sys.argv[1]))

@@ -1,0 +1,98 @@
+#!/usr/bin/env python3
+"""workload.py W C I --batches N --size S --seed K [--mix N,P,O,D,S] [--remote PERCENT]
+
+Writes batches of requests in TPC-C's mix, for the image of `eve-tpcc make W C I`: W warehouses, C customers in each district, I items.
+Customers and items are drawn by NURand (TPC-C clause 2.1.6), six payments of ten and six order statuses of ten name the customer by last
+name, and one new order in a hundred ends with an item that isn't there (clause 2.4.1.4). --mix has the weights of New-Order, Payment,
+Order-Status, Delivery and Stock-Level, 45,43,4,4,4 where it isn't given (clause 5.2.3); --remote is how many order lines in a hundred
+another warehouse supplies, 1 where it isn't given."""
+import argparse
+import random
+
+UNUSED_ITEM = 999_999
+
+
+class Draw:
+    """What requests are drawn from."""
+
+    def __init__(self, size, seed):
+        self.warehouses, self.customers, self.items = size
+        self.random = random.Random(seed)
+        self.constants = {spread: self.random.randint(0, spread) for spread in (1023, 8191)}
+
+    def is_within(self, percent):
+        return self.random.random() * 100 < percent
+
+    def between(self, low, high):
+        return self.random.randint(low, high)
+
+    def skewed(self, spread, low, high):
+        """NURand of the standard."""
+        mixed = self.between(0, spread) | self.between(low, high)
+        return (mixed + self.constants[spread]) % (high - low + 1) + low
+
+    def warehouse(self):
+        return self.between(1, self.warehouses)
+
+    def other_warehouse(self, home):
+        others = [w for w in range(1, self.warehouses + 1) if w != home]
+        return self.random.choice(others) if others else home
+
+    def customer(self):
+        """How a request names its customer: by last name, of which a made database has ten, or by number."""
+        if self.is_within(60):
+            return f'L,NAME{self.between(0, min(9, self.customers))}'
+        return f'I,{self.skewed(1023, 1, self.customers)}'
+
+
+def new_order(draw, w, d, remote):
+    lines = draw.between(5, 15)
+    items = [draw.skewed(8191, 1, draw.items) for _ in range(lines)]
+    if draw.is_within(1):
+        items[-1] = UNUSED_ITEM
+    fields = [w, d, draw.skewed(1023, 1, draw.customers)]
+    for item in items:
+        fields += [item, draw.other_warehouse(w) if draw.is_within(remote) else w, draw.between(1, 10)]
+    return 'N,' + ','.join(map(str, fields))
+
+
+def payment(draw, w, d, _):
+    cw, cd = (draw.other_warehouse(w), draw.between(1, 10)) if draw.is_within(15) else (w, d)
+    return f'P,{w},{d},{cw},{cd},{draw.customer()},{draw.between(100, 500_000)}'
+
+
+def order_status(draw, w, d, _):
+    return f'O,{w},{d},{draw.customer()}'
+
+
+def delivery(draw, w, _, __):
+    return f'D,{w},{draw.between(1, 10)}'
+
+
+def stock_level(draw, w, d, _):
+    return f'S,{w},{d},{draw.between(10, 20)}'
+
+
+KINDS = [new_order, payment, order_status, delivery, stock_level]
+
+
+def main():
+    ask = argparse.ArgumentParser(description=__doc__, formatter_class=argparse.RawDescriptionHelpFormatter)
+    for name, most in ('warehouses', 100), ('customers', 3_000), ('items', 100_000):
+        ask.add_argument(name, type=int, choices=range(1, most + 1), metavar=name[0].upper())
+    ask.add_argument('--batches', type=int, default=10)
+    ask.add_argument('--size', type=int, default=1_000, choices=range(1_025), metavar='S')
+    ask.add_argument('--seed', type=int, default=1)
+    ask.add_argument('--mix', type=lambda words: [int(word) for word in words.split(',')], default=[45, 43, 4, 4, 4])
+    ask.add_argument('--remote', type=float, default=1)
+    ask = ask.parse_args()
+    draw = Draw((ask.warehouses, ask.customers, ask.items), ask.seed)
+    for batch in range(ask.batches):
+        print(f'B,{1_000 + batch},commit,{ask.size}')
+        for kind in draw.random.choices(KINDS, ask.mix, k=ask.size):
+            w = draw.warehouse()
+            print(kind(draw, w, draw.between(1, 10), ask.remote))
+
+
+if __name__ == '__main__':
+    main()
