@@ -51,21 +51,15 @@ fn boxed(
     }
 }
 
-/// Rows on their pages, and their tree.
-#[inline(never)]
-fn with_tree<R: Threads + Sync>(
-    rt: &R,
-    alloc: Global,
-    store: PointedStore,
-) -> Result<Box<(PointedStore, Tree)>, RunFault>
-    ensures store { IfOk result (λ built. built.value.0 ≡ store) }
-    ensures tree { IfOk result (λ built. IsOf built.value.1 store.rows) }
+/// The tree of rows on their pages.
+fn treed<R: Threads + Sync>(rt: &R, alloc: Global, store: &PointedStore) -> Result<Tree, RunFault>
+    ensures tree { IfOk result (λ tree. IsOf tree store.now.rows) }
     ensures err { IfErr result (λ e. e ≡ run_fault.Exec refusal.Memory) }
 {
-    let Ok(tree) = Tree::build(rt, alloc, &store) else {
+    let Ok(tree) = Tree::build(rt, alloc, store) else {
         return Err(RunFault::Exec(Refusal::Memory));
     };
-    boxed(alloc, store, tree)
+    Ok(tree)
 }
 
 /// The rows on their pages, and their tree.
@@ -80,10 +74,15 @@ fn build<R: Threads + Sync>(
     ensures tree { IfOk result (λ built. IsOf built.value.1 built.value.0.rows) }
     ensures err { IfErr result IsRefused }
 {
-    match paged(alloc, rows) {
-        Ok(store) => with_tree(rt, alloc, store),
-        Err(fault) => Err(fault),
-    }
+    let store = match paged(alloc, rows) {
+        Ok(store) => store,
+        Err(fault) => return Err(fault),
+    };
+    let tree = match treed(rt, alloc, &store) {
+        Ok(tree) => tree,
+        Err(fault) => return Err(fault),
+    };
+    boxed(alloc, store, tree)
 }
 
 /// The executor of a database that was read. Many cards are hashed while the rows go to their pages and their tree is built.
