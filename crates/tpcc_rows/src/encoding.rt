@@ -2,13 +2,14 @@
 ghost use Rattle.std.specs.Prelude.{◌≡◌, ◌≤◌, ◌+◌, ◌++◌, length};
 ghost use Rattle.tpcc_rows.specs.Encodings.{maybe_moment, row_body, row_bytes, sized};
 ghost use Rattle.tpcc_rows.specs.declared.key.RowKey.{RowKey};
-ghost use Rattle.tpcc_rows.specs.declared.row.Row.TheVariants.{Customer, District, History, Order, OrderLine, Stock, Warehouse};
+ghost use Rattle.tpcc_rows.specs.declared.row.Row.TheVariants.{Customer, DistrictNext, DistrictYtd, History, Order, OrderLine, Stock, Warehouse};
 
 use crate::codes::{code, customer_code, line_code, stock_code};
 use crate::key::RowKey;
 use crate::number::{Carrier, Moment};
 use crate::row::{
-    CustomerRow, DistrictRow, HistoryRow, OrderLineRow, OrderRow, Row, StockRow, WarehouseRow,
+    CustomerRow, DistrictNextRow, DistrictYtdRow, HistoryRow, OrderLineRow, OrderRow, Row,
+    StockRow, WarehouseRow,
 };
 use crate::row_buf::{ByteBuf, RowBuf};
 
@@ -22,12 +23,20 @@ fn push_warehouse<const N: usize>(row: &WarehouseRow, out: &mut ByteBuf<N>)
 }
 
 #[tactic(auto, using(crate::proofs::Lengths::lengths))]
-fn push_district<const N: usize>(row: &DistrictRow, out: &mut ByteBuf<N>)
+fn push_district_ytd<const N: usize>(row: &DistrictYtdRow, out: &mut ByteBuf<N>)
     requires { length out.old + 528 ≤ N }
-    ensures { out.new ≡ out.old ++ sized (row_body (District row.now)) }
+    ensures { out.new ≡ out.old ++ sized (row_body (DistrictYtd row.now)) }
 {
-    out.push_16(12);
+    out.push_16(8);
     out.push_64(row.ytd.amount().cast_unsigned());
+}
+
+#[tactic(auto, using(crate::proofs::Lengths::lengths))]
+fn push_district_next<const N: usize>(row: &DistrictNextRow, out: &mut ByteBuf<N>)
+    requires { length out.old + 528 ≤ N }
+    ensures { out.new ≡ out.old ++ sized (row_body (DistrictNext row.now)) }
+{
+    out.push_16(4);
     out.push_32(row.next_order.number());
 }
 
@@ -129,13 +138,14 @@ fn push_row<const N: usize>(row: &Row, out: &mut ByteBuf<N>)
 {
     match row {
         Row::Warehouse(row) => push_warehouse(row, out),
-        Row::District(row) => push_district(row, out),
         Row::Customer(shared) => push_customer(shared.row(), out),
         Row::Stock(row) => push_stock(row, out),
         Row::Order(row) => push_order(row, out),
         Row::NewOrder => out.push_16(0),
         Row::OrderLine(row) => push_order_line(row, out),
         Row::History(row) => push_history(row, out),
+        Row::DistrictYtd(row) => push_district_ytd(row, out),
+        Row::DistrictNext(row) => push_district_next(row, out),
     }
 }
 
