@@ -12,7 +12,7 @@ use Rattle.tpcc_rows.specs.declared.row.OrderRow.{OrderRow}
 
 -- D_YTD of a district of the warehouse
 abbrev pub district_share : ℕ → RowKey → Row → ℤ
-district_share w (key.District v d) (row.District r) = if v == w then r.ytd else pos 0
+district_share w (key.DistrictYtd v d) (row.DistrictYtd r) = if v == w then r.ytd else pos 0
 district_share w _ _ = pos 0
 
 -- W_YTD of each warehouse is the sum of D_YTD over its districts

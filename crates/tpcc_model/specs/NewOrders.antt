@@ -1,5 +1,5 @@
--- A new order (TPC-C clause 2.4): the cards of its keys are found, then the row of its district, then its lines are done
--- in order, each on the rows as the earlier ones leave them.
+-- A new order (TPC-C clause 2.4): the cards of its keys are found, then the number that its district has next, then its
+-- lines are done in order, each on the rows as the earlier ones leave them.
 use Rattle.std.specs.Prelude.{ℕ, ◌+◌, ◌*◌, pos, ℤ, ◌+ℤ◌, ◌-ℤ◌, int_le, nat_eq, List, [], ◌∷◌, ◌++◌, length, codes, Bool, ◌&&◌, ◌||◌, ◌==◌, Some, None, Result, Ok, if◌then◌else◌}
 use Rattle.std.specs.List.{list_all, starts_with, sum_by}
 use Rattle.std.specs.Option.{ok_or}
@@ -7,11 +7,11 @@ use Rattle.std.specs.FinMap as map
 use Rattle.tpcc_rows.specs.Changing.{after}
 use Rattle.tpcc_rows.specs.Limits.{between, stock_quantity_of}
 use Rattle.tpcc_rows.specs.Prices.{total_cents}
-use Rattle.tpcc_rows.specs.Rows.{district_row, stock_row}
+use Rattle.tpcc_rows.specs.Rows.{district_next_row, stock_row}
 use Rattle.tpcc_rows.specs.RowMap.{Rows, Changes}
 use Rattle.tpcc_rows.specs.declared.key.RowKey.TheVariants as key
 use Rattle.tpcc_rows.specs.declared.row.Row.TheVariants as row
-use Rattle.tpcc_rows.specs.declared.row.DistrictRow.{DistrictRow}
+use Rattle.tpcc_rows.specs.declared.row.DistrictNextRow.{DistrictNextRow}
 use Rattle.tpcc_rows.specs.declared.row.StockRow.{StockRow}
 use Rattle.tpcc_rows.specs.declared.row.OrderRow.{OrderRow}
 use Rattle.tpcc_rows.specs.declared.row.OrderLineRow.{OrderLineRow}
@@ -79,10 +79,10 @@ found_cards cards p = do
 
 -- ---- the order
 -- D_NEXT_O_ID goes up by one
-unfoldable pub raised_district : DistrictRow → Result DistrictRow RequestRefusal
+unfoldable pub raised_district : DistrictNextRow → Result DistrictNextRow RequestRefusal
 raised_district old = do
   next_order ← within (between 1 9999999 (old.next_order + 1))
-  Ok (record old { next_order = next_order })
+  Ok (record { next_order = next_order })
 
 -- each line is out of this warehouse's own stock
 abbrev pub all_local : ℕ → List OrderedLine → Bool
@@ -170,11 +170,11 @@ lines_done rows p o n (line ∷ lines) order = do
   more ← line_done p o n line old order
   lines_done rows p o (n + 1) lines more
 
--- before the lines: the district's row, the order's and the new order's
-unfoldable pub opened : NewOrder → ℕ → ℕ → DistrictRow → OrderSoFar
+-- before the lines: the row of the district's next number, the order's and the new order's
+unfoldable pub opened : NewOrder → ℕ → ℕ → DistrictNextRow → OrderSoFar
 opened p moment o district = record {
   changes =
-      map.insert (map.insert (map.insert map.empty (key.District p.warehouse p.district) (Some (row.District district)))
+      map.insert (map.insert (map.insert map.empty (key.DistrictNext p.warehouse p.district) (Some (row.DistrictNext district)))
       (key.Order p.warehouse p.district o) (Some (row.Order (order_of p moment))))
       (key.NewOrder p.warehouse p.district o) (Some row.NewOrder);
   lines = [];
@@ -198,7 +198,7 @@ pub record PlacedOrder : Type 0 where
 unfoldable pub new_order : Database → NewOrder → ℕ → Result PlacedOrder RequestRefusal
 new_order db p moment = do
   cards ← found_cards db.cards p
-  old ← known (district_row db.rows p.warehouse p.district)
+  old ← known (district_next_row db.rows p.warehouse p.district)
   district ← raised_district old
   order ← lines_done db.rows p old.next_order 1 cards.lines (opened p moment old.next_order district)
   Ok (record { reply = new_order_reply cards old.next_order order.lines; changes = order.changes })

@@ -3,12 +3,12 @@ use Rattle.std.specs.Prelude.{ℕ, ◌+◌, pos, ◌+ℤ◌, ◌-ℤ◌, List, [
 use Rattle.std.specs.FinMap as map
 use Rattle.tpcc_rows.specs.Limits.{between, cents_of}
 use Rattle.tpcc_rows.specs.Texts.{clip}
-use Rattle.tpcc_rows.specs.Rows.{warehouse_row, district_row, customer_row}
+use Rattle.tpcc_rows.specs.Rows.{warehouse_row, district_ytd_row, customer_row}
 use Rattle.tpcc_rows.specs.RowMap.{Rows, Changes}
 use Rattle.tpcc_rows.specs.declared.key.RowKey.TheVariants as key
 use Rattle.tpcc_rows.specs.declared.row.Row.TheVariants as row
 use Rattle.tpcc_rows.specs.declared.row.WarehouseRow.{WarehouseRow}
-use Rattle.tpcc_rows.specs.declared.row.DistrictRow.{DistrictRow}
+use Rattle.tpcc_rows.specs.declared.row.DistrictYtdRow.{DistrictYtdRow}
 use Rattle.tpcc_rows.specs.declared.row.CustomerRow.{CustomerRow}
 use Rattle.tpcc_rows.specs.declared.row.HistoryRow.{HistoryRow}
 use Rattle.catalog.specs.CardMap.{Cards}
@@ -45,13 +45,13 @@ found_cards cards p = do
 -- the rows of its keys
 pub record PaymentRows : Type 0 where
   pub warehouse : WarehouseRow
-  pub district : DistrictRow
+  pub district : DistrictYtdRow
   pub customer : CustomerRow
 
 unfoldable pub found_rows : Rows → Payment → ℕ → Result PaymentRows RequestRefusal
 found_rows rows p c = do
   warehouse ← known (warehouse_row rows p.warehouse)
-  district ← known (district_row rows p.warehouse p.district)
+  district ← known (district_ytd_row rows p.warehouse p.district)
   customer ← known (customer_row rows p.customer_warehouse p.customer_district c)
   Ok (record { warehouse = warehouse; district = district; customer = customer })
 
@@ -62,10 +62,10 @@ paid_warehouse old amount = do
   Ok (record { ytd = ytd })
 
 -- D_YTD goes up by the amount
-unfoldable pub paid_district : DistrictRow → ℕ → Result DistrictRow RequestRefusal
+unfoldable pub paid_district : DistrictYtdRow → ℕ → Result DistrictYtdRow RequestRefusal
 paid_district old amount = do
   ytd ← within (cents_of (old.ytd +ℤ pos amount))
-  Ok (record old { ytd = ytd })
+  Ok (record { ytd = ytd })
 
 -- a number in decimals, and a byte behind it
 abbrev pub field : ℕ → ℕ → List ℕ
@@ -110,7 +110,7 @@ history_of p c moment warehouse_name district_name = record {
 -- what a payment makes: the new rows, and who paid
 pub record Paid : Type 0 where
   pub warehouse : WarehouseRow
-  pub district : DistrictRow
+  pub district : DistrictYtdRow
   pub customer : CustomerRow
   pub history : HistoryRow
   pub customer_id : ℕ
@@ -148,6 +148,6 @@ payment_reply paid = record { customer = paid.customer_id; balance = paid.custom
 unfoldable pub payment_changes : Payment → ℕ → Paid → Changes
 payment_changes p number paid =
     map.insert (map.insert (map.insert (map.insert map.empty (key.Warehouse p.warehouse) (Some (row.Warehouse paid.warehouse)))
-    (key.District p.warehouse p.district) (Some (row.District paid.district)))
+    (key.DistrictYtd p.warehouse p.district) (Some (row.DistrictYtd paid.district)))
     (key.Customer p.customer_warehouse p.customer_district paid.customer_id) (Some (row.Customer paid.customer)))
     (key.History number) (Some (row.History paid.history))

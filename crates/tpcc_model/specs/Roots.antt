@@ -1,4 +1,4 @@
--- The tree of hashes over the rows, computed from scratch: 4,096 leaves, and twelve levels of nodes above them.
+-- The tree of hashes over the rows, computed from scratch: 65,536 leaves, and sixteen levels of nodes above them.
 use Rattle.std.specs.Prelude.{ℕ, zero, suc, ◌+◌, ◌*◌, List, ◌∷◌, ◌++◌}
 use Rattle.std.specs.FinMap as map
 use Rattle.sha2.specs.Sha256.{sha256}
@@ -20,4 +20,4 @@ node leaves zero n = leaves n
 node leaves (suc height) n = joined (node leaves height (2 * n)) (node leaves height (2 * n + 1))
 
 unfoldable pub root : Rows → List ℕ
-root rows = node (leaf_hash rows) 12 0
+root rows = node (leaf_hash rows) 16 0

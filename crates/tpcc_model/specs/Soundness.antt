@@ -11,7 +11,7 @@ use Rattle.tpcc_rows.specs.declared.key.RowKey.TheVariants as key
 use Rattle.tpcc_rows.specs.declared.row.Row.{Row}
 use Rattle.tpcc_rows.specs.declared.row.Row.TheVariants as row
 use Rattle.tpcc_rows.specs.declared.row.CustomerRow.{CustomerRow}
-use Rattle.tpcc_rows.specs.declared.row.DistrictRow.{DistrictRow}
+use Rattle.tpcc_rows.specs.declared.row.DistrictNextRow.{DistrictNextRow}
 use Rattle.tpcc_rows.specs.declared.row.StockRow.{StockRow}
 use Rattle.tpcc_rows.specs.declared.row.OrderRow.{OrderRow}
 use Rattle.tpcc_rows.specs.declared.row.OrderLineRow.{OrderLineRow}
@@ -109,21 +109,23 @@ pub record IsHistory (cards : Cards) (n : ℕ) (r : HistoryRow) : Type 0 where
 -- the row is of its key's kind, within the limits, and has its card or its parents
 abbrev pub IsEntry : Cards → Rows → RowKey → Row → Type 0
 IsEntry cards rows (key.Warehouse w) (row.Warehouse r) = IsSome (warehouse_card cards w) × IsCents r.ytd
-IsEntry cards rows (key.District w d) (row.District r) = IsSome (district_card cards w d) × IsCents r.ytd × IsBetween 1 9999999 r.next_order
 IsEntry cards rows (key.Customer w d c) (row.Customer r) = IsSome (customer_card cards w d c) × IsCustomerRow r
 IsEntry cards rows (key.Stock w i) (row.Stock r) = IsSome (stock_card cards w i) × IsStockRow r
 IsEntry cards rows (key.Order w d o) (row.Order r) = IsOrder cards w d o r
 IsEntry cards rows (key.NewOrder w d o) row.NewOrder = (order : OrderRow) × (map.get rows (key.Order w d o) ≡ Some (row.Order order))
 IsEntry cards rows (key.OrderLine w d o n) (row.OrderLine r) = IsOrderLine cards rows w d o n r
 IsEntry cards rows (key.History n) (row.History r) = IsHistory cards n r
+IsEntry cards rows (key.DistrictYtd w d) (row.DistrictYtd r) = IsSome (district_card cards w d) × IsCents r.ytd
+IsEntry cards rows (key.DistrictNext w d) (row.DistrictNext r) = IsSome (district_card cards w d) × IsBetween 1 9999999 r.next_order
 IsEntry cards rows _ _ = ⊥
 
 -- the key's card is there; the keys of orders and of history have none
 abbrev pub HasCard : Cards → RowKey → Type 0
 HasCard cards (key.Warehouse w) = IsSome (warehouse_card cards w)
-HasCard cards (key.District w d) = IsSome (district_card cards w d)
 HasCard cards (key.Customer w d c) = IsSome (customer_card cards w d c)
 HasCard cards (key.Stock w i) = IsSome (stock_card cards w i)
+HasCard cards (key.DistrictYtd w d) = IsSome (district_card cards w d)
+HasCard cards (key.DistrictNext w d) = IsSome (district_card cards w d)
 HasCard cards _ = ⊥
 
 pub record IsSound (db : Database) : Type 0 where
@@ -134,4 +136,4 @@ pub record IsSound (db : Database) : Type 0 where
   pub entries : (k : RowKey) (x : Row) → map.get db.rows k ≡ Some x → IsEntry db.cards db.rows k x
   pub condition_1 : Condition1 db.rows
   -- conditions 2 to 4
-  pub districts : (w d : ℕ) (r : DistrictRow) → map.get db.rows (key.District w d) ≡ Some (row.District r) → IsConsistent db.rows w d r.next_order
+  pub districts : (w d : ℕ) (r : DistrictNextRow) → map.get db.rows (key.DistrictNext w d) ≡ Some (row.DistrictNext r) → IsConsistent db.rows w d r.next_order

@@ -2,7 +2,7 @@
 -- distinct items among them that are low in the warehouse are counted.
 use Rattle.std.specs.Prelude.{ℕ, zero, suc, ◌+◌, ◌-◌, max, pos, int_lt, nat_eq, Bool, false, List, [], ◌∷◌, Option, Some, None, Result, Ok, if◌then◌else◌}
 use Rattle.std.specs.Set.{distinct_count}
-use Rattle.tpcc_rows.specs.Rows.{district_row, order_line_row, stock_row}
+use Rattle.tpcc_rows.specs.Rows.{district_next_row, order_line_row, stock_row}
 use Rattle.tpcc_rows.specs.declared.row.OrderLineRow.{OrderLineRow}
 use Rattle.tpcc_rows.specs.declared.row.StockRow.{StockRow}
 use Rattle.catalog.specs.Lookups.{district_card, stock_card}
@@ -45,5 +45,5 @@ first_recent next = max 1 (next - 20)
 unfoldable pub stock_level : Database → StockLevel → Result StockLevelReply RequestRefusal
 stock_level db p = do
   card ← known (district_card db.cards p.warehouse p.district)
-  district ← known (district_row db.rows p.warehouse p.district)
+  district ← known (district_next_row db.rows p.warehouse p.district)
   Ok (record { low_stock = distinct_count nat_eq (low_items db p (first_recent district.next_order) (district.next_order - first_recent district.next_order)) })

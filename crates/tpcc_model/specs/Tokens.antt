@@ -92,7 +92,7 @@ replies_digest first replies = sha256 (replies_bytes first replies)
 -- ---- tokens
 -- the token of these parts
 unfoldable pub token_of : ℕ → List ℕ → List ℕ → List ℕ → List ℕ → List ℕ
-token_of sequence prior catalog rows replies = sha256 (codes "EVE-TPCC-1" ++ bytes_64 sequence ++ prior ++ catalog ++ rows ++ replies)
+token_of sequence prior catalog rows replies = sha256 (codes "EVE-TPCC-2" ++ bytes_64 sequence ++ prior ++ catalog ++ rows ++ replies)
 
 -- the token of a batch: its number, the token before it, the database as the batch leaves it, and the replies, the first
 -- of them with this number

@@ -8,13 +8,13 @@ use Rattle.tpcc_rows.specs.Granules.{granule}
 use Rattle.tpcc_rows.specs.Limits.{ten}
 use Rattle.tpcc_rows.specs.Picks.{oldest}
 use Rattle.tpcc_rows.specs.RowMap.{Changes, Rows}
-use Rattle.tpcc_rows.specs.Rows.{district_row, order_line_row, order_row}
+use Rattle.tpcc_rows.specs.Rows.{district_next_row, order_line_row, order_row}
 use Rattle.tpcc_rows.specs.declared.granule.Granule.{Granule}
 use Rattle.tpcc_rows.specs.declared.granule.Granule.TheVariants as part
 use Rattle.tpcc_rows.specs.declared.key.RowKey.{RowKey}
 use Rattle.tpcc_rows.specs.declared.key.RowKey.TheVariants as key
 use Rattle.tpcc_rows.specs.declared.row.Row.{Row}
-use Rattle.tpcc_rows.specs.declared.row.DistrictRow.{DistrictRow}
+use Rattle.tpcc_rows.specs.declared.row.DistrictNextRow.{DistrictNextRow}
 use Rattle.tpcc_rows.specs.declared.row.OrderLineRow.{OrderLineRow}
 use Rattle.tpcc_rows.specs.declared.row.OrderRow.{OrderRow}
 use Rattle.catalog.specs.CardMap.{Cards}
@@ -48,14 +48,14 @@ ordered_touch line = writing (part.Stock line.supply line.item)
 
 -- a new order (TPC-C clause 2.4) takes a number of its district, enters its book, and takes its items out of their stocks
 abbrev pub placed_touch : NewOrder → Footprint Granule
-placed_touch p = joined_all (writing (part.District p.warehouse p.district) ∷ writing (part.Book p.warehouse p.district) ∷ map ordered_touch p.lines)
+placed_touch p = joined_all (writing (part.DistrictNext p.warehouse p.district) ∷ writing (part.Book p.warehouse p.district) ∷ map ordered_touch p.lines)
 
 unfoldable pub new_order_touch : Database → NewOrder → Footprint Granule
 new_order_touch db p = touch_by (λ cards. placed_touch p) (new_orders.found_cards db.cards p)
 
 -- a payment (clause 2.5) of customer c goes to its warehouse, its district and the customer
 abbrev pub paid_touch : Payment → ℕ → Footprint Granule
-paid_touch p c = joined_all (writing (part.Warehouse p.warehouse) ∷ writing (part.District p.warehouse p.district) ∷ writing (part.Customer p.customer_warehouse p.customer_district c) ∷ [])
+paid_touch p c = joined_all (writing (part.Warehouse p.warehouse) ∷ writing (part.DistrictYtd p.warehouse p.district) ∷ writing (part.Customer p.customer_warehouse p.customer_district c) ∷ [])
 
 unfoldable pub payment_touch : Database → Payment → Footprint Granule
 payment_touch db p = touch_by (λ cards. paid_touch p cards.customer_id) (payments.found_cards db.cards p)
@@ -111,13 +111,13 @@ orders_touch db p first zero = untouched
 orders_touch db p first (suc n) = joined (orders_touch db p first n) (lines_touch db p (first + n) 15)
 
 -- and of the last twenty orders of the district
-abbrev pub recent_touch : Database → StockLevel → Option DistrictRow → Footprint Granule
+abbrev pub recent_touch : Database → StockLevel → Option DistrictNextRow → Footprint Granule
 recent_touch db p None = untouched
 recent_touch db p (Some district) = orders_touch db p (first_recent district.next_order) (district.next_order - first_recent district.next_order)
 
 -- a stock level (clause 2.8) looks at its district, the district's book, and the stocks of the items that were sold lately
 abbrev pub counted_touch : Database → StockLevel → Footprint Granule
-counted_touch db p = joined_all (reading (part.District p.warehouse p.district) ∷ reading (part.Book p.warehouse p.district) ∷ recent_touch db p (district_row db.rows p.warehouse p.district) ∷ [])
+counted_touch db p = joined_all (reading (part.DistrictNext p.warehouse p.district) ∷ reading (part.Book p.warehouse p.district) ∷ recent_touch db p (district_next_row db.rows p.warehouse p.district) ∷ [])
 
 unfoldable pub stock_level_touch : Database → StockLevel → Footprint Granule
 stock_level_touch db p = touch_by (λ card. counted_touch db p) (known (district_card db.cards p.warehouse p.district))
