@@ -35,7 +35,8 @@ pub nobody : (c : ℕ) (q : RowKey) → owns c q (owner_at None) ≡ false
 nobody c (key.NewOrder w d o) = refl
 nobody c (key.Order w d o) = refl
 nobody c (key.Warehouse w) = refl
-nobody c (key.District w d) = refl
+nobody c (key.DistrictYtd w d) = refl
+nobody c (key.DistrictNext w d) = refl
 nobody c (key.Customer w d b) = refl
 nobody c (key.Stock w i) = refl
 nobody c (key.OrderLine w d o n) = refl

@@ -26,7 +26,8 @@ pub plain-row : (k : RowKey) (x : Row) → fits k x ≡ true → owner_of x ≡ 
 plain-row (key.Order w d o) (row.Order r) fit none = let bad : ⊥ = cc in absurd bad
 plain-row (key.NewOrder w d o) row.NewOrder fit none = let bad : ⊥ = cc in absurd bad
 plain-row (key.Warehouse w) x fit none = λ c o. refl
-plain-row (key.District w d) x fit none = λ c o. refl
+plain-row (key.DistrictYtd w d) x fit none = λ c o. refl
+plain-row (key.DistrictNext w d) x fit none = λ c o. refl
 plain-row (key.Customer w d b) x fit none = λ c o. refl
 plain-row (key.Stock w i) x fit none = λ c o. refl
 plain-row (key.OrderLine w d o n) x fit none = λ c o. refl

@@ -152,7 +152,8 @@ pub has-same : (old new : List DistrictIndex) → IsSame old new → (c : ℕ) (
 has-same old new h c (key.NewOrder w d o) = h.new_same o w d
 has-same old new h c (key.Order w d o) = h.order_same c o w d
 has-same old new h c (key.Warehouse w) = refl
-has-same old new h c (key.District w d) = refl
+has-same old new h c (key.DistrictYtd w d) = refl
+has-same old new h c (key.DistrictNext w d) = refl
 has-same old new h c (key.Customer w d b) = refl
 has-same old new h c (key.Stock w i) = refl
 has-same old new h c (key.OrderLine w d o n) = refl
@@ -168,7 +169,8 @@ pub has-new : (old new : List DistrictIndex) (w d o : ℕ) (b : Bool) (p : Distr
 has-new old new w d o b p h c (key.NewOrder v e n) = changed-at old new (w, d) p h.at (new_in n) (is_at (nat_cmp o) n) b (h.new_there n) (v, e) ∙ ap (λ t. cond t b (new_in n (page_of old (v, e)))) (sym (at-new w d o v e n))
 has-new old new w d o b p h c (key.Order v e n) = same-at old new (w, d) p h.at (order_in c n) (h.order_there c n) (v, e)
 has-new old new w d o b p h c (key.Warehouse v) = refl
-has-new old new w d o b p h c (key.District v e) = refl
+has-new old new w d o b p h c (key.DistrictYtd v e) = refl
+has-new old new w d o b p h c (key.DistrictNext v e) = refl
 has-new old new w d o b p h c (key.Customer v e f) = refl
 has-new old new w d o b p h c (key.Stock v i) = refl
 has-new old new w d o b p h c (key.OrderLine v e f n) = refl
@@ -186,7 +188,8 @@ has-order old new w d k o b p h c (key.Order v e n) =
     changed-at old new (w, d) p h.at (order_in c n) (is_at (nat_cmp k) c && is_at (nat_cmp o) n) b (h.order_there c n) (v, e)
     ∙ ap (λ t. cond t b (order_in c n (page_of old (v, e)))) (middle (is_at (district_cmp (w, d)) (v, e)) (is_at (nat_cmp k) c) (is_at (nat_cmp o) n) ∙ ap (λ t. t && (is_at (district_cmp (w, d)) (v, e) && is_at (nat_cmp o) n)) (at-eq k c) ∙ ap (λ t. owns c (key.Order v e n) (owner.Customer k) && t) (sym (at-order w d o v e n)))
 has-order old new w d k o b p h c (key.Warehouse v) = refl
-has-order old new w d k o b p h c (key.District v e) = refl
+has-order old new w d k o b p h c (key.DistrictYtd v e) = refl
+has-order old new w d k o b p h c (key.DistrictNext v e) = refl
 has-order old new w d k o b p h c (key.Customer v e f) = refl
 has-order old new w d k o b p h c (key.Stock v i) = refl
 has-order old new w d k o b p h c (key.OrderLine v e f n) = refl
@@ -247,7 +250,8 @@ module _ (ds : List DistrictIndex) (n : ℕ) (old p part : DistrictIndex) (small
   has-put-new even new orders c (key.NewOrder w d o) = comes (new_in o) (new o) w d ∙ sym (ap (λ r. cond (r == 0 && is_place (n / 2) w d) (has_new part o) (new_in o (page_of ds (w, d)))) even)
   has-put-new even new orders c (key.Order w d o) = stays (order_in c o) (orders c o) w d ∙ sym (ap (λ r. cond (r == 1 && is_place (n / 2) w d) (has_order part c o) (order_in c o (page_of ds (w, d)))) even)
   has-put-new even new orders c (key.Warehouse w) = refl
-  has-put-new even new orders c (key.District w d) = refl
+  has-put-new even new orders c (key.DistrictYtd w d) = refl
+  has-put-new even new orders c (key.DistrictNext w d) = refl
   has-put-new even new orders c (key.Customer w d b) = refl
   has-put-new even new orders c (key.Stock w i) = refl
   has-put-new even new orders c (key.OrderLine w d o l) = refl
@@ -257,7 +261,8 @@ module _ (ds : List DistrictIndex) (n : ℕ) (old p part : DistrictIndex) (small
   has-put-orders odd new orders c (key.NewOrder w d o) = stays (new_in o) (new o) w d ∙ sym (ap (λ r. cond (r == 0 && is_place (n / 2) w d) (has_new part o) (new_in o (page_of ds (w, d)))) odd)
   has-put-orders odd new orders c (key.Order w d o) = comes (order_in c o) (orders c o) w d ∙ sym (ap (λ r. cond (r == 1 && is_place (n / 2) w d) (has_order part c o) (order_in c o (page_of ds (w, d)))) odd)
   has-put-orders odd new orders c (key.Warehouse w) = refl
-  has-put-orders odd new orders c (key.District w d) = refl
+  has-put-orders odd new orders c (key.DistrictYtd w d) = refl
+  has-put-orders odd new orders c (key.DistrictNext w d) = refl
   has-put-orders odd new orders c (key.Customer w d b) = refl
   has-put-orders odd new orders c (key.Stock w i) = refl
   has-put-orders odd new orders c (key.OrderLine w d o l) = refl
@@ -292,7 +297,8 @@ pub has-blank : (ds : List DistrictIndex) → AreBlank ds → (c : ℕ) (q : Row
 has-blank ds h c (key.NewOrder w d o) = blank (is_district d) (new_in o) (h.no_new o (w * 10 + d)) refl
 has-blank ds h c (key.Order w d o) = blank (is_district d) (order_in c o) (h.no_order c o (w * 10 + d)) refl
 has-blank ds h c (key.Warehouse w) = refl
-has-blank ds h c (key.District w d) = refl
+has-blank ds h c (key.DistrictYtd w d) = refl
+has-blank ds h c (key.DistrictNext w d) = refl
 has-blank ds h c (key.Customer w d b) = refl
 has-blank ds h c (key.Stock w i) = refl
 has-blank ds h c (key.OrderLine w d o n) = refl

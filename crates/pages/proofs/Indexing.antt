@@ -51,8 +51,8 @@ page-more rows n c q h e =
 pub first-none : (rows : Rows) (c : ℕ) (q : RowKey) → on_first rows 0 c q ≡ false
 first-none rows c q = ap (λ b. b && owns c q (owner_at (get rows q))) (le-ltb (leaf q) 0 (omega arith))
 
-pub first-all : (rows : Rows) (c : ℕ) (q : RowKey) → on_first rows 4096 c q ≡ owns c q (owner_at (get rows q))
-first-all rows c q = ap (λ b. b && owns c q (owner_at (get rows q))) (lt-ltb (leaf q) 4096 (leaf-small q))
+pub first-all : (rows : Rows) (c : ℕ) (q : RowKey) → on_first rows 65536 c q ≡ owns c q (owner_at (get rows q))
+first-all rows c q = ap (λ b. b && owns c q (owner_at (get rows q))) (lt-ltb (leaf q) 65536 (leaf-small q))
 
 -- ---- numbers
 owns-new : (w d o : ℕ) (x : Option Row) → owns 0 (key.NewOrder w d o) (owner_at x) ≡ is_new x
@@ -60,7 +60,8 @@ owns-new w d o None = refl
 owns-new w d o (Some row.NewOrder) = refl
 owns-new w d o (Some (row.Order r)) = refl
 owns-new w d o (Some (row.Warehouse r)) = refl
-owns-new w d o (Some (row.District r)) = refl
+owns-new w d o (Some (row.DistrictYtd r)) = refl
+owns-new w d o (Some (row.DistrictNext r)) = refl
 owns-new w d o (Some (row.Customer r)) = refl
 owns-new w d o (Some (row.Stock r)) = refl
 owns-new w d o (Some (row.OrderLine r)) = refl
@@ -71,7 +72,8 @@ owns-order w d c o None = refl
 owns-order w d c o (Some row.NewOrder) = refl
 owns-order w d c o (Some (row.Order r)) = refl
 owns-order w d c o (Some (row.Warehouse r)) = refl
-owns-order w d c o (Some (row.District r)) = refl
+owns-order w d c o (Some (row.DistrictYtd r)) = refl
+owns-order w d c o (Some (row.DistrictNext r)) = refl
 owns-order w d c o (Some (row.Customer r)) = refl
 owns-order w d c o (Some (row.Stock r)) = refl
 owns-order w d c o (Some (row.OrderLine r)) = refl

@@ -18,7 +18,7 @@ ghost use Rattle.tpcc_rows.specs.Changing.{with_each};
 ghost use Rattle.tpcc_rows.specs.Leaves.{leaf, page_rows};
 ghost use Rattle.tpcc_rows.specs.Picks.{latest, oldest};
 ghost use Rattle.tpcc_rows.specs.RowKinds.{fits};
-ghost use Rattle.tpcc_rows.specs.Rows.{customer_row, district_row, warehouse_row};
+ghost use Rattle.tpcc_rows.specs.Rows.{customer_row, district_next_row, district_ytd_row, warehouse_row};
 
 use crate::kept::{AddedNumber, IndexPart, LeafPage, OldRow};
 use crate::leaf_pages::Pages;
@@ -36,7 +36,7 @@ use tpcc_rows::id::{CustomerId, DistrictId, OrderId, WarehouseId};
 use tpcc_rows::key::RowKey;
 use tpcc_rows::memory::Memory;
 use tpcc_rows::plain;
-use tpcc_rows::row::{CustomerRow, DistrictRow, Row, WarehouseRow};
+use tpcc_rows::row::{CustomerRow, DistrictNextRow, DistrictYtdRow, Row, WarehouseRow};
 
 /// A finite map from keys to rows, each row of its key's kind, with the indexes of its orders and new orders.
 #[derive(Drop)]
@@ -355,14 +355,32 @@ impl RowStore {
         self.get(&RowKey::Warehouse { warehouse })?.as_warehouse()
     }
 
-    pub fn district(&self, warehouse: WarehouseId, district: DistrictId) -> Option<&DistrictRow>
-        ensures { option_copied result ≡ district_row self.now warehouse district }
+    pub fn district_ytd(
+        &self,
+        warehouse: WarehouseId,
+        district: DistrictId,
+    ) -> Option<&DistrictYtdRow>
+        ensures { option_copied result ≡ district_ytd_row self.now warehouse district }
     {
-        let key = RowKey::District {
+        let key = RowKey::DistrictYtd {
             warehouse,
             district,
         };
-        self.get(&key)?.as_district()
+        self.get(&key)?.as_district_ytd()
+    }
+
+    pub fn district_next(
+        &self,
+        warehouse: WarehouseId,
+        district: DistrictId,
+    ) -> Option<&DistrictNextRow>
+        ensures { option_copied result ≡ district_next_row self.now warehouse district }
+    {
+        let key = RowKey::DistrictNext {
+            warehouse,
+            district,
+        };
+        self.get(&key)?.as_district_next()
     }
 
     pub fn customer(

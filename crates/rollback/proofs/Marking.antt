@@ -51,16 +51,16 @@ keeps-changed before old new k m c view place rows marks n clean =
     )
 
 -- no row is on a leaf past the last one
-past-leaves : (n : ℕ) → nat_lt n 4096 ≡ false → (q : RowKey) → eqb (leaf q) n ≡ false
+past-leaves : (n : ℕ) → nat_lt n 65536 ≡ false → (q : RowKey) → eqb (leaf q) n ≡ false
 past-leaves n past q = elim (eqb (leaf q) n) as (λ b. eqb (leaf q) n ≡ b → b ≡ false) [
-  | true ↦ λ t. absurd (omega (arith, eqb-true (leaf q) n t, leaf-small q, ltb-false n 4096 past))
+  | true ↦ λ t. absurd (omega (arith, eqb-true (leaf q) n t, leaf-small q, ltb-false n 65536 past))
   | false ↦ λ t. refl
 ] refl
 
-get-past : (rows : Rows) (n : ℕ) → nat_lt n 4096 ≡ false → (q : RowKey) → get (page_rows rows n) q ≡ None
+get-past : (rows : Rows) (n : ℕ) → nat_lt n 65536 ≡ false → (q : RowKey) → get (page_rows rows n) q ≡ None
 get-past rows n past q = get-page_rows rows n q ∙ ap (λ t. cond t (get rows q) None) (past-leaves n past q)
 
-pub page-past : (a b : Rows) (n : ℕ) → nat_lt n 4096 ≡ false → page_rows a n ≡ page_rows b n
+pub page-past : (a b : Rows) (n : ℕ) → nat_lt n 65536 ≡ false → page_rows a n ≡ page_rows b n
 page-past a b n past = same_map row_key_cmp_total exact_keys _ _ (λ q. get-past a n past q ∙ sym (get-past b n past q))
 
 pub keeps-more : (a b c : Pointed) → KeepsCleanLeaves a b → KeepsCleanLeaves b c → KeepsCleanLeaves a c

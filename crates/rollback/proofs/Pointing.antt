@@ -171,8 +171,8 @@ rewound n old new p at e = e ∙ take-next n (n + 1) old p refl at
 pub record KeepsClean (before after : List Bool) (old new : Rows) : Type 0 where
   pub kept : (n : ℕ) → is_dirty after n ≡ false → (is_dirty before n ≡ false) × (page_rows new n ≡ page_rows old n)
 
-not-saved : (s : Saved) (n : ℕ) → (nat_lt n 4096 && has_of_leaf (before_of s) n) ≡ false → (rows : Rows) → page_rows (restored (before_of s) rows) n ≡ page_rows rows n
-not-saved s n h rows = elim (cases_Bool (nat_lt n 4096)) [
+not-saved : (s : Saved) (n : ℕ) → (nat_lt n 65536 && has_of_leaf (before_of s) n) ≡ false → (rows : Rows) → page_rows (restored (before_of s) rows) n ≡ page_rows rows n
+not-saved s n h rows = elim (cases_Bool (nat_lt n 65536)) [
   | inl t ↦ restored-page (before_of s) rows n (sym (ap (λ b. b && has_of_leaf (before_of s) n) t) ∙ h)
   | inr f ↦ page-past (restored (before_of s) rows) rows n f
 ]
@@ -180,9 +180,9 @@ not-saved s n h rows = elim (cases_Bool (nat_lt n 4096)) [
 pub clean-back : (first before after : List Bool) (old rows : Rows) (s : Saved) → HasAlsoSaved before s after → KeepsClean first before old rows → KeepsClean first after old (restored (before_of s) rows)
 clean-back first before after old rows s marks h = record {
   kept = λ n clean.
-      let both : ((nat_lt n 4096 && has_of_leaf (before_of s) n) || is_dirty before n) ≡ false = sym (marks n) ∙ clean in
-      let earlier = h.kept n (or-right (nat_lt n 4096 && has_of_leaf (before_of s) n) (is_dirty before n) both) in
-      (earlier.0, not-saved s n (or-left (nat_lt n 4096 && has_of_leaf (before_of s) n) (is_dirty before n) both) rows ∙ earlier.1);
+      let both : ((nat_lt n 65536 && has_of_leaf (before_of s) n) || is_dirty before n) ≡ false = sym (marks n) ∙ clean in
+      let earlier = h.kept n (or-right (nat_lt n 65536 && has_of_leaf (before_of s) n) (is_dirty before n) both) in
+      (earlier.0, not-saved s n (or-left (nat_lt n 65536 && has_of_leaf (before_of s) n) (is_dirty before n) both) rows ∙ earlier.1);
 }
 
 -- marks joined with those of saved leaves, one more

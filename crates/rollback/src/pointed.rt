@@ -6,7 +6,7 @@ ghost use Rattle.tpcc_rows.specs.Changing.{IsMadeInPart, after, new_row_fits};
 ghost use Rattle.tpcc_rows.specs.Leaves.{leaf, page_rows};
 ghost use Rattle.tpcc_rows.specs.Picks.{latest, oldest};
 ghost use Rattle.tpcc_rows.specs.RowKinds.{fits};
-ghost use Rattle.tpcc_rows.specs.Rows.{customer_row, district_row, warehouse_row};
+ghost use Rattle.tpcc_rows.specs.Rows.{customer_row, district_next_row, district_ytd_row, warehouse_row};
 ghost use Rattle.rollback.specs.Marks.{AreClean, HasAlso, HasAlsoThose};
 ghost use Rattle.rollback.specs.Pointed.{AreSaved, KeepsCleanLeaves, NewestHas, points_of};
 
@@ -22,7 +22,7 @@ use tpcc_rows::delta::Delta;
 use tpcc_rows::id::{CustomerId, DistrictId, OrderId, WarehouseId};
 use tpcc_rows::key::RowKey;
 use tpcc_rows::memory::Memory;
-use tpcc_rows::row::{CustomerRow, DistrictRow, Row, WarehouseRow};
+use tpcc_rows::row::{CustomerRow, DistrictNextRow, DistrictYtdRow, Row, WarehouseRow};
 
 /// At most so many points are kept.
 pub const POINTS: usize = 8;
@@ -98,10 +98,24 @@ impl PointedStore {
         self.store.warehouse(warehouse)
     }
 
-    pub fn district(&self, warehouse: WarehouseId, district: DistrictId) -> Option<&DistrictRow>
-        ensures { option_copied result ≡ district_row self.now.rows warehouse district }
+    pub fn district_ytd(
+        &self,
+        warehouse: WarehouseId,
+        district: DistrictId,
+    ) -> Option<&DistrictYtdRow>
+        ensures { option_copied result ≡ district_ytd_row self.now.rows warehouse district }
     {
-        self.store.district(warehouse, district)
+        self.store.district_ytd(warehouse, district)
+    }
+
+    pub fn district_next(
+        &self,
+        warehouse: WarehouseId,
+        district: DistrictId,
+    ) -> Option<&DistrictNextRow>
+        ensures { option_copied result ≡ district_next_row self.now.rows warehouse district }
+    {
+        self.store.district_next(warehouse, district)
     }
 
     pub fn customer(

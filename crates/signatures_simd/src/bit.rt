@@ -9,7 +9,7 @@ use tpcc_rows::id::WarehouseId;
 const MULTIPLIER: u64 = 0x9E37_79B9_7F4A_7C15;
 
 fn place_pack(kind: u64, warehouse: WarehouseId, district: u64, number: u64) -> u64
-    requires kind { kind < 6 }
+    requires kind { kind < 8 }
     requires district { district < 11 }
     requires number { number < 1000000 }
     ensures { result ≡ pack kind warehouse district number }
@@ -22,10 +22,6 @@ fn packed(granule: &Granule) -> u64
 {
     match *granule {
         Granule::Warehouse { warehouse } => place_pack(1, warehouse, 0, 0),
-        Granule::District {
-            warehouse,
-            district,
-        } => place_pack(2, warehouse, u64::from(district.number()), 0),
         Granule::Customer {
             warehouse,
             district,
@@ -39,6 +35,14 @@ fn packed(granule: &Granule) -> u64
             warehouse,
             district,
         } => place_pack(5, warehouse, u64::from(district.number()), 0),
+        Granule::DistrictYtd {
+            warehouse,
+            district,
+        } => place_pack(6, warehouse, u64::from(district.number()), 0),
+        Granule::DistrictNext {
+            warehouse,
+            district,
+        } => place_pack(7, warehouse, u64::from(district.number()), 0),
     }
 }
 

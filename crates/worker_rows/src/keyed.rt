@@ -2,13 +2,14 @@
 ghost use Rattle.std.specs.Prelude.{◌≡◌, option_copied};
 ghost use Rattle.std.specs.FinMap as map;
 ghost use Rattle.tpcc_rows.specs.RowMap.{Rows};
-ghost use Rattle.tpcc_rows.specs.Rows.{customer_row, district_row, order_line_row, order_row, stock_row, warehouse_row};
+ghost use Rattle.tpcc_rows.specs.Rows.{customer_row, district_next_row, district_ytd_row, order_line_row, order_row, stock_row, warehouse_row};
 
 use rollback::PointedStore;
 use tpcc_rows::id::{CustomerId, DistrictId, ItemId, LineNumber, OrderId, WarehouseId};
 use tpcc_rows::key::RowKey;
 use tpcc_rows::row::{
-    CustomerRow, DistrictRow, OrderLineRow, OrderRow, Row, StockRow, WarehouseRow,
+    CustomerRow, DistrictNextRow, DistrictYtdRow, OrderLineRow, OrderRow, Row, StockRow,
+    WarehouseRow,
 };
 
 /// What has a row, or none, for each key.
@@ -35,18 +36,32 @@ pub fn warehouse_row<R: KeyedRows>(rows: &R, warehouse: WarehouseId) -> Option<&
     rows.row(&RowKey::Warehouse { warehouse })?.as_warehouse()
 }
 
-pub fn district_row<R: KeyedRows>(
+pub fn district_ytd_row<R: KeyedRows>(
     rows: &R,
     warehouse: WarehouseId,
     district: DistrictId,
-) -> Option<&DistrictRow>
-    ensures { option_copied result ≡ district_row (R.rows rows.now) warehouse district }
+) -> Option<&DistrictYtdRow>
+    ensures { option_copied result ≡ district_ytd_row (R.rows rows.now) warehouse district }
 {
-    let key = RowKey::District {
+    let key = RowKey::DistrictYtd {
         warehouse,
         district,
     };
-    rows.row(&key)?.as_district()
+    rows.row(&key)?.as_district_ytd()
+}
+
+pub fn district_next_row<R: KeyedRows>(
+    rows: &R,
+    warehouse: WarehouseId,
+    district: DistrictId,
+) -> Option<&DistrictNextRow>
+    ensures { option_copied result ≡ district_next_row (R.rows rows.now) warehouse district }
+{
+    let key = RowKey::DistrictNext {
+        warehouse,
+        district,
+    };
+    rows.row(&key)?.as_district_next()
 }
 
 pub fn customer_row<R: KeyedRows>(

@@ -14,5 +14,5 @@ loop-leaf-preserved c = λ b q.
 
 pub returns : goal.returns
 returns c =
-    let last : c.loop-leaf.leaf ≡ 4096 = omega arith in
+    let last : c.loop-leaf.leaf ≡ 65536 = omega arith in
     record { same = λ b q. c.loop-leaf.invariant b q ∙ ap (λ n. on_first c.args.pages.now n b q) last ∙ first-all c.args.pages.now b q }

@@ -17,5 +17,5 @@ loop-leaf-preserved c =
 
 pub returns : goal.returns
 returns c =
-    let last : c.loop-leaf.leaf ≡ 4096 = omega arith in
+    let last : c.loop-leaf.leaf ≡ 65536 = omega arith in
     c.loop-leaf.invariant.sum ∙ ap (length_below c.args.self.now) last ∙ length-leaves c.args.self.now
