@@ -11,15 +11,16 @@ use Rattle.catalog.specs.declared.card.CardKey.{CardKey}
 use Rattle.catalog.specs.declared.card.CardKey.TheVariants as key
 use Rattle.catalog.specs.declared.card.Credit.{Credit}
 use Rattle.catalog.specs.declared.card.Credit.TheVariants as credit
-use Rattle.tpcc_rows.specs.Codes.{IsKey, code}
+use Rattle.tpcc_rows.specs.Codes.{IsKey, code, district_code}
 use Rattle.tpcc_rows.specs.Encodings.{bytes_16, bytes_32, bytes_64, short_text, sized}
 use Rattle.tpcc_rows.specs.Limits.{IsBetween}
 use Rattle.tpcc_rows.specs.declared.key.RowKey.TheVariants as row_key
 
--- the code of a card's key: that of its row, and of an item, which has no row, one of its own
+-- the code of a card's key: that of its row, and one of its own of a district, which has two rows, and of an item, which
+-- has none
 abbrev pub card_code : CardKey → ℕ
 card_code (key.Warehouse w) = code (row_key.Warehouse w)
-card_code (key.District w d) = code (row_key.District w d)
+card_code (key.District w d) = 2 * 2 ^ 56 + district_code w d
 card_code (key.Customer w d c) = code (row_key.Customer w d c)
 card_code (key.Stock w i) = code (row_key.Stock w i)
 card_code (key.Item i) = 11 * 2 ^ 56 + i
@@ -27,7 +28,7 @@ card_code (key.Item i) = 11 * 2 ^ 56 + i
 -- the key is within the limits of the tables
 abbrev pub IsCardKey : CardKey → Type 0
 IsCardKey (key.Warehouse w) = IsKey (row_key.Warehouse w)
-IsCardKey (key.District w d) = IsKey (row_key.District w d)
+IsCardKey (key.District w d) = IsBetween 1 100 w × IsBetween 1 10 d
 IsCardKey (key.Customer w d c) = IsKey (row_key.Customer w d c)
 IsCardKey (key.Stock w i) = IsKey (row_key.Stock w i)
 IsCardKey (key.Item i) = IsBetween 1 100000 i

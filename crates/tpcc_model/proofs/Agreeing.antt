@@ -7,9 +7,9 @@ use Rattle.serializability.specs.Footprints.{Has}
 use Rattle.serializability.proofs.Agreement.{same_picks}
 use Rattle.tpcc_rows.specs.Changing.{after}
 use Rattle.tpcc_rows.specs.Picks.{latest, least, greatest, new_pick, oldest, order_pick, picked}
-use Rattle.tpcc_rows.specs.RowKinds.{as_customer, as_district, as_order, as_order_line, as_stock, as_warehouse}
+use Rattle.tpcc_rows.specs.RowKinds.{as_customer, as_district_next, as_district_ytd, as_order, as_order_line, as_stock, as_warehouse}
 use Rattle.tpcc_rows.specs.RowMap.{Changes, Rows}
-use Rattle.tpcc_rows.specs.Rows.{customer_row, district_row, order_line_row, order_row, stock_row, warehouse_row}
+use Rattle.tpcc_rows.specs.Rows.{customer_row, district_next_row, district_ytd_row, order_line_row, order_row, stock_row, warehouse_row}
 use Rattle.tpcc_rows.specs.declared.granule.Granule.{Granule}
 use Rattle.tpcc_rows.specs.declared.granule.Granule.TheVariants as part
 use Rattle.tpcc_rows.specs.declared.key.RowKey.{RowKey}
@@ -33,8 +33,11 @@ module _ (s t : Rows) (gs : List Granule) (agree : Agree s t gs) where
   pub same_warehouse : (w : ℕ) → Has gs (part.Warehouse w) → warehouse_row t w ≡ warehouse_row s w
   same_warehouse w h = ap (option_and_then as_warehouse) (sym (agree (key.Warehouse w) (part.Warehouse w) refl h))
 
-  pub same_district : (w d : ℕ) → Has gs (part.District w d) → district_row t w d ≡ district_row s w d
-  same_district w d h = ap (option_and_then as_district) (sym (agree (key.District w d) (part.District w d) refl h))
+  pub same_district_ytd : (w d : ℕ) → Has gs (part.DistrictYtd w d) → district_ytd_row t w d ≡ district_ytd_row s w d
+  same_district_ytd w d h = ap (option_and_then as_district_ytd) (sym (agree (key.DistrictYtd w d) (part.DistrictYtd w d) refl h))
+
+  pub same_district_next : (w d : ℕ) → Has gs (part.DistrictNext w d) → district_next_row t w d ≡ district_next_row s w d
+  same_district_next w d h = ap (option_and_then as_district_next) (sym (agree (key.DistrictNext w d) (part.DistrictNext w d) refl h))
 
   pub same_customer : (w d c : ℕ) → Has gs (part.Customer w d c) → customer_row t w d c ≡ customer_row s w d c
   same_customer w d c h = ap (option_and_then as_customer) (sym (agree (key.Customer w d c) (part.Customer w d c) refl h))

@@ -13,18 +13,18 @@ use Rattle.requests.specs.declared.reply.RequestRefusal.{RequestRefusal}
 use Rattle.requests.specs.declared.reply.RequestRefusal.TheVariants.{ItemNotValid}
 use Rattle.tpcc_rows.specs.Changing.{after}
 use Rattle.tpcc_rows.specs.RowMap.{Rows}
-use Rattle.tpcc_rows.specs.Rows.{district_row, stock_row}
+use Rattle.tpcc_rows.specs.Rows.{district_next_row, stock_row}
 use Rattle.tpcc_rows.specs.declared.granule.Granule.{Granule}
 use Rattle.tpcc_rows.specs.declared.granule.Granule.TheVariants as part
 use Rattle.tpcc_rows.specs.declared.key.RowKey.TheVariants as key
-use Rattle.tpcc_rows.specs.declared.row.DistrictRow.{DistrictRow}
+use Rattle.tpcc_rows.specs.declared.row.DistrictNextRow.{DistrictNextRow}
 use Rattle.tpcc_rows.specs.declared.row.StockRow.{StockRow}
 use Rattle.tpcc_model.specs.Database.{Database, database}
 use Rattle.tpcc_model.specs.NewOrders.{LineCards, LineItem, NewOrderCards, OrderSoFar, PlacedOrder, found_cards, found_item, found_lines, found_stock, line_amount, line_done, lines_done, new_order, new_order_reply, opened, ordered_stock, raised_district}
 use Rattle.tpcc_model.specs.Staging.{◌>>=◌, for_each, known}
 use Rattle.tpcc_model.specs.Steps.{new_order_outcome}
 use Rattle.tpcc_model.specs.Touches.{Agree, ArePlaced, new_order_touch, ordered_touch, placed_touch, touch_by}
-use Rattle.tpcc_model.proofs.Agreeing.{agree-after, agree-part, same_district, same_stock}
+use Rattle.tpcc_model.proofs.Agreeing.{agree-after, agree-part, same_district_next, same_stock}
 use Rattle.tpcc_model.proofs.Placing.{in_granule, placed-insert, placed-none}
 use Rattle.tpcc_model.proofs.Stages.{after-stage, for_each-hands_on, same-stage}
 
@@ -92,7 +92,7 @@ module _ (p : NewOrder) (moment : ℕ) where
         same_lines o (n + 1) lines more (agree-part s t (stocks (line ∷ lines)) (stocks lines) (λ g h. inr h) agree)
 
   abbrev ordered_by : Rows → NewOrderCards → Result PlacedOrder RequestRefusal
-  ordered_by rows cards = known (district_row rows p.warehouse p.district) >>= λ old. raised_district old >>= λ district.
+  ordered_by rows cards = known (district_next_row rows p.warehouse p.district) >>= λ old. raised_district old >>= λ district.
       lines_done rows p old.next_order 1 cards.lines (opened p moment old.next_order district) >>= λ order. Ok (record { reply = new_order_reply cards old.next_order order.lines; changes = order.changes })
 
   same_ordered : (s t : Rows) (r : Result NewOrderCards RequestRefusal) → IfOk r (λ found. ordered_of found.lines ≡ p.lines) → Agree s t (touch_by (λ cards. placed_touch p) r).reads → (r >>= ordered_by t) ≡ (r >>= ordered_by s)
@@ -100,7 +100,7 @@ module _ (p : NewOrder) (moment : ℕ) where
   same_ordered s t (Ok cards) found agree =
       let gs = (placed_touch p).reads in
       let lines = agree-part s t gs (stocks cards.lines) (λ g h. inr (inr (subst (λ (ls : List OrderedLine). Has (joined_all (map ordered_touch ls)).reads g) found h))) agree in
-      same-stage _ _ _ _ (ap known (same_district s t gs agree p.warehouse p.district (inl refl))) λ old e1.
+      same-stage _ _ _ _ (ap known (same_district_next s t gs agree p.warehouse p.district (inl refl))) λ old e1.
       same-stage (raised_district old) _ _ _ refl λ district e2.
       same-stage _ _ _ _ (same_lines s t old.next_order 1 cards.lines (opened p moment old.next_order district) lines) λ order e3. refl
 
@@ -109,13 +109,13 @@ module _ (p : NewOrder) (moment : ℕ) where
     abbrev gs : List Granule
     gs = (placed_touch p).writes
 
-    placed_opened : (o : ℕ) (district : DistrictRow) → ArePlaced number gs (opened p moment o district).changes
+    placed_opened : (o : ℕ) (district : DistrictNextRow) → ArePlaced number gs (opened p moment o district).changes
     unfolding opened
     placed_opened o district =
         let book = part.Book p.warehouse p.district in
         placed-insert number gs _ (key.NewOrder p.warehouse p.district o) _ (in_granule number gs _ book refl (inr (inl refl)))
         (placed-insert number gs _ (key.Order p.warehouse p.district o) _ (in_granule number gs _ book refl (inr (inl refl)))
-        (placed-insert number gs _ (key.District p.warehouse p.district) _ (in_granule number gs _ (part.District p.warehouse p.district) refl (inl refl))
+        (placed-insert number gs _ (key.DistrictNext p.warehouse p.district) _ (in_granule number gs _ (part.DistrictNext p.warehouse p.district) refl (inl refl))
         (placed-none number gs)))
 
     placed_line : (o n : ℕ) (line : LineCards) (old : StockRow) (order : OrderSoFar) → Has gs (part.Stock line.ordered.supply line.ordered.item) → ArePlaced number gs order.changes → IfOk (line_done p o n line old order) (λ more. ArePlaced number gs more.changes)
@@ -140,7 +140,7 @@ module _ (p : NewOrder) (moment : ℕ) where
     placed_order (Ok cards) found =
         let P = λ (r : Result PlacedOrder RequestRefusal). ArePlaced number gs (new_order_outcome r).changes in
         let none = λ (why : RequestRefusal). placed-none number gs in
-        after-stage P (known (district_row rows p.warehouse p.district)) _ none λ old e1.
+        after-stage P (known (district_next_row rows p.warehouse p.district)) _ none λ old e1.
         after-stage P (raised_district old) _ none λ district e2.
         after-stage P (lines_done rows p old.next_order 1 cards.lines (opened p moment old.next_order district)) _ none λ order e3.
         subst (λ (r : Result OrderSoFar RequestRefusal). IfOk r (λ last. ArePlaced number gs last.changes)) e3

@@ -11,7 +11,7 @@ use Rattle.tpcc_model.specs.Payments.{Paid, PaymentCards, found_cards, found_row
 use Rattle.tpcc_model.specs.Staging.{◌>>=◌, known}
 use Rattle.tpcc_model.specs.Steps.{payment_outcome}
 use Rattle.tpcc_model.specs.Touches.{Agree, ArePlaced, paid_touch, payment_touch, touch_by}
-use Rattle.tpcc_model.proofs.Agreeing.{same_customer, same_district, same_warehouse}
+use Rattle.tpcc_model.proofs.Agreeing.{same_customer, same_district_ytd, same_warehouse}
 use Rattle.tpcc_model.proofs.Placing.{in_granule, placed-insert, placed-none}
 use Rattle.tpcc_model.proofs.Stages.{after-stage, same-stage}
 
@@ -25,7 +25,7 @@ module _ (p : Payment) (moment : ℕ) where
     same_rows c agree =
         let gs = (paid_touch p c).reads in
         same-stage _ _ _ _ (ap known (same_warehouse s t gs agree p.warehouse (inl refl))) λ warehouse e1.
-        same-stage _ _ _ _ (ap known (same_district s t gs agree p.warehouse p.district (inr (inl refl)))) λ district e2.
+        same-stage _ _ _ _ (ap known (same_district_ytd s t gs agree p.warehouse p.district (inr (inl refl)))) λ district e2.
         same-stage _ _ _ _ (ap known (same_customer s t gs agree p.customer_warehouse p.customer_district c (inr (inr (inl refl))))) λ customer e3. refl
 
     same_paid : (r : Result PaymentCards RequestRefusal) → Agree s t (touch_by (λ cards. paid_touch p cards.customer_id) r).reads → paid_by t r ≡ paid_by s r
@@ -46,7 +46,7 @@ module _ (p : Payment) (moment : ℕ) where
       after-stage P (paid_customer p c cards.customer.credit found.customer) _ none λ customer e4.
       placed-insert number gs _ (key.History number) _ (inl refl)
       (placed-insert number gs _ (key.Customer p.customer_warehouse p.customer_district c) _ (in_granule number gs _ (part.Customer p.customer_warehouse p.customer_district c) refl (inr (inr (inl refl))))
-      (placed-insert number gs _ (key.District p.warehouse p.district) _ (in_granule number gs _ (part.District p.warehouse p.district) refl (inr (inl refl)))
+      (placed-insert number gs _ (key.DistrictYtd p.warehouse p.district) _ (in_granule number gs _ (part.DistrictYtd p.warehouse p.district) refl (inr (inl refl)))
       (placed-insert number gs _ (key.Warehouse p.warehouse) _ (in_granule number gs _ (part.Warehouse p.warehouse) refl (inl refl))
       (placed-none number gs))))
 

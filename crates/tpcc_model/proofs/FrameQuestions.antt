@@ -18,11 +18,11 @@ use Rattle.requests.specs.declared.reply.ShownLine.{ShownLine}
 use Rattle.requests.specs.declared.reply.ShownOrder.{ShownOrder}
 use Rattle.tpcc_rows.specs.Picks.{latest}
 use Rattle.tpcc_rows.specs.RowMap.{Rows}
-use Rattle.tpcc_rows.specs.Rows.{customer_row, district_row, order_line_row, order_row, stock_row}
+use Rattle.tpcc_rows.specs.Rows.{customer_row, district_next_row, order_line_row, order_row, stock_row}
 use Rattle.tpcc_rows.specs.declared.granule.Granule.{Granule}
 use Rattle.tpcc_rows.specs.declared.granule.Granule.TheVariants as part
 use Rattle.tpcc_rows.specs.declared.row.CustomerRow.{CustomerRow}
-use Rattle.tpcc_rows.specs.declared.row.DistrictRow.{DistrictRow}
+use Rattle.tpcc_rows.specs.declared.row.DistrictNextRow.{DistrictNextRow}
 use Rattle.tpcc_rows.specs.declared.row.OrderRow.{OrderRow}
 use Rattle.tpcc_rows.specs.declared.row.OrderLineRow.{OrderLineRow}
 use Rattle.tpcc_model.specs.Choices.{chosen_customer}
@@ -31,7 +31,7 @@ use Rattle.tpcc_model.specs.OrderStatuses.{last_order, order_status, order_statu
 use Rattle.tpcc_model.specs.Staging.{◌>>=◌, known}
 use Rattle.tpcc_model.specs.StockLevels.{first_recent, is_below, is_low, low_items, stock_level, with_line, with_lines}
 use Rattle.tpcc_model.specs.Touches.{Agree, asked_customer, asked_touch, counted_touch, item_touch, line_touch, lines_touch, order_status_touch, orders_touch, recent_touch, stock_level_touch, touch_by}
-use Rattle.tpcc_model.proofs.Agreeing.{agree-part, same_customer, same_district, same_latest, same_order, same_order_line, same_stock}
+use Rattle.tpcc_model.proofs.Agreeing.{agree-part, same_customer, same_district_next, same_latest, same_order, same_order_line, same_stock}
 use Rattle.tpcc_model.proofs.Stages.{same-stage}
 
 -- ---- the order status
@@ -86,7 +86,7 @@ module _ (cards : Cards) (s t : Rows) (p : StockLevel) where
   abbrev on : Rows → Database
   on rows = database cards rows
 
-  abbrev counted_by : Rows → Option DistrictRow → Result StockLevelReply RequestRefusal
+  abbrev counted_by : Rows → Option DistrictNextRow → Result StockLevelReply RequestRefusal
   counted_by rows district = known district >>= λ r. Ok (record { low_stock = distinct_count nat_eq (low_items (on rows) p (first_recent r.next_order) (r.next_order - first_recent r.next_order)) })
 
   same_below : (item : ℕ) (card : Option StockCard) → Agree s t (item_touch p item card).reads → is_below p.threshold card (stock_row t p.warehouse item) ≡ is_below p.threshold card (stock_row s p.warehouse item)
@@ -124,33 +124,33 @@ module _ (cards : Cards) (s t : Rows) (p : StockLevel) where
     same_orders_touch first zero = refl
     same_orders_touch first (suc n) = ap₂ (λ (e f : Footprint Granule). joined e f) (same_orders_touch first n) (same_lines_touch (first + n) 15)
 
-    same_recent : (district : Option DistrictRow) → recent_touch (on t) p district ≡ recent_touch (on s) p district
+    same_recent : (district : Option DistrictNextRow) → recent_touch (on t) p district ≡ recent_touch (on s) p district
     same_recent None = refl
     same_recent (Some district) = same_orders_touch (first_recent district.next_order) (district.next_order - first_recent district.next_order)
 
-    same_counted : (district : Option DistrictRow) → ((g : Granule) → Has (recent_touch (on s) p district).reads g → Has gs g) → counted_by t district ≡ counted_by s district
+    same_counted : (district : Option DistrictNextRow) → ((g : Granule) → Has (recent_touch (on s) p district).reads g → Has gs g) → counted_by t district ≡ counted_by s district
     same_counted None part = refl
     same_counted (Some district) part = ap (λ (items : List ℕ). Ok (record { low_stock = distinct_count nat_eq items })) (same_low (first_recent district.next_order) (district.next_order - first_recent district.next_order) part)
 
   abbrev counted_with : Footprint Granule → Footprint Granule
-  counted_with recent = joined_all (reading (part.District p.warehouse p.district) ∷ reading (part.Book p.warehouse p.district) ∷ recent ∷ [])
+  counted_with recent = joined_all (reading (part.DistrictNext p.warehouse p.district) ∷ reading (part.Book p.warehouse p.district) ∷ recent ∷ [])
 
   same_counted_touch : Agree s t (counted_touch (on s) p).reads → counted_touch (on t) p ≡ counted_touch (on s) p
   same_counted_touch agree =
       let gs = (counted_touch (on s) p).reads in
-      ap counted_with (ap (recent_touch (on t) p) (same_district s t gs agree p.warehouse p.district (inl refl)) ∙ same_recent gs agree (inr (inl refl)) (district_row s p.warehouse p.district))
+      ap counted_with (ap (recent_touch (on t) p) (same_district_next s t gs agree p.warehouse p.district (inl refl)) ∙ same_recent gs agree (inr (inl refl)) (district_next_row s p.warehouse p.district))
 
   same_touched : (card : Option DistrictCard) → Agree s t (touch_by (λ card. counted_touch (on s) p) (known card)).reads → touch_by (λ card. counted_touch (on t) p) (known card) ≡ touch_by (λ card. counted_touch (on s) p) (known card)
   same_touched None agree = refl
   same_touched (Some card) agree = same_counted_touch agree
 
   same_level : (card : Option DistrictCard) → Agree s t (touch_by (λ card. counted_touch (on s) p) (known card)).reads
-      → (known card >>= λ card. counted_by t (district_row t p.warehouse p.district)) ≡ (known card >>= λ card. counted_by s (district_row s p.warehouse p.district))
+      → (known card >>= λ card. counted_by t (district_next_row t p.warehouse p.district)) ≡ (known card >>= λ card. counted_by s (district_next_row s p.warehouse p.district))
   same_level None agree = refl
   same_level (Some card) agree =
       let gs = (counted_touch (on s) p).reads in
-      let district = district_row s p.warehouse p.district in
-      ap (counted_by t) (same_district s t gs agree p.warehouse p.district (inl refl))
+      let district = district_next_row s p.warehouse p.district in
+      ap (counted_by t) (same_district_next s t gs agree p.warehouse p.district (inl refl))
       ∙ same_counted gs agree (inr (inl refl)) district (λ g h. inr (inr (Has-append (recent_touch (on s) p district).reads [] g h)))
 
 pub same_stock_level_touch : (cards : Cards) (s t : Rows) (p : StockLevel) → Agree s t (stock_level_touch (database cards s) p).reads → stock_level_touch (database cards t) p ≡ stock_level_touch (database cards s) p

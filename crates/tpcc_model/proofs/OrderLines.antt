@@ -166,15 +166,15 @@ module _ (db : Database) (sound : IsSound db) (w d : ℕ) where
 
   -- condition 4 of an order's district
   as_many : (o : ℕ) (order : OrderRow) → get db.rows (key.Order w d o) ≡ Some (row.Order order) → total (promised_share w d) db.rows ≡ total (line_share w d) db.rows
-  as_many o order has = there (get db.rows (key.District w d)) refl (sound.there (key.District w d) (sound.entries (key.Order w d o) (row.Order order) has).district)
+  as_many o order has = there (get db.rows (key.DistrictNext w d)) refl (sound.there (key.DistrictNext w d) (sound.entries (key.Order w d o) (row.Order order) has).district)
     where
-      at : (y : Row) → get db.rows (key.District w d) ≡ Some y → IsEntry db.cards db.rows (key.District w d) y → total (promised_share w d) db.rows ≡ total (line_share w d) db.rows
-      at (row.District r) is i = (sound.districts w d r is).lines
+      at : (y : Row) → get db.rows (key.DistrictNext w d) ≡ Some y → IsEntry db.cards db.rows (key.DistrictNext w d) y → total (promised_share w d) db.rows ≡ total (line_share w d) db.rows
+      at (row.DistrictNext r) is i = (sound.districts w d r is).lines
       at _ is i = absurd i
 
-      there : (x : Option Row) → get db.rows (key.District w d) ≡ x → IsSome x → total (promised_share w d) db.rows ≡ total (line_share w d) db.rows
+      there : (x : Option Row) → get db.rows (key.DistrictNext w d) ≡ x → IsSome x → total (promised_share w d) db.rows ≡ total (line_share w d) db.rows
       there None is some = cc
-      there (Some y) is some = at y is (sound.entries (key.District w d) y is)
+      there (Some y) is some = at y is (sound.entries (key.DistrictNext w d) y is)
 
   module _ (o n : ℕ) (order : OrderRow) (has : get db.rows (key.Order w d o) ≡ Some (row.Order order)) (from : 1 ≤ n) (to : n ≤ order.line_count) where
     abbrev with_one_more : Rows

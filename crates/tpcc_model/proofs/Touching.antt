@@ -14,9 +14,9 @@ use Rattle.tpcc_rows.specs.Footprints.{WritesAreRead}
 use Rattle.tpcc_rows.specs.Limits.{ten}
 use Rattle.tpcc_rows.specs.Picks.{oldest}
 use Rattle.tpcc_rows.specs.RowMap.{Rows}
-use Rattle.tpcc_rows.specs.Rows.{district_row, order_line_row, order_row}
+use Rattle.tpcc_rows.specs.Rows.{district_next_row, order_line_row, order_row}
 use Rattle.tpcc_rows.specs.declared.granule.Granule.{Granule}
-use Rattle.tpcc_rows.specs.declared.row.DistrictRow.{DistrictRow}
+use Rattle.tpcc_rows.specs.declared.row.DistrictNextRow.{DistrictNextRow}
 use Rattle.tpcc_rows.specs.declared.row.OrderLineRow.{OrderLineRow}
 use Rattle.tpcc_rows.specs.declared.row.OrderRow.{OrderRow}
 use Rattle.tpcc_model.specs.Database.{Database}
@@ -63,7 +63,7 @@ unfolding orders_touch
 orders_read db p first zero g h = h
 orders_read db p first (suc n) g h = both_read (orders_touch db p first n) _ (orders_read db p first n) (lines_read db p _ 15) g h
 
-recent_read : (db : Database) (p : StockLevel) (district : Option DistrictRow) → WritesAreRead (recent_touch db p district)
+recent_read : (db : Database) (p : StockLevel) (district : Option DistrictNextRow) → WritesAreRead (recent_touch db p district)
 recent_read db p None g h = h
 recent_read db p (Some district) g h = orders_read db p _ _ g h
 
@@ -76,4 +76,4 @@ read_too db (request.NewOrder p) = found_read _ (new_orders.found_cards db.cards
 read_too db (request.Payment p) = found_read _ (payments.found_cards db.cards p) (λ cards g h. h)
 read_too db (request.OrderStatus p) = found_read _ (asked_customer db.cards p) (λ c g h. absurd h)
 read_too db (request.Delivery p) = found_read _ (known (warehouse_card db.cards p.warehouse)) (λ card. all_read (district_touch db.rows p) ten (λ d. oldest_read db.rows p d (oldest db.rows p.warehouse d)))
-read_too db (request.StockLevel p) = found_read _ (known (district_card db.cards p.warehouse p.district)) (λ card g h. inr (inr (both_read (recent_touch db p (district_row db.rows p.warehouse p.district)) untouched (recent_read db p (district_row db.rows p.warehouse p.district)) (λ f k. k) g h)))
+read_too db (request.StockLevel p) = found_read _ (known (district_card db.cards p.warehouse p.district)) (λ card g h. inr (inr (both_read (recent_touch db p (district_next_row db.rows p.warehouse p.district)) untouched (recent_read db p (district_next_row db.rows p.warehouse p.district)) (λ f k. k) g h)))
