@@ -1,4 +1,4 @@
--- Payments and questions, which of them meet, and their cut.
+-- Payments, new orders and questions, which of them meet, and their cut.
 use Rattle.std.proofs.Common.{◌≡◌, ℕ, true, false, [], ◌∷◌, refl}
 use Rattle.serializability.specs.Footprints.{Footprint, writing}
 use Rattle.signatures_simd.specs.Bits.{bit}
@@ -6,7 +6,7 @@ use Rattle.tpcc_rows.specs.declared.granule.Granule.{Granule}
 use Rattle.tpcc_rows.specs.declared.granule.Granule.TheVariants as part
 use Rattle.requests.specs.declared.request.CustomerChoice.TheVariants as choice
 use Rattle.requests.specs.declared.request.Verdict.TheVariants as verdict
-use Rattle.tpcc_model.specs.Touches.{asked_touch, paid_touch}
+use Rattle.tpcc_model.specs.Touches.{asked_touch, paid_touch, placed_touch}
 use Rattle.executor.specs.LevelRuns.{cut_by, meets}
 use Rattle.executor.specs.Paths.{path_by}
 use Rattle.executor.specs.declared.path.Path.TheVariants as path
@@ -14,6 +14,10 @@ use Rattle.executor.specs.declared.path.Path.TheVariants as path
 -- what a payment of customer c touches, in the customer's own district
 abbrev paid : ℕ → ℕ → ℕ → Footprint Granule
 paid w d c = paid_touch (record { warehouse = w; district = d; customer_warehouse = w; customer_district = d; customer = choice.Number c; amount = 100 }) c
+
+-- a new order of one line, out of its own warehouse
+abbrev placed : ℕ → ℕ → ℕ → Footprint Granule
+placed w d c = placed_touch (record { warehouse = w; district = d; customer = c; lines = (record { item = 1; supply = w; quantity = 1 }) ∷ [] })
 
 -- and an order status
 abbrev asked : ℕ → ℕ → ℕ → Footprint Granule
@@ -32,6 +36,15 @@ two_warehouses : meets (paid 1 1 1) (paid 2 1 1) ≡ false
 unfolding bit
 two_warehouses = refl
 
+-- a payment and a new order of one district and customer share nothing, and two new orders share the district's next number
+paid_and_placed : meets (paid 1 1 1) (placed 1 1 1) ≡ false
+unfolding bit
+paid_and_placed = refl
+
+placed_twice : meets (placed 1 1 1) (placed 1 1 2) ≡ true
+unfolding bit
+placed_twice = refl
+
 -- a question meets a payment of its customer, and no question
 asked_and_paid : meets (asked 1 1 1) (paid 1 1 1) ≡ true
 unfolding bit
@@ -42,7 +55,7 @@ unfolding bit
 asked_twice = refl
 
 -- two granules of one bit
-one_bit : meets (writing (part.Stock 1 14)) (writing (part.District 1 5)) ≡ true
+one_bit : meets (writing (part.Stock 1 37)) (writing (part.DistrictYtd 1 4)) ≡ true
 unfolding bit
 one_bit = refl
 

@@ -13,7 +13,7 @@ use Rattle.tpcc_model.specs.Serial.{State, after_batch, batch_replies, serial}
 use Rattle.tpcc_model.specs.Soundness.{IsSound}
 use Rattle.tpcc_rows.specs.RowMap.{Rows}
 use Rattle.tpcc_rows.specs.declared.key.RowKey.TheVariants as key
-use Rattle.tpcc_rows.specs.declared.row.DistrictRow.{DistrictRow}
+use Rattle.tpcc_rows.specs.declared.row.DistrictNextRow.{DistrictNextRow}
 use Rattle.tpcc_rows.specs.declared.row.Row.TheVariants as row
 use Rattle.executor.specs.Paths.{path_of}
 use Rattle.executor.specs.declared.path.Path.{Path}
@@ -49,7 +49,7 @@ all_serially cards state (batch ∷ batches) = completed_serially cards state ba
 -- TPC-C's consistency conditions: the first for each warehouse, the second, third and fourth for each district
 pub record MeetsConditions (rows : Rows) : Type 0 where
   pub condition_1 : Condition1 rows
-  pub conditions_2_to_4 : (w d : ℕ) (r : DistrictRow) → map.get rows (key.District w d) ≡ Some (row.District r) → IsConsistent rows w d r.next_order
+  pub conditions_2_to_4 : (w d : ℕ) (r : DistrictNextRow) → map.get rows (key.DistrictNext w d) ≡ Some (row.DistrictNext r) → IsConsistent rows w d r.next_order
 
 -- the first of the batches were completed from this state on, as told, and the database is at the present state
 pub record Headline (cards : Cards) (start : State) (batches : List Batch) (told : List Completed) (present : State) : Type 0 where

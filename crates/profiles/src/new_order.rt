@@ -1,5 +1,5 @@
-//! New-Order (TPC-C clause 2.4): where each of its keys has a card, its district, the district's book and the stocks of
-//! its lines are written.
+//! New-Order (TPC-C clause 2.4): where each of its keys has a card, the number that its district has next, the
+//! district's book and the stocks of its lines are written.
 ghost use Rattle.std.specs.Prelude.{◌≡◌, is_ok, map, IfOk, OnOk};
 ghost use Rattle.std.specs.List.{list_all};
 ghost use Rattle.serializability.specs.Footprints.{joined, joined_all};
@@ -65,7 +65,7 @@ pub(crate) fn declare(alloc: Global, catalog: &Catalog, p: &NewOrder) -> Result<
         return Ok(footprint);
     }
     let (warehouse, district) = (p.warehouse, p.district);
-    footprint.write(Granule::District {
+    footprint.write(Granule::DistrictNext {
         warehouse,
         district,
     })?;

@@ -1,5 +1,5 @@
-//! Payment (TPC-C clause 2.5): where each of its keys has a card, its warehouse, its district and the customer, who may
-//! be of another district, are written.
+//! Payment (TPC-C clause 2.5): where each of its keys has a card, the sums of its warehouse and its district and the
+//! customer, who may be of another district, are written.
 ghost use Rattle.std.specs.Prelude.{◌≡◌, IfOk};
 ghost use Rattle.profiles.specs.Found.{paying_customer};
 ghost use Rattle.tpcc_model.specs.Database.{database};
@@ -41,7 +41,7 @@ pub(crate) fn declare(alloc: Global, catalog: &Catalog, p: &Payment) -> Result<F
     footprint.write(Granule::Warehouse {
         warehouse: p.warehouse,
     })?;
-    footprint.write(Granule::District {
+    footprint.write(Granule::DistrictYtd {
         warehouse: p.warehouse,
         district: p.district,
     })?;

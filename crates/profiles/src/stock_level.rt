@@ -1,5 +1,5 @@
-//! Stock-Level (TPC-C clause 2.8): where the district has a card, its row and its book are read, and the stocks of the
-//! items in the lines of its last twenty orders.
+//! Stock-Level (TPC-C clause 2.8): where the district has a card, the number that it has next and its book are read, and
+//! the stocks of the items in the lines of its last twenty orders.
 ghost use Rattle.std.specs.Prelude.{◌≡◌, Some, option_copied, IfOk, OnOk};
 ghost use Rattle.serializability.specs.Footprints.{joined};
 ghost use Rattle.tpcc_model.specs.Database.{database};
@@ -14,8 +14,8 @@ use tpcc_rows::footprint::Footprint;
 use tpcc_rows::granule::Granule;
 use tpcc_rows::id::OrderId;
 use tpcc_rows::memory::Memory;
-use tpcc_rows::row::{DistrictRow, OrderLineRow};
-use worker_rows::{district_row, order_line_row};
+use tpcc_rows::row::{DistrictNextRow, OrderLineRow};
+use worker_rows::{district_next_row, order_line_row};
 
 /// The stock of the line's item, where it has a card.
 fn touch_line(
@@ -60,7 +60,7 @@ fn touch_recent(
     catalog: &Catalog,
     p: &StockLevel,
     store: &PointedStore,
-    district: &DistrictRow,
+    district: &DistrictNextRow,
     footprint: &mut Footprint,
 ) -> Result<(), Memory>
     ensures { OnOk result (footprint.new ≡ joined footprint.old (recent_touch (database catalog.now store.now.rows) p.now (Some district.now))) }
@@ -87,7 +87,7 @@ pub(crate) fn declare(
     if catalog.district(warehouse, district).is_none() {
         return Ok(footprint);
     }
-    footprint.read(Granule::District {
+    footprint.read(Granule::DistrictNext {
         warehouse,
         district,
     })?;
@@ -95,7 +95,7 @@ pub(crate) fn declare(
         warehouse,
         district,
     })?;
-    if let Some(row) = district_row(store, warehouse, district) {
+    if let Some(row) = district_next_row(store, warehouse, district) {
         touch_recent(catalog, p, store, row, &mut footprint)?;
     }
     Ok(footprint)

@@ -11,7 +11,7 @@ use Rattle.requests.specs.declared.request.Payment.{Payment}
 use Rattle.requests.specs.declared.request.StockLevel.{StockLevel}
 use Rattle.tpcc_rows.specs.Limits.{ten}
 use Rattle.tpcc_rows.specs.RowMap.{Rows}
-use Rattle.tpcc_rows.specs.Rows.{district_row, order_line_row, order_row}
+use Rattle.tpcc_rows.specs.Rows.{district_next_row, order_line_row, order_row}
 use Rattle.tpcc_rows.specs.declared.granule.Granule.{Granule}
 use Rattle.tpcc_rows.specs.declared.granule.Granule.TheVariants as part
 use Rattle.tpcc_rows.specs.declared.row.OrderLineRow.{OrderLineRow}
@@ -31,18 +31,18 @@ pub covers_reading : (view : View) (g : Granule) → covers view (reading g) ≡
 covers_reading view g = and-true (may_read view g && true) ∙ and-true (may_read view g)
 
 pub covers_placed : (view : View) (p : NewOrder)
-    → covers view (placed_touch p) ≡ (covers view (writing (part.District p.warehouse p.district)) && (covers view (writing (part.Book p.warehouse p.district)) && list_all (λ line. covers view (ordered_touch line)) p.lines))
+    → covers view (placed_touch p) ≡ (covers view (writing (part.DistrictNext p.warehouse p.district)) && (covers view (writing (part.Book p.warehouse p.district)) && list_all (λ line. covers view (ordered_touch line)) p.lines))
 covers_placed view p =
-    let own = writing (part.District p.warehouse p.district) in
+    let next = writing (part.DistrictNext p.warehouse p.district) in
     let book = writing (part.Book p.warehouse p.district) in
-    covers-joined view own (joined book (joined_all (map ordered_touch p.lines)))
-    ∙ ap (λ b. covers view own && b) (covers-joined view book (joined_all (map ordered_touch p.lines)) ∙ ap (λ b. covers view book && b) (covers-map view ordered_touch p.lines))
+    covers-joined view next (joined book (joined_all (map ordered_touch p.lines)))
+    ∙ ap (λ b. covers view next && b) (covers-joined view book (joined_all (map ordered_touch p.lines)) ∙ ap (λ b. covers view book && b) (covers-map view ordered_touch p.lines))
 
 pub covers_paid : (view : View) (p : Payment) (c : ℕ)
-    → covers view (paid_touch p c) ≡ (covers view (writing (part.Warehouse p.warehouse)) && (covers view (writing (part.District p.warehouse p.district)) && covers view (writing (part.Customer p.customer_warehouse p.customer_district c))))
+    → covers view (paid_touch p c) ≡ (covers view (writing (part.Warehouse p.warehouse)) && (covers view (writing (part.DistrictYtd p.warehouse p.district)) && covers view (writing (part.Customer p.customer_warehouse p.customer_district c))))
 covers_paid view p c =
     let warehouse = writing (part.Warehouse p.warehouse) in
-    let district = writing (part.District p.warehouse p.district) in
+    let district = writing (part.DistrictYtd p.warehouse p.district) in
     let customer = writing (part.Customer p.customer_warehouse p.customer_district c) in
     covers-joined_all view (warehouse ∷ district ∷ customer ∷ [])
     ∙ ap (λ b. covers view warehouse && (covers view district && b)) (and-true (covers view customer))
@@ -65,13 +65,13 @@ pub covers_ten : (view : View) (rows : Rows) (p : Delivery) → covers view (joi
 covers_ten view rows p = covers-map view (district_touch rows p) ten
 
 pub covers_counted : (view : View) (db : Database) (p : StockLevel)
-    → covers view (counted_touch db p) ≡ (may_read view (part.District p.warehouse p.district) && (may_read view (part.Book p.warehouse p.district) && covers view (recent_touch db p (district_row db.rows p.warehouse p.district))))
+    → covers view (counted_touch db p) ≡ (may_read view (part.DistrictNext p.warehouse p.district) && (may_read view (part.Book p.warehouse p.district) && covers view (recent_touch db p (district_next_row db.rows p.warehouse p.district))))
 covers_counted view db p =
-    let district = reading (part.District p.warehouse p.district) in
+    let district = reading (part.DistrictNext p.warehouse p.district) in
     let book = reading (part.Book p.warehouse p.district) in
-    let recent = recent_touch db p (district_row db.rows p.warehouse p.district) in
+    let recent = recent_touch db p (district_next_row db.rows p.warehouse p.district) in
     covers-joined_all view (district ∷ book ∷ recent ∷ [])
-    ∙ ap₂ (λ a b. a && b) (covers_reading view (part.District p.warehouse p.district))
+    ∙ ap₂ (λ a b. a && b) (covers_reading view (part.DistrictNext p.warehouse p.district))
     (ap₂ (λ a b. a && b) (covers_reading view (part.Book p.warehouse p.district)) (and-true (covers view recent)))
 
 -- ---- one district after the other

@@ -6,7 +6,7 @@ use Rattle.std.specs.Set.{distinct_count, is_member}
 use Rattle.requests.specs.declared.request.StockLevel.{StockLevel}
 use Rattle.tpcc_model.specs.Database.{Database}
 use Rattle.tpcc_model.specs.StockLevels.{first_recent, low_items}
-use Rattle.tpcc_rows.specs.declared.row.DistrictRow.{DistrictRow}
+use Rattle.tpcc_rows.specs.declared.row.DistrictNextRow.{DistrictNextRow}
 
 -- the set has what the list has, and each once
 pub record IsHeld (set : BTreeSet ℕ) (items : List ℕ) : Type 0 where
@@ -18,5 +18,5 @@ abbrev pub HoldsToo : (List ℕ → List ℕ) → BTreeSet ℕ → BTreeSet ℕ 
 HoldsToo more old new = (items : List ℕ) → IsHeld old items → IsHeld new (more items)
 
 -- the low items of the district's last twenty orders
-abbrev pub recent_items : Database → StockLevel → DistrictRow → List ℕ
+abbrev pub recent_items : Database → StockLevel → DistrictNextRow → List ℕ
 recent_items db p district = low_items db p (first_recent district.next_order) (district.next_order - first_recent district.next_order)

@@ -4,7 +4,7 @@ ghost use Rattle.std.specs.FinMap as map;
 ghost use Rattle.serializability.specs.Footprints.{writing};
 ghost use Rattle.tpcc_rows.specs.Changing.{after};
 ghost use Rattle.tpcc_rows.specs.Picks.{latest, oldest};
-ghost use Rattle.tpcc_rows.specs.Rows.{customer_row, district_row, stock_row};
+ghost use Rattle.tpcc_rows.specs.Rows.{customer_row, district_next_row, stock_row};
 ghost use Rattle.transactions.specs.Lending.{lent};
 ghost use Rattle.worker_rows.specs.Views.{covers, may_read};
 
@@ -12,7 +12,7 @@ use tpcc_rows::delta::Delta;
 use tpcc_rows::granule::Granule;
 use tpcc_rows::id::{CustomerId, DistrictId, ItemId, OrderId, WarehouseId};
 use tpcc_rows::key::RowKey;
-use tpcc_rows::row::{CustomerRow, DistrictRow, Row, StockRow};
+use tpcc_rows::row::{CustomerRow, DistrictNextRow, Row, StockRow};
 use worker_rows::{KeyedRows, RowView, Strayed};
 
 /// The rows that a view lends. One that may not be read looks as if it weren't there.
@@ -53,20 +53,20 @@ impl<V: RowView> KeyedRows for Seen<'_, V> {
 }
 
 #[tactic(auto, using(crate::proofs::Lending::lent_row))]
-pub(crate) fn read_district<V: RowView>(
+pub(crate) fn read_district_next<V: RowView>(
     view: &V,
     warehouse: WarehouseId,
     district: DistrictId,
-) -> Result<Option<&DistrictRow>, Strayed>
-    ensures strays { is_ok result ≡ may_read (V.sees view.now) (Granule.District warehouse district) }
-    ensures row { IfOk result (λ row. option_copied row ≡ district_row (lent (V.sees view.now)) warehouse district) }
+) -> Result<Option<&DistrictNextRow>, Strayed>
+    ensures strays { is_ok result ≡ may_read (V.sees view.now) (Granule.DistrictNext warehouse district) }
+    ensures row { IfOk result (λ row. option_copied row ≡ district_next_row (lent (V.sees view.now)) warehouse district) }
 {
-    let key = RowKey::District {
+    let key = RowKey::DistrictNext {
         warehouse,
         district,
     };
     match view.read(&key)? {
-        Some(row) => Ok(row.as_district()),
+        Some(row) => Ok(row.as_district_next()),
         None => Ok(None),
     }
 }

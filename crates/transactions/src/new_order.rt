@@ -1,5 +1,5 @@
-//! New-Order (TPC-C clause 2.4): the cards of its keys are found, then the row of its district, then its lines are done
-//! in order, each on the rows as the earlier ones leave them.
+//! New-Order (TPC-C clause 2.4): the cards of its keys are found, then the number that its district has next, then its
+//! lines are done in order, each on the rows as the earlier ones leave them.
 ghost use Rattle.std.specs.Prelude.{◌≡◌, ◌<◌, ◌≤◌, ◌+◌, [], length, map, IfOk, OnOk};
 ghost use Rattle.std.specs.List.{list_all, sum_by};
 ghost use Rattle.requests.specs.declared.request.RequestKind.TheVariants as kind;
@@ -30,9 +30,9 @@ use tpcc_rows::id::{LineNumber, OrderId, WarehouseId};
 use tpcc_rows::key::RowKey;
 use tpcc_rows::memory::Memory;
 use tpcc_rows::number::{Cents, Moment};
-use tpcc_rows::row::{DistrictRow, OrderRow, Row, StockRow};
+use tpcc_rows::row::{DistrictNextRow, OrderRow, Row, StockRow};
 use tpcc_rows::total::total_cents;
-use worker_rows::{RowView, district_row, stock_row};
+use worker_rows::{RowView, district_next_row, stock_row};
 
 /// The cards of a new order's own keys.
 #[derive(Drop)]
@@ -59,11 +59,11 @@ fn own_cards<'a>(catalog: &'a Catalog, p: &NewOrder) -> Option<OwnCards<'a>>
 
 /// None where the limit is passed.
 #[tactic(auto, unfolding(tpcc_model::specs::NewOrders::raised_district))]
-fn raised_district(old: &DistrictRow) -> Option<DistrictRow>
+fn raised_district(old: &DistrictNextRow) -> Option<DistrictNextRow>
     ensures { within result ≡ raised_district old.now }
 {
     let next_order = old.next_order.next()?;
-    Some(DistrictRow { next_order, ..*old })
+    Some(DistrictNextRow { next_order })
 }
 
 fn all_local(warehouse: WarehouseId, lines: &[OrderedLine]) -> bool
@@ -158,25 +158,25 @@ fn lines_done<V: RowView>(
     Ok(())
 }
 
-/// What is made before the lines: the rows of the district, the order and the new order.
+/// What is made before the lines: the rows of the district's next number, the order and the new order.
 #[tactic(auto, unfolding(tpcc_model::specs::NewOrders::opened))]
 fn opened(
     alloc: Global,
     p: &NewOrder,
     moment: Moment,
     order: OrderId,
-    district_row: DistrictRow,
+    next_row: DistrictNextRow,
 ) -> Result<OrderSoFar, Memory>
-    ensures value { IfOk result (λ so_far. so_far_of so_far ≡ opened p.now moment order district_row) }
+    ensures value { IfOk result (λ so_far. so_far_of so_far ≡ opened p.now moment order next_row) }
     ensures none { IfOk result (λ so_far. so_far.lines ≡ []) }
 {
     let (warehouse, district) = (p.warehouse, p.district);
     let mut changes = Delta::new(alloc);
-    let district_key = RowKey::District {
+    let next_key = RowKey::DistrictNext {
         warehouse,
         district,
     };
-    changes.put(district_key, Row::District(district_row))?;
+    changes.put(next_key, Row::DistrictNext(next_row))?;
     let order_key = RowKey::Order {
         warehouse,
         district,
@@ -239,7 +239,7 @@ fn may_place<V: RowView>(view: &V, p: &NewOrder) -> bool
     ensures { result ≡ covers (V.sees view.now) (placed_touch p.now) }
 {
     let (warehouse, district) = (p.warehouse, p.district);
-    let own = Granule::District {
+    let next = Granule::DistrictNext {
         warehouse,
         district,
     };
@@ -247,7 +247,7 @@ fn may_place<V: RowView>(view: &V, p: &NewOrder) -> bool
         warehouse,
         district,
     };
-    lent::may_write(view, &own)
+    lent::may_write(view, &next)
         && lent::may_write(view, &book)
         && may_take_all(view, p.lines.as_slice())
 }
@@ -270,7 +270,7 @@ fn new_order<V: RowView>(
         return Err(Fault::Strayed);
     }
     let rows = Lent { view };
-    let Some(old) = district_row(&rows, p.warehouse, p.district) else {
+    let Some(old) = district_next_row(&rows, p.warehouse, p.district) else {
         return Err(Fault::Refused(RequestRefusal::UnknownKey));
     };
     let Some(raised) = raised_district(old) else {

@@ -27,9 +27,9 @@ use tpcc_rows::id::{CustomerId, RequestNumber};
 use tpcc_rows::key::RowKey;
 use tpcc_rows::memory::Memory;
 use tpcc_rows::number::{Amount, Moment};
-use tpcc_rows::row::{CustomerRow, DistrictRow, HistoryRow, Row, WarehouseRow};
+use tpcc_rows::row::{CustomerRow, DistrictYtdRow, HistoryRow, Row, WarehouseRow};
 use tpcc_rows::text::Text;
-use worker_rows::{KeyedRows, RowView, customer_row, district_row, warehouse_row};
+use worker_rows::{KeyedRows, RowView, customer_row, district_ytd_row, warehouse_row};
 
 /// The customer who pays, and the cards of a payment's keys.
 #[derive(Drop)]
@@ -44,7 +44,7 @@ pub(crate) struct PaymentCards<'a> {
 #[derive(Drop)]
 pub(crate) struct PaymentRows<'a> {
     pub warehouse: &'a WarehouseRow,
-    pub district: &'a DistrictRow,
+    pub district: &'a DistrictYtdRow,
     pub customer: &'a CustomerRow,
 }
 
@@ -52,7 +52,7 @@ pub(crate) struct PaymentRows<'a> {
 #[derive(Drop)]
 pub(crate) struct NewRows {
     pub warehouse: WarehouseRow,
-    pub district: DistrictRow,
+    pub district: DistrictYtdRow,
     pub customer: CustomerRow,
     pub history: HistoryRow,
     pub customer_id: CustomerId,
@@ -69,11 +69,11 @@ fn paid_warehouse(old: &WarehouseRow, amount: u32) -> Option<WarehouseRow>
 }
 
 #[tactic(auto, unfolding(tpcc_model::specs::Payments::paid_district))]
-fn paid_district(old: &DistrictRow, amount: u32) -> Option<DistrictRow>
+fn paid_district(old: &DistrictYtdRow, amount: u32) -> Option<DistrictYtdRow>
     ensures { within result ≡ paid_district old.now amount }
 {
     let ytd = old.ytd.raised(amount)?;
-    Some(DistrictRow { ytd, ..*old })
+    Some(DistrictYtdRow { ytd })
 }
 
 #[tactic(auto, using(tpcc_rows::proofs::Clips::then_clipped))]
@@ -176,7 +176,7 @@ fn may_pay<V: RowView>(view: &V, p: &Payment, customer: CustomerId) -> bool
     let warehouse = Granule::Warehouse {
         warehouse: p.warehouse,
     };
-    let district = Granule::District {
+    let district = Granule::DistrictYtd {
         warehouse: p.warehouse,
         district: p.district,
     };
@@ -220,7 +220,7 @@ fn found_rows<'a, R: KeyedRows>(
     let (of_warehouse, of_district) = (p.customer_warehouse, p.customer_district);
     Some(PaymentRows {
         warehouse: warehouse_row(rows, p.warehouse)?,
-        district: district_row(rows, p.warehouse, p.district)?,
+        district: district_ytd_row(rows, p.warehouse, p.district)?,
         customer: customer_row(rows, of_warehouse, of_district, customer)?,
     })
 }
@@ -306,11 +306,11 @@ fn payment_changes(
         warehouse: p.warehouse,
     };
     delta.put(warehouse, Row::Warehouse(rows.warehouse))?;
-    let district = RowKey::District {
+    let district = RowKey::DistrictYtd {
         warehouse: p.warehouse,
         district: p.district,
     };
-    delta.put(district, Row::District(rows.district))?;
+    delta.put(district, Row::DistrictYtd(rows.district))?;
     let customer = RowKey::Customer {
         warehouse: p.customer_warehouse,
         district: p.customer_district,

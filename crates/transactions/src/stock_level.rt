@@ -1,5 +1,5 @@
-//! Stock-Level (TPC-C clause 2.8): the card of its district is found, then its row, then the lines of the last twenty
-//! orders are read. It changes nothing.
+//! Stock-Level (TPC-C clause 2.8): the card of its district is found, then the number that the district has next, then
+//! the lines of the last twenty orders are read. It changes nothing.
 ghost use Rattle.std.specs.Prelude.{◌≡◌, ◌+◌, ◌≤◌, nat_eq, ◌∷◌, Some, is_ok, length, option_copied, IfOk, OnOk};
 ghost use Rattle.std.specs.Set.{distinct_count};
 ghost use Rattle.catalog.specs.Lookups.{stock_card};
@@ -23,7 +23,7 @@ use std::collections::BTreeSet;
 use tpcc_model::number::{line_number, order_id};
 use tpcc_rows::delta::Delta;
 use tpcc_rows::id::{ItemId, OrderId};
-use tpcc_rows::row::{DistrictRow, OrderLineRow};
+use tpcc_rows::row::{DistrictNextRow, OrderLineRow};
 use worker_rows::{RowView, Strayed, order_line_row};
 
 /// Whether the item's stock in the warehouse is low. One without a card is not looked at; few are low, so that the row is read before
@@ -104,7 +104,7 @@ fn low_stock<V: RowView>(
     catalog: &Catalog,
     view: &V,
     p: &StockLevel,
-    district: &DistrictRow,
+    district: &DistrictNextRow,
 ) -> Result<u32, Fault>
     ensures within { EndsWithin (covers (V.sees view.now) (recent_touch (lent_database catalog.now (V.sees view.now)) p.now (Some district.now))) result }
     ensures count { IfOk result (λ n. n ≡ distinct_count nat_eq (recent_items (lent_database catalog.now (V.sees view.now)) p.now district.now)) }
@@ -130,7 +130,7 @@ fn stock_level<V: RowView>(
     catalog
         .district(p.warehouse, p.district)
         .ok_or(RequestRefusal::UnknownKey)?;
-    let district = lent::read_district(view, p.warehouse, p.district)?;
+    let district = lent::read_district_next(view, p.warehouse, p.district)?;
     // The book is looked at, whether or not there are lines in it.
     lent::book(view, p.warehouse, p.district)?;
     let district = district.ok_or(RequestRefusal::UnknownKey)?;

@@ -27,5 +27,5 @@ returns-clause-value c =
     let rows = c.args.store.now.rows in
     let low = c.loop-leaf-test.false in
     let high = c.loop-leaf.auto.leaf-end in
-    let all : c.loop-leaf.leaf ≡ 4096 = omega (arith, low, high) in
+    let all : c.loop-leaf.leaf ≡ 65536 = omega (arith, low, high) in
     ap (λ n. n + 1) (c.loop-leaf.invariant.1 ∙ ap (λ n. unwrap_or (greatest_below history_pick rows n) 0) all ∙ ap (λ o. unwrap_or o 0) (greatest-leaves history_pick rows))
