@@ -1,7 +1,7 @@
 #!/usr/bin/env python3
-"""spoilt.py: spoils an image and batches a thousand times, from one seed, and says what each spoilt text must answer.
+"""spoilt.py: spoils images and batches a thousand times, from one seed, and says what each spoilt text must answer.
 
-Run at the repository's root, it writes crates/worked_cases/data/spoilt, the cases, and prints what they must show, which stands in
+The images are of one database, in either version. Run at the repository's root, it writes crates/worked_cases/data/spoilt, the cases, and prints what they must show, which stands in
 crates/worked_cases/stdout. The answers come from the reader below, which shares no code with the program: it is written from
 docs/FORMATS.md. An image that is still one answers the line of its check, with the token; batches that are still some answer how
 many there are."""
@@ -10,7 +10,7 @@ import random
 
 DATA = 'crates/worked_cases/data'
 SEED = 20_260_101
-IMAGES, BATCHES = 600, 400
+IMAGES, BATCHES = 300, 400
 
 # ---- records of a CSV text, as bytes -------------------------------------------------------------------------------------
 
@@ -102,9 +102,11 @@ W, D, C, I = number(1, 100), number(1, 10), number(1, 3000), number(1, 100_000)
 O, LINE, AMOUNT = number(1, 9_999_998), number(1, 15), number(0, 999_999)
 H = number(1, 999_999_999_999_999)
 
+NEXT = number(1, 9_999_999)
+DISTRICT = [W, D, text(10), RATE]
+
 COLUMNS = {
     b'W': [W, text(10), RATE, MONEY],
-    b'D': [W, D, text(10), RATE, MONEY, number(1, 9_999_999)],
     b'C': [W, D, C, text(16), text(2), text(16), one_of(b'GC', b'BC'), RATE, MONEY, MONEY, COUNT, COUNT, text(500)],
     b'I': [I, text(24), number(0, 99_999), text(50)],
     b'S': [W, I, number(-9999, 9999), COUNT, COUNT, COUNT, text(50)] + 10 * [text(24)],
@@ -113,23 +115,35 @@ COLUMNS = {
     b'L': [W, D, O, LINE, I, W, or_null(MOMENT), number(0, 99), AMOUNT, text(24)],
     b'H': [H, C, D, W, D, W, MOMENT, AMOUNT, text(24)],
 }
-KEY_LENGTH = {b'W': 1, b'D': 2, b'C': 3, b'I': 1, b'S': 2, b'O': 3, b'N': 3, b'L': 4, b'H': 1}
+COLUMNS_OF = {
+    b'1': {**COLUMNS, b'D': DISTRICT + [MONEY, NEXT]},
+    b'2': {**COLUMNS, b'D': DISTRICT, b'Y': [W, D, MONEY], b'X': [W, D, NEXT]},
+}
+KEY_LENGTH = {b'W': 1, b'D': 2, b'Y': 2, b'X': 2, b'C': 3, b'I': 1, b'S': 2, b'O': 3, b'N': 3, b'L': 4, b'H': 1}
 
 # ---- images --------------------------------------------------------------------------------------------------------------
 
 
-def read_record(kind, fields):
-    if kind not in COLUMNS or len(fields) != len(COLUMNS[kind]):
+def read_record(columns, kind, fields):
+    if kind not in columns or len(fields) != len(columns[kind]):
         raise Bad
-    return [read(field) for read, field in zip(COLUMNS[kind], fields)]
+    return [read(field) for read, field in zip(columns[kind], fields)]
+
+
+def put(tables, kind, key, columns):
+    """A district's columns that change stand in tables of their own, in either version."""
+    tables[kind][key] = columns
+    if kind == b'D' and len(columns) == 4:
+        tables[b'Y'][key], tables[b'X'][key] = columns[2:3], columns[3:]
 
 
 def fault_of_image(image):
     """The fault as its line says it, or the tables."""
-    tables, ended = {kind: {} for kind in COLUMNS}, False
+    tables, ended, columns = {kind: {} for kind in KEY_LENGTH}, False, None
     for n, record in enumerate(records(image), 1):
         if n == 1:
-            if record != [b'eve-tpcc', b'1']:
+            columns = COLUMNS_OF.get(record[1]) if len(record) == 2 and record[0] == b'eve-tpcc' else None
+            if columns is None:
                 return f'1 BadRecord at record {n}'
             continue
         kind, fields = record[0], record[1:]
@@ -141,7 +155,7 @@ def fault_of_image(image):
             ended = True
             continue
         try:
-            values = read_record(kind, fields)
+            values = read_record(columns, kind, fields)
         except Bad:
             return f'1 BadRecord at record {n}'
         except Beyond:
@@ -149,7 +163,7 @@ def fault_of_image(image):
         key = tuple(values[:KEY_LENGTH[kind]])
         if key in tables[kind]:
             return f'2 Duplicate at record {n}'
-        tables[kind][key] = values[KEY_LENGTH[kind]:]
+        put(tables, kind, key, values[KEY_LENGTH[kind]:])
     if not ended:
         return '8 Truncated'
     if lacks_a_parent(tables):
@@ -165,6 +179,7 @@ def lacks_a_parent(t):
     return not (
         all((x, y) in d for (x,) in w for y in range(1, 11))
         and all((x,) in w for x, _ in d)
+        and d.keys() == t[b'Y'].keys() == t[b'X'].keys()
         and all((x,) in w and (x, y) in d for x, y, _ in c)
         and all((x,) in w and (item,) in i for x, item in s)
         and all((x, y) in d and (x, y, row[0]) in c for (x, y, _), row in t[b'O'].items())
@@ -174,7 +189,7 @@ def lacks_a_parent(t):
 
 
 def condition_1(t):
-    return all(row[2] == sum(d[2] for (x, _), d in t[b'D'].items() if x == w) for (w,), row in t[b'W'].items())
+    return all(row[2] == sum(ytd for (x, _), (ytd,) in t[b'Y'].items() if x == w) for (w,), row in t[b'W'].items())
 
 
 def orders_of(t, kind, district):
@@ -182,8 +197,9 @@ def orders_of(t, kind, district):
 
 
 def condition_2(t):
-    return all(row[3] - 1 == max(orders_of(t, b'O', key), default=0)
-               and (not orders_of(t, b'N', key) or row[3] - 1 == max(orders_of(t, b'N', key))) for key, row in t[b'D'].items())
+    return all(after - 1 == max(orders_of(t, b'O', key), default=0)
+               and (not orders_of(t, b'N', key) or after - 1 == max(orders_of(t, b'N', key)))
+               for key, (after,) in t[b'X'].items())
 
 
 def condition_3(t):
@@ -214,15 +230,18 @@ def code(kind, *parts):
         b'W': lambda: (1 << 56) + w, b'D': lambda: (2 << 56) + wd, b'C': lambda: (3 << 56) + wd * 4096 + parts[2],
         b'S': lambda: (4 << 56) + w * (1 << 17) + parts[1], b'O': lambda: (5 << 56) + wd * (1 << 24) + parts[2],
         b'N': lambda: (6 << 56) + wd * (1 << 24) + parts[2], b'H': lambda: (8 << 56) + w,
-        b'L': lambda: (7 << 56) + (wd * (1 << 24) + parts[2]) * 16 + parts[3], b'I': lambda: (11 << 56) + w,
+        b'L': lambda: (7 << 56) + (wd * (1 << 24) + parts[2]) * 16 + parts[3], b'Y': lambda: (9 << 56) + wd,
+        b'X': lambda: (10 << 56) + wd, b'I': lambda: (11 << 56) + w,
     }[kind]()
 
 
 def row_bodies(t):
     for key, r in t[b'W'].items():
         yield code(b'W', *key), big(r[2], 8)
-    for key, r in t[b'D'].items():
-        yield code(b'D', *key), big(r[2], 8) + big(r[3], 4)
+    for key, (ytd,) in t[b'Y'].items():
+        yield code(b'Y', *key), big(ytd, 8)
+    for key, (after,) in t[b'X'].items():
+        yield code(b'X', *key), big(after, 4)
     for key, r in t[b'C'].items():
         yield code(b'C', *key), big(r[5], 8) + big(r[6], 8) + big(r[7], 4) + big(r[8], 4) + big(len(r[9]), 2) + r[9]
     for key, r in t[b'S'].items():
@@ -259,9 +278,9 @@ def sha(message):
 
 
 def root(rows):
-    leaves = [bytearray(b'\0') for _ in range(4096)]
+    leaves = [bytearray(b'\0') for _ in range(65_536)]
     for key, row in rows.items():
-        leaves[key * 0x9E3779B97F4A7C15 % 2**64 >> 52] += row
+        leaves[key * 0x9E3779B97F4A7C15 % 2**64 >> 48] += row
     nodes = [sha(leaf) for leaf in leaves]
     while len(nodes) > 1:
         nodes = [sha(b'\1' + left + right) for left, right in zip(nodes[::2], nodes[1::2])]
@@ -271,7 +290,7 @@ def root(rows):
 def line_of_image(t):
     rows = encoded(row_bodies(t))
     catalog = sha(b''.join(encoded(card_bodies(t)).values()))
-    token = sha(b'EVE-TPCC-1' + big(0, 8) + bytes(32) + catalog + root(rows) + sha(b''))
+    token = sha(b'EVE-TPCC-2' + big(0, 8) + bytes(32) + catalog + root(rows) + sha(b''))
     return f'ok {len(t[b"W"])} {len(rows)} {token.hex()}'
 
 
@@ -331,7 +350,7 @@ def fault_of_batches(batches):
 # ---- spoiling ------------------------------------------------------------------------------------------------------------
 
 PIECES = [b'0', b'9', b'1', b'-', b',', b'"', b'x', b'\n', b'\r', b'\0', b'\xff', b' ', b'00', b'-1', b'10', b'1000000000000000',
-          b'99999999999999999999999999', b'""', b'E,1\n', b'W,1,A,0,0\n', b'N,1,1,2\n']
+          b'99999999999999999999999999', b'""', b'E,1\n', b'W,1,A,0,0\n', b'N,1,1,2\n', b'D,1,3,,0\n', b'Y,1,3,0\n', b'X,1,11,1\n']
 
 
 def lines_of(text):
@@ -392,9 +411,11 @@ def spoil(text, count, answer_of, pick, cases, wanted):
 def main():
     rng = random.Random(SEED)
     pick = lambda below: int(rng.random() * below)
-    image = open(f'{DATA}/all_kinds.csv', 'rb').read()
-    cases, wanted = ['# An image, spoilt.', 'file all_kinds.csv'], ['# An image, spoilt.']
-    spoil(image, IMAGES, answer_of_image, pick, cases, wanted)
+    cases, wanted = [], []
+    for title, name in ('An image', 'all_kinds.csv'), ('The image in version 1', 'all_kinds.version_1.csv'):
+        cases += [f'# {title}, spoilt.', f'file {name}']
+        wanted += [f'# {title}, spoilt.']
+        spoil(open(f'{DATA}/{name}', 'rb').read(), IMAGES, answer_of_image, pick, cases, wanted)
     cases += ['# Batches, spoilt.', 'batches'] + [f'+ {record.decode()}' for record in REQUEST_RECORDS]
     wanted += ['# Batches, spoilt.']
     spoil(b''.join(record + b'\n' for record in REQUEST_RECORDS), BATCHES, answer_of_batches, pick, cases, wanted)

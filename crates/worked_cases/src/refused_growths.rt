@@ -22,7 +22,7 @@ P,1,2,1,1,I,1,100
 ";
 
 /// The line of the check.
-const LINE: &str = "ok 1 26 ba7bdc56d856e2d02dee1b537231a423790137c3d0d04061bbcdd7a588f2d1d0\n";
+const LINE: &str = "ok 1 36 8bb4441bdefe347b14dc6b4570f5205febb51501ff78c50ee37a4e36018bfe8d\n";
 
 /// The text of the run.
 const TEXT: &str = "1,new-order,ok,1,1553,10,G,100,11,G,200,12,G,300,13,G,400,14,G,500
@@ -31,9 +31,9 @@ const TEXT: &str = "1,new-order,ok,1,1553,10,G,100,11,G,200,12,G,300,13,G,400,14
 4,delivery,ok,1,-,-,-,-,-,-,-,-,-
 5,stock-level,ok,2
 6,payment,refused,2,Unknown key
-batch,1,reran,9b5fd4983a60fe341d8c32e2474b27401e590f9bdd7c4e367670963d3243df78
+batch,1,reran,bc4d3a69e7c12f844bfafc7d0ec406d8b0341ec769872f143d6fca09c63d8809
 7,payment,ok,1,-600,GC
-batch,2,parallel,edf328309a7e38ae0fce86a3ae788c8d2d4835676dc5c93ad5560a77a094ee8e
+batch,2,parallel,ef1675cd356dd8badbc4df4435c467552d32c16d41af84a165c78d4d4e0db995
 ";
 
 /// What comes of a call.

@@ -230,7 +230,7 @@ const OF_IMAGE: Calls<'static> = Calls {
     before: "call ",
     end: End::Stored,
     behind: " of the sink of the image fails",
-    count: 6,
+    count: 7,
 };
 
 const OF_TEXT: Calls<'static> = Calls {
