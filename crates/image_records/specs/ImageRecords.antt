@@ -1,5 +1,5 @@
 -- What a record of an image says.
-use Rattle.std.specs.Prelude.{Bool, true, false, ◌==◌, ℕ, List, Result, Ok, Err, codes, if◌then◌else◌}
+use Rattle.std.specs.Prelude.{Bool, true, false, ℕ, List, Result, Ok, Err, codes, if◌then◌else◌}
 use Rattle.csv.specs.Records.{field_at}
 use Rattle.records.specs.Fields.{Fields, ◌>>=◌, is_text, number_at, number_or_null_at, of_count, signed_at, text_at}
 use Rattle.records.specs.declared.fault.Slip.{Slip}
@@ -9,6 +9,8 @@ use Rattle.tpcc_rows.specs.declared.id.TheConstants.{LAST_REQUEST}
 use Rattle.image_records.specs.Columns.{credit_of, texts_at}
 use Rattle.image_records.specs.declared.image_record.ImageRecord.{ImageRecord}
 use Rattle.image_records.specs.declared.image_record.ImageRecord.TheVariants as said
+use Rattle.image_records.specs.declared.version.Version.{Version}
+use Rattle.image_records.specs.declared.version.Version.TheVariants as version
 
 -- `W,w,name,tax,ytd`
 unfoldable pub warehouse_fields : Fields → Result ImageRecord Slip
@@ -19,17 +21,42 @@ warehouse_fields fields = do
   ytd ← signed_at fields 4 most_cents
   Ok (said.Warehouse (record { warehouse = w; name = name; tax = tax }) (record { ytd = ytd }))
 
--- `D,w,d,name,tax,ytd,next`
+-- `D,w,d,name,tax`
 unfoldable pub district_fields : Fields → Result ImageRecord Slip
 district_fields fields = do
   w ← number_at fields 1 1 100
   d ← number_at fields 2 1 10
   name ← text_at fields 3 10
   tax ← number_at fields 4 0 9999
+  Ok (said.District (record { warehouse = w; district = d; name = name; tax = tax }))
+
+-- `Y,w,d,ytd`
+unfoldable pub district_ytd_fields : Fields → Result ImageRecord Slip
+district_ytd_fields fields = do
+  w ← number_at fields 1 1 100
+  d ← number_at fields 2 1 10
+  ytd ← signed_at fields 3 most_cents
+  Ok (said.DistrictYtd w d (record { ytd = ytd }))
+
+-- `X,w,d,next`
+unfoldable pub district_next_fields : Fields → Result ImageRecord Slip
+district_next_fields fields = do
+  w ← number_at fields 1 1 100
+  d ← number_at fields 2 1 10
+  next ← number_at fields 3 1 9999999
+  Ok (said.DistrictNext w d (record { next_order = next }))
+
+-- `D,w,d,name,tax,ytd,next`
+unfoldable pub whole_district_fields : Fields → Result ImageRecord Slip
+whole_district_fields fields = do
+  w ← number_at fields 1 1 100
+  d ← number_at fields 2 1 10
+  name ← text_at fields 3 10
+  tax ← number_at fields 4 0 9999
   ytd ← signed_at fields 5 most_cents
   next ← number_at fields 6 1 9999999
-  Ok (said.District
-      (record { warehouse = w; district = d; name = name; tax = tax }) (record { ytd = ytd; next_order = next }))
+  Ok (said.WholeDistrict
+      (record { warehouse = w; district = d; name = name; tax = tax }) (record { ytd = ytd }) (record { next_order = next }))
 
 -- `C,w,d,c,last,middle,first,credit,discount,balance,ytd_payment,payment_cnt,delivery_cnt,data`
 unfoldable pub customer_fields : Fields → Result ImageRecord Slip
@@ -164,21 +191,38 @@ history_fields fields = do
 abbrev pub is_kind : List ℕ → ℕ → Fields → Result Bool Slip
 is_kind kind count fields = if is_text kind (field_at fields 0) then of_count count fields (Ok true) else Ok false
 
--- what a record says of a row that goes with no card
-abbrev pub row_record_at : Fields → Result ImageRecord Slip
-row_record_at fields =
+-- in version 1 the record of a district has all its columns, in version 2 those of its card
+abbrev pub district_count : Version → ℕ
+district_count version.One = 7
+district_count version.Two = 5
+
+abbrev pub district_record_at : Version → Fields → Result ImageRecord Slip
+district_record_at version.One fields = whole_district_fields fields
+district_record_at version.Two fields = district_fields fields
+
+-- what a record says of a district's row, which has a record of its own in version 2 alone
+abbrev pub district_row_at : Version → Fields → Result ImageRecord Slip
+district_row_at version.One fields = Err slip.UnknownKind
+district_row_at version.Two fields =
+    if is_text (codes "Y") (field_at fields 0) then of_count 4 fields (district_ytd_fields fields)
+    else if is_text (codes "X") (field_at fields 0) then of_count 4 fields (district_next_fields fields)
+    else Err slip.UnknownKind
+
+-- what a record says of a row without a card
+abbrev pub row_record_at : Version → Fields → Result ImageRecord Slip
+row_record_at version fields =
     if is_text (codes "O") (field_at fields 0) then of_count 9 fields (order_fields fields)
     else if is_text (codes "N") (field_at fields 0) then of_count 4 fields (new_order_fields fields)
     else if is_text (codes "L") (field_at fields 0) then of_count 11 fields (order_line_fields fields)
     else if is_text (codes "H") (field_at fields 0) then of_count 10 fields (history_fields fields)
-    else Err slip.UnknownKind
+    else district_row_at version fields
 
 -- what a record says: its kind is told by its first field, and each kind has its number of fields
-abbrev pub record_at : Fields → Result ImageRecord Slip
-record_at fields =
+abbrev pub record_at : Version → Fields → Result ImageRecord Slip
+record_at version fields =
     if is_text (codes "W") (field_at fields 0) then of_count 5 fields (warehouse_fields fields)
-    else if is_text (codes "D") (field_at fields 0) then of_count 7 fields (district_fields fields)
+    else if is_text (codes "D") (field_at fields 0) then of_count (district_count version) fields (district_record_at version fields)
     else if is_text (codes "C") (field_at fields 0) then of_count 14 fields (customer_fields fields)
     else if is_text (codes "I") (field_at fields 0) then of_count 5 fields (item_fields fields)
     else if is_text (codes "S") (field_at fields 0) then of_count 18 fields (stock_fields fields)
-    else row_record_at fields
+    else row_record_at version fields

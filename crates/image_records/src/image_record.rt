@@ -2,10 +2,11 @@
 ghost use Rattle.std.specs.Prelude.{◌≡◌};
 ghost use Rattle.csv.specs.Records.{fields_of};
 ghost use Rattle.image_records.specs.Faults.{Reads};
-ghost use Rattle.image_records.specs.ImageRecords.{customer_fields, district_fields, history_fields, is_kind, item_fields, new_order_fields, order_fields, order_line_fields, record_at, row_record_at, stock_fields, warehouse_fields};
+ghost use Rattle.image_records.specs.ImageRecords.{customer_fields, district_count, district_fields, district_next_fields, district_record_at, district_row_at, district_ytd_fields, history_fields, is_kind, item_fields, new_order_fields, order_fields, order_line_fields, record_at, row_record_at, stock_fields, warehouse_fields, whole_district_fields};
 
 use crate::columns::{credit, district_infos};
 use crate::record_fault::RecordFault;
+use crate::version::Version;
 use catalog::card::{CustomerCard, DistrictCard, ItemCard, StockCard, WarehouseCard};
 use csv::ByteRecord;
 use records::fault::Slip;
@@ -17,7 +18,8 @@ use records::fields::{
 use std::alloc::Global;
 use tpcc_rows::id::{DistrictId, LineNumber, OrderId, RequestNumber, WarehouseId};
 use tpcc_rows::row::{
-    CustomerRow, DistrictRow, HistoryRow, OrderLineRow, OrderRow, StockRow, WarehouseRow,
+    CustomerRow, DistrictNextRow, DistrictYtdRow, HistoryRow, OrderLineRow, OrderRow, StockRow,
+    WarehouseRow,
 };
 
 /// What one record adds to a database.
@@ -29,7 +31,22 @@ pub enum ImageRecord {
     },
     District {
         card: DistrictCard,
-        row: DistrictRow,
+    },
+    DistrictYtd {
+        warehouse: WarehouseId,
+        district: DistrictId,
+        row: DistrictYtdRow,
+    },
+    DistrictNext {
+        warehouse: WarehouseId,
+        district: DistrictId,
+        row: DistrictNextRow,
+    },
+    /// A district's card and both its rows.
+    WholeDistrict {
+        card: DistrictCard,
+        ytd: DistrictYtdRow,
+        next: DistrictNextRow,
     },
     Customer {
         card: CustomerCard,
@@ -82,9 +99,9 @@ fn warehouse_record(fields: &ByteRecord) -> Result<ImageRecord, Slip>
     Ok(ImageRecord::Warehouse { card, row })
 }
 
-/// `D,w,d,name,tax,ytd,next`
+/// `D,w,d,name,tax`
 #[tactic(auto, unfolding(crate::specs::ImageRecords::district_fields))]
-fn district_record(fields: &ByteRecord) -> Result<ImageRecord, Slip>
+fn card_record(fields: &ByteRecord) -> Result<ImageRecord, Slip>
     ensures { result ≡ district_fields (fields_of fields.now) }
 {
     let card = DistrictCard {
@@ -93,11 +110,75 @@ fn district_record(fields: &ByteRecord) -> Result<ImageRecord, Slip>
         name: text(fields, 3)?,
         tax: rate(fields, 4)?,
     };
-    let row = DistrictRow {
+    Ok(ImageRecord::District { card })
+}
+
+/// `D,w,d,name,tax,ytd,next`
+#[tactic(auto, unfolding(crate::specs::ImageRecords::whole_district_fields))]
+fn whole_district_record(fields: &ByteRecord) -> Result<ImageRecord, Slip>
+    ensures { result ≡ whole_district_fields (fields_of fields.now) }
+{
+    let card = DistrictCard {
+        warehouse: warehouse(fields, 1)?,
+        district: district(fields, 2)?,
+        name: text(fields, 3)?,
+        tax: rate(fields, 4)?,
+    };
+    let ytd = DistrictYtdRow {
         ytd: cents(fields, 5)?,
+    };
+    let next = DistrictNextRow {
         next_order: next_order(fields, 6)?,
     };
-    Ok(ImageRecord::District { card, row })
+    Ok(ImageRecord::WholeDistrict { card, ytd, next })
+}
+
+/// What the record of a district says.
+fn district_record(version: Version, fields: &ByteRecord) -> Result<ImageRecord, Slip>
+    ensures { result ≡ district_record_at version (fields_of fields.now) }
+{
+    match version {
+        Version::One => whole_district_record(fields),
+        Version::Two => card_record(fields),
+    }
+}
+
+/// How many fields the record of a district has.
+fn district_count(version: Version) -> usize
+    ensures { result ≡ district_count version }
+{
+    match version {
+        Version::One => 7,
+        Version::Two => 5,
+    }
+}
+
+/// `Y,w,d,ytd`
+#[tactic(auto, unfolding(crate::specs::ImageRecords::district_ytd_fields))]
+fn district_ytd_record(fields: &ByteRecord) -> Result<ImageRecord, Slip>
+    ensures { result ≡ district_ytd_fields (fields_of fields.now) }
+{
+    Ok(ImageRecord::DistrictYtd {
+        warehouse: warehouse(fields, 1)?,
+        district: district(fields, 2)?,
+        row: DistrictYtdRow {
+            ytd: cents(fields, 3)?,
+        },
+    })
+}
+
+/// `X,w,d,next`
+#[tactic(auto, unfolding(crate::specs::ImageRecords::district_next_fields))]
+fn district_next_record(fields: &ByteRecord) -> Result<ImageRecord, Slip>
+    ensures { result ≡ district_next_fields (fields_of fields.now) }
+{
+    Ok(ImageRecord::DistrictNext {
+        warehouse: warehouse(fields, 1)?,
+        district: district(fields, 2)?,
+        row: DistrictNextRow {
+            next_order: next_order(fields, 3)?,
+        },
+    })
 }
 
 /// `C,w,d,c,last,middle,first,credit,discount,balance,ytd_payment,payment_cnt,delivery_cnt,data`
@@ -245,9 +326,26 @@ fn is_kind(fields: &ByteRecord, kind: &[u8], count: usize) -> Result<bool, Slip>
     Ok(true)
 }
 
-/// What the record says of a row that goes with no card.
-fn row_record(fields: &ByteRecord) -> Result<ImageRecord, Slip>
-    ensures { result ≡ row_record_at (fields_of fields.now) }
+/// What the record says of a district's row, which has a record of its own in version 2 alone.
+fn district_row_record(version: Version, fields: &ByteRecord) -> Result<ImageRecord, Slip>
+    ensures { result ≡ district_row_at version (fields_of fields.now) }
+{
+    match version {
+        Version::One => return Err(Slip::UnknownKind),
+        Version::Two => {}
+    }
+    if is_kind(fields, b"Y", 4)? {
+        return district_ytd_record(fields);
+    }
+    if is_kind(fields, b"X", 4)? {
+        return district_next_record(fields);
+    }
+    Err(Slip::UnknownKind)
+}
+
+/// What the record says of a row without a card.
+fn row_record(version: Version, fields: &ByteRecord) -> Result<ImageRecord, Slip>
+    ensures { result ≡ row_record_at version (fields_of fields.now) }
 {
     if is_kind(fields, b"O", 9)? {
         return order_record(fields);
@@ -261,18 +359,22 @@ fn row_record(fields: &ByteRecord) -> Result<ImageRecord, Slip>
     if is_kind(fields, b"H", 10)? {
         return history_record(fields);
     }
-    Err(Slip::UnknownKind)
+    district_row_record(version, fields)
 }
 
 /// What a record says that is neither the first nor the end record.
-pub fn image_record(alloc: Global, fields: &ByteRecord) -> Result<ImageRecord, RecordFault>
-    ensures { Reads (record_at (fields_of fields.now)) result }
+pub fn image_record(
+    alloc: Global,
+    version: Version,
+    fields: &ByteRecord,
+) -> Result<ImageRecord, RecordFault>
+    ensures { Reads (record_at version (fields_of fields.now)) result }
 {
     if is_kind(fields, b"W", 5)? {
         return Ok(warehouse_record(fields)?);
     }
-    if is_kind(fields, b"D", 7)? {
-        return Ok(district_record(fields)?);
+    if is_kind(fields, b"D", district_count(version))? {
+        return Ok(district_record(version, fields)?);
     }
     if is_kind(fields, b"C", 14)? {
         return Ok(customer_record(fields)?);
@@ -283,5 +385,5 @@ pub fn image_record(alloc: Global, fields: &ByteRecord) -> Result<ImageRecord, R
     if is_kind(fields, b"S", 18)? {
         return stock_record(alloc, fields);
     }
-    Ok(row_record(fields)?)
+    Ok(row_record(version, fields)?)
 }

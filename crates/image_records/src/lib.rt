@@ -5,6 +5,8 @@ mod columns;
 pub mod fault;
 pub mod image_record;
 pub mod record_fault;
+pub mod version;
 
 pub use fault::LoadError;
 pub use image_record::ImageRecord;
+pub use version::Version;
