@@ -18,7 +18,7 @@ use Rattle.tpcc_rows.specs.declared.key.RowKey.TheVariants as key
 use Rattle.tpcc_rows.specs.declared.row.Row.{Row}
 use Rattle.tpcc_rows.specs.declared.row.Row.TheVariants as row
 use Rattle.tpcc_rows.specs.declared.row.CustomerRow.{CustomerRow}
-use Rattle.tpcc_rows.specs.declared.row.DistrictRow.{DistrictRow}
+use Rattle.tpcc_rows.specs.declared.row.DistrictNextRow.{DistrictNextRow}
 use Rattle.tpcc_rows.specs.declared.row.OrderRow.{OrderRow}
 use Rattle.tpcc_rows.specs.declared.row.OrderLineRow.{OrderLineRow}
 use Rattle.tpcc_rows.proofs.Changes.{after-empty, after-insert, after-remove}
@@ -56,7 +56,7 @@ alike_new_orders v e (key.NewOrder w d o) r s = refl
 alike_new_orders v e _ r s = refl
 
 alike_payments : (v : ℕ) (k : RowKey) (r s : OrderLineRow) → district_share v k (row.OrderLine r) ≡ district_share v k (row.OrderLine s)
-alike_payments v (key.District w d) r s = refl
+alike_payments v (key.DistrictYtd w d) r s = refl
 alike_payments v _ r s = refl
 
 -- after a delivery in district d of warehouse w: the history is the same, and so are the new orders of the others
@@ -210,12 +210,12 @@ module _ (cards : Cards) (rows : Rows) (p : Delivery) (moment d o : ℕ) (change
       (λ x. quiet (key.NewOrder v e x) refl (λ s. cc) (λ s. cc) (λ s. (let a : v ≡ p.warehouse = cc in let b : e ≡ d = cc in far a b)))
       next (promised v e) (lines v e) (other_new_orders v e far) c
 
-  districts : (v e : ℕ) (r : DistrictRow) → get last (key.District v e) ≡ Some (row.District r) → IsConsistent last v e r.next_order
+  districts : (v e : ℕ) (r : DistrictNextRow) → get last (key.DistrictNext v e) ≡ Some (row.DistrictNext r) → IsConsistent last v e r.next_order
   districts v e r h =
-      let was : get m (key.District v e) ≡ Some (row.District r) = sym (quiet (key.District v e) refl (λ s. cc) (λ s. cc) (λ s. cc)) ∙ h in
-      let low = (sound.entries (key.District v e) (row.District r) was).2.0 in
+      let was : get m (key.DistrictNext v e) ≡ Some (row.DistrictNext r) = sym (quiet (key.DistrictNext v e) refl (λ s. cc) (λ s. cc) (λ s. cc)) ∙ h in
+      let low = (sound.entries (key.DistrictNext v e) (row.DistrictNext r) was).1.0 in
       let before = sound.districts v e r was in
-      elim (single.same_key row_key_cmp_total exact_keys (key.District v e) (key.District p.warehouse d)) [
+      elim (single.same_key row_key_cmp_total exact_keys (key.DistrictNext v e) (key.DistrictNext p.warehouse d)) [
         | inl s ↦
             let both : ◌≡◌ {A = ℕ × ℕ} (v, e) (p.warehouse, d) = cc in
             subst (λ (z : ℕ × ℕ). IsConsistent last z.0 z.1 r.next_order) (sym both) (own_district r.next_order low (subst (λ (z : ℕ × ℕ). IsConsistent m z.0 z.1 r.next_order) both before))

@@ -64,13 +64,14 @@ module _ (cards : Cards) where
   -- the parents in q, where each order is kept
   pub moved : (p q : Rows) → OrdersKept p q → (k : RowKey) (x : Row) → IsEntry cards p k x → IsEntry cards q k x
   moved p q kept (key.Warehouse w) (row.Warehouse r) i = i
-  moved p q kept (key.District w d) (row.District r) i = i
   moved p q kept (key.Customer w d c) (row.Customer r) i = i
   moved p q kept (key.Stock w n) (row.Stock r) i = i
   moved p q kept (key.Order w d o) (row.Order r) i = i
   moved p q kept (key.NewOrder w d o) row.NewOrder i = let to = kept w d o i.0 i.1 in (to.0, to.1)
   moved p q kept (key.OrderLine w d o n) (row.OrderLine r) i = moved_line p q kept w d o n r i
   moved p q kept (key.History n) (row.History r) i = i
+  moved p q kept (key.DistrictYtd w d) (row.DistrictYtd r) i = i
+  moved p q kept (key.DistrictNext w d) (row.DistrictNext r) i = i
   moved p q kept _ _ i = absurd i
 
   pub each-moved : (p q m : Rows) → OrdersKept p q → Each cards p m → Each cards q m

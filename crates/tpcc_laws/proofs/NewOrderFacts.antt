@@ -1,7 +1,7 @@
 -- What a new order that isn't refused found and made.
-use Rattle.std.proofs.Common.{◌≡◌, ◌+◌, ℕ, List, [], ◌∷◌, length, Some, IsSome, Ok, sym, ap, subst, ◌∙◌}
+use Rattle.std.proofs.Common.{◌≡◌, ◌+◌, ℕ, List, [], ◌∷◌, length, Option, Some, None, IsSome, Ok, sym, ap, subst, ◌∙◌}
 use Rattle.std.specs.List.{AllByRecursion}
-use Rattle.std.specs.Option.{ok_or}
+use Rattle.std.specs.Option.{ok_or, option_and_then}
 use Rattle.std.specs.FinMap.{get}
 use Rattle.catalog.specs.CardMap.{Cards}
 use Rattle.catalog.specs.Lookups.{warehouse_card, district_card, customer_card, item_card, stock_card}
@@ -9,10 +9,12 @@ use Rattle.requests.specs.declared.request.NewOrder.{NewOrder}
 use Rattle.requests.specs.declared.request.OrderedLine.{OrderedLine}
 use Rattle.requests.specs.declared.reply.RequestRefusal.TheVariants.{ItemNotValid}
 use Rattle.tpcc_rows.specs.Limits.{IsBetween, between}
-use Rattle.tpcc_rows.specs.Rows.{district_row}
+use Rattle.tpcc_rows.specs.RowKinds.{as_district_next}
+use Rattle.tpcc_rows.specs.Rows.{district_next_row}
 use Rattle.tpcc_rows.specs.declared.key.RowKey.TheVariants as key
+use Rattle.tpcc_rows.specs.declared.row.Row.{Row}
 use Rattle.tpcc_rows.specs.declared.row.Row.TheVariants as row
-use Rattle.tpcc_rows.specs.declared.row.DistrictRow.{DistrictRow}
+use Rattle.tpcc_rows.specs.declared.row.DistrictNextRow.{DistrictNextRow}
 use Rattle.tpcc_model.specs.Database.{Database}
 use Rattle.tpcc_model.specs.NewOrders.{LineCards, LineItem, PlacedOrder, OrderSoFar, found_cards, found_item, found_lines, found_stock, lines_done, new_order, new_order_reply, opened, raised_district}
 use Rattle.tpcc_model.specs.Soundness.{AreCards}
@@ -22,7 +24,6 @@ use Rattle.tpcc_laws.proofs.CardFacts.{info-limits}
 use Rattle.tpcc_laws.proofs.Doing.{ok-by, ok_or-ok, is_there, between-some}
 use Rattle.tpcc_laws.proofs.FoundLines.{found_lines-length}
 use Rattle.tpcc_laws.proofs.NewOrderLines.{IsFound}
-use Rattle.tpcc_laws.proofs.PaymentFacts.{district-there}
 
 -- ---- the lines
 items_found : (cards : Cards) (lines : List OrderedLine) (items : List LineItem) → AllByRecursion (λ (line : OrderedLine). IsBetween 1 10 line.quantity) lines → for_each (found_item cards) lines ≡ Ok items
@@ -63,6 +64,12 @@ lines_found cards p lines are few h =
     ok-by (for_each (found_item cards) p.lines) _ _ h λ items e1 h1.
     stocks_found cards p.district items lines are (items_found cards p.lines items few.quantities e1) h1
 
+-- ---- the district's next number
+district-there : (o : Option Row) (r : DistrictNextRow) → option_and_then as_district_next o ≡ Some r → o ≡ Some (row.DistrictNext r)
+district-there None r h = cc
+district-there (Some (row.DistrictNext x)) r h = cc
+district-there (Some _) r h = cc
+
 -- ---- the whole
 pub record IsPlacedOrder (db : Database) (p : NewOrder) (moment : ℕ) (made : PlacedOrder) : Type 0 where
   pub district : IsSome (district_card db.cards p.warehouse p.district)
@@ -70,26 +77,26 @@ pub record IsPlacedOrder (db : Database) (p : NewOrder) (moment : ℕ) (made : P
   pub lines : List LineCards
   pub found : AllByRecursion (IsFound db.cards p.district) lines
   pub count : length lines ≡ length p.lines
-  pub old : DistrictRow
-  pub has_district : get db.rows (key.District p.warehouse p.district) ≡ Some (row.District old)
+  pub old : DistrictNextRow
+  pub has_district : get db.rows (key.DistrictNext p.warehouse p.district) ≡ Some (row.DistrictNext old)
   pub next : IsBetween 1 9999999 (old.next_order + 1)
   pub last : OrderSoFar
-  pub done : lines_done db.rows p old.next_order 1 lines (opened p moment old.next_order (record old { next_order = old.next_order + 1 })) ≡ Ok last
+  pub done : lines_done db.rows p old.next_order 1 lines (opened p moment old.next_order (record { next_order = old.next_order + 1 })) ≡ Ok last
   pub changes : last.changes ≡ made.changes
 
-district-raised : (old new : DistrictRow) → raised_district old ≡ Ok new → (new ≡ record old { next_order = old.next_order + 1 }) × IsBetween 1 9999999 (old.next_order + 1)
+district-raised : (old new : DistrictNextRow) → raised_district old ≡ Ok new → (new ≡ record { next_order = old.next_order + 1 }) × IsBetween 1 9999999 (old.next_order + 1)
 unfolding raised_district
 district-raised old new h =
     ok-by (within (between 1 9999999 (old.next_order + 1))) _ _ h λ next e made.
     let n = between-some 1 9999999 (old.next_order + 1) next (ok_or-ok _ _ _ e) in
-    let is : ◌≡◌ {A = DistrictRow} (record old { next_order = next }) new = cc in
-    (sym is ∙ ap (λ (z : ℕ). record old { next_order = z }) (sym n.0), subst (IsBetween 1 9999999) (sym n.0) n.1)
+    let is : ◌≡◌ {A = DistrictNextRow} (record { next_order = next }) new = cc in
+    (sym is ∙ ap (λ (z : ℕ). record { next_order = z }) (sym n.0), subst (IsBetween 1 9999999) (sym n.0) n.1)
 
 pub order_found : (db : Database) (p : NewOrder) (moment : ℕ) (made : PlacedOrder) → AreCards db.cards → IsNewOrder p → new_order db p moment ≡ Ok made → IsPlacedOrder db p moment made
 unfolding new_order found_cards
 order_found db p moment made are few h =
     ok-by (found_cards db.cards p) _ _ h λ cards e0 h0.
-    ok-by (known (district_row db.rows p.warehouse p.district)) _ _ h0 λ old e1 h1.
+    ok-by (known (district_next_row db.rows p.warehouse p.district)) _ _ h0 λ old e1 h1.
     ok-by (raised_district old) _ _ h1 λ new e3 h3.
     ok-by (lines_done db.rows p old.next_order 1 cards.lines (opened p moment old.next_order new)) _ _ h3 λ last e2 h2.
     ok-by (known (warehouse_card db.cards p.warehouse)) _ _ e0 λ c1 e4 h4.
@@ -109,6 +116,6 @@ order_found db p moment made are few h =
       has_district = district-there _ old (ok_or-ok _ _ _ e1);
       next = raised.1;
       last = last;
-      done = subst (λ (z : DistrictRow). lines_done db.rows p old.next_order 1 cards.lines (opened p moment old.next_order z) ≡ Ok last) raised.0 e2;
+      done = subst (λ (z : DistrictNextRow). lines_done db.rows p old.next_order 1 cards.lines (opened p moment old.next_order z) ≡ Ok last) raised.0 e2;
       changes = ap (λ (z : PlacedOrder). z.changes) is;
     }

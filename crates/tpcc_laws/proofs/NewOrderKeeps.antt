@@ -10,12 +10,12 @@ use Rattle.tpcc_rows.specs.Changing.{after}
 use Rattle.tpcc_rows.specs.Limits.{IsBetween}
 use Rattle.tpcc_rows.specs.RowKinds.{as_warehouse}
 use Rattle.tpcc_rows.specs.RowMap.{Rows}
-use Rattle.tpcc_rows.specs.Totals.{total, share_at}
+use Rattle.tpcc_rows.specs.Totals.{total}
 use Rattle.tpcc_rows.specs.declared.key.RowKey.{RowKey}
 use Rattle.tpcc_rows.specs.declared.key.RowKey.TheVariants as key
 use Rattle.tpcc_rows.specs.declared.row.Row.{Row}
 use Rattle.tpcc_rows.specs.declared.row.Row.TheVariants as row
-use Rattle.tpcc_rows.specs.declared.row.DistrictRow.{DistrictRow}
+use Rattle.tpcc_rows.specs.declared.row.DistrictNextRow.{DistrictNextRow}
 use Rattle.tpcc_rows.specs.declared.row.OrderRow.{OrderRow}
 use Rattle.tpcc_rows.proofs.Changes.{after-empty, after-insert}
 use Rattle.tpcc_rows.proofs.Keys.{row_key_cmp_total, exact_keys}
@@ -60,8 +60,8 @@ other_district v w e d n = elim (cases_eq v w) [
   | inr a ↦ grind (arith, nat_tests)
 ]
 
-after-opened : (rows : Rows) (p : NewOrder) (moment o : ℕ) (new : DistrictRow) → after rows (opened p moment o new).changes
-    ≡ insert (insert (insert rows (key.District p.warehouse p.district) (row.District new)) (key.Order p.warehouse p.district o) (row.Order (order_of p moment))) (key.NewOrder p.warehouse p.district o) row.NewOrder
+after-opened : (rows : Rows) (p : NewOrder) (moment o : ℕ) (new : DistrictNextRow) → after rows (opened p moment o new).changes
+    ≡ insert (insert (insert rows (key.DistrictNext p.warehouse p.district) (row.DistrictNext new)) (key.Order p.warehouse p.district o) (row.Order (order_of p moment))) (key.NewOrder p.warehouse p.district o) row.NewOrder
 unfolding opened
 after-opened rows p moment o new = simp (after-insert, after-empty)
 
@@ -73,7 +73,7 @@ module _ (db : Database) (p : NewOrder) (moment : ℕ) (made : PlacedOrder) (sou
   o = f.old.next_order
 
   abbrev dk : RowKey
-  dk = key.District p.warehouse p.district
+  dk = key.DistrictNext p.warehouse p.district
 
   abbrev ok : RowKey
   ok = key.Order p.warehouse p.district o
@@ -81,15 +81,15 @@ module _ (db : Database) (p : NewOrder) (moment : ℕ) (made : PlacedOrder) (sou
   abbrev nk : RowKey
   nk = key.NewOrder p.warehouse p.district o
 
-  abbrev new : DistrictRow
-  new = record f.old { next_order = o + 1 }
+  abbrev new : DistrictNextRow
+  new = record { next_order = o + 1 }
 
   abbrev order : OrderRow
   order = order_of p moment
 
   -- the rows after each of the three changes, and after the lines
   abbrev m1 : Rows
-  m1 = insert rows dk (row.District new)
+  m1 = insert rows dk (row.DistrictNext new)
 
   abbrev m2 : Rows
   m2 = insert m1 ok (row.Order order)
@@ -107,10 +107,10 @@ module _ (db : Database) (p : NewOrder) (moment : ℕ) (made : PlacedOrder) (sou
   placed m k x = single.here row_key_cmp_total exact_keys m k x
 
   quiet : (k : RowKey) → (k ≡ nk → ⊥) → (k ≡ ok → ⊥) → (k ≡ dk → ⊥) → get m3 k ≡ get rows k
-  quiet k n m d = aside m2 nk row.NewOrder k n ∙ aside m1 ok (row.Order order) k m ∙ aside rows dk (row.District new) k d
+  quiet k n m d = aside m2 nk row.NewOrder k n ∙ aside m1 ok (row.Order order) k m ∙ aside rows dk (row.DistrictNext new) k d
 
   low : 1 ≤ o
-  low = (sound.entries dk (row.District f.old) f.has_district).2.0
+  low = (sound.entries dk (row.DistrictNext f.old) f.has_district).1.0
 
   book : IsBook rows p.warehouse p.district o
   book = book_of p.warehouse p.district rows o low (sound.districts p.warehouse p.district f.old f.has_district)
@@ -156,13 +156,13 @@ module _ (db : Database) (p : NewOrder) (moment : ℕ) (made : PlacedOrder) (sou
   -- each row is as it should be
   each : Each db.cards m3 m3
   each =
-      let i = sound.entries dk (row.District f.old) f.has_district in
+      let i = sound.entries dk (row.DistrictNext f.old) f.has_district in
       each-insert db.cards m3 m2 nk row.NewOrder
       (each-insert db.cards m3 m1 ok (row.Order order)
-      (each-insert db.cards m3 rows dk (row.District new) (each-moved db.cards rows m3 rows kept sound.entries) (i.0, i.1, f.next)) order_entry) (order, has_order)
+      (each-insert db.cards m3 rows dk (row.DistrictNext new) (each-moved db.cards rows m3 rows kept sound.entries) (i.0, f.next)) order_entry) (order, has_order)
 
   there : There db.cards m3
-  there = there-insert db.cards m2 nk row.NewOrder (there-insert db.cards m1 ok (row.Order order) (there-insert db.cards rows dk (row.District new) sound.there))
+  there = there-insert db.cards m2 nk row.NewOrder (there-insert db.cards m1 ok (row.Order order) (there-insert db.cards rows dk (row.DistrictNext new) sound.there))
 
   lines : IsLined db.cards m3 m3 last p.warehouse p.district (length p.lines)
   unfolding order_of
@@ -183,8 +183,8 @@ module _ (db : Database) (p : NewOrder) (moment : ℕ) (made : PlacedOrder) (sou
   promised v e =
       lines.shares (promised_share v e) (no_promise v e)
       ∙ total-same m2 nk (promised_share v e) row.NewOrder (no_share (promised_share v e nk) _ (λ x. refl))
-      ∙ total-new m1 ok (promised_share v e) (row.Order order) (aside rows dk (row.District new) ok (λ s. cc) ∙ no_order)
-      ∙ ap (λ z. z +ℤ counted (p.warehouse == v && p.district == e) (length p.lines)) (total-same rows dk (promised_share v e) (row.District new) (no_share (promised_share v e dk) _ (λ x. refl)))
+      ∙ total-new m1 ok (promised_share v e) (row.Order order) (aside rows dk (row.DistrictNext new) ok (λ s. cc) ∙ no_order)
+      ∙ ap (λ z. z +ℤ counted (p.warehouse == v && p.district == e) (length p.lines)) (total-same rows dk (promised_share v e) (row.DistrictNext new) (no_share (promised_share v e dk) _ (λ x. refl)))
 
   counted_lines : (v e : ℕ) → total (line_share v e) last ≡ total (line_share v e) rows +ℤ counted (p.warehouse == v && p.district == e) (length p.lines)
   counted_lines v e =
@@ -192,7 +192,7 @@ module _ (db : Database) (p : NewOrder) (moment : ℕ) (made : PlacedOrder) (sou
       ∙ ap (λ z. z +ℤ counted (p.warehouse == v && p.district == e) (length p.lines))
       (total-same m2 nk (line_share v e) row.NewOrder (no_share (line_share v e nk) _ (λ x. refl))
       ∙ total-same m1 ok (line_share v e) (row.Order order) (no_share (line_share v e ok) _ (λ x. refl))
-      ∙ total-same rows dk (line_share v e) (row.District new) (no_share (line_share v e dk) _ (λ x. refl)))
+      ∙ total-same rows dk (line_share v e) (row.DistrictNext new) (no_share (line_share v e dk) _ (λ x. refl)))
 
   no_new_order_yet : get rows nk ≡ None
   no_new_order_yet = none_by _ (λ x e. at x (sound.entries nk x e))
@@ -204,17 +204,17 @@ module _ (db : Database) (p : NewOrder) (moment : ℕ) (made : PlacedOrder) (sou
   new_orders : (v e : ℕ) → total (new_order_share v e) last ≡ total (new_order_share v e) rows +ℤ counted (p.warehouse == v && p.district == e) 1
   new_orders v e =
       lines.shares (new_order_share v e) (no_new_order v e)
-      ∙ total-new m2 nk (new_order_share v e) row.NewOrder (aside m1 ok (row.Order order) nk (λ s. cc) ∙ aside rows dk (row.District new) nk (λ s. cc) ∙ no_new_order_yet)
+      ∙ total-new m2 nk (new_order_share v e) row.NewOrder (aside m1 ok (row.Order order) nk (λ s. cc) ∙ aside rows dk (row.DistrictNext new) nk (λ s. cc) ∙ no_new_order_yet)
       ∙ ap (λ z. z +ℤ counted (p.warehouse == v && p.district == e) 1)
       (total-same m1 ok (new_order_share v e) (row.Order order) (no_share (new_order_share v e ok) _ (λ x. refl))
-      ∙ total-same rows dk (new_order_share v e) (row.District new) (no_share (new_order_share v e dk) _ (λ x. refl)))
+      ∙ total-same rows dk (new_order_share v e) (row.DistrictNext new) (no_share (new_order_share v e dk) _ (λ x. refl)))
 
   payments : (v : ℕ) → total (district_share v) last ≡ total (district_share v) rows
   payments v =
       lines.shares (district_share v) (no_payment v)
       ∙ total-same m2 nk (district_share v) row.NewOrder (no_share (district_share v nk) _ (λ x. refl))
       ∙ total-same m1 ok (district_share v) (row.Order order) (no_share (district_share v ok) _ (λ x. refl))
-      ∙ total-same rows dk (district_share v) (row.District new) (ap (share_at (district_share v dk)) f.has_district)
+      ∙ total-same rows dk (district_share v) (row.DistrictNext new) (no_share (district_share v dk) _ (λ x. refl))
 
   ytds : Condition1 last
   ytds v = subst₂ (λ (a : Option Row) (t : ℤ). IfSome (option_and_then as_warehouse a) (λ warehouse. warehouse.ytd ≡ t))
@@ -244,17 +244,17 @@ module _ (db : Database) (p : NewOrder) (moment : ℕ) (made : PlacedOrder) (sou
       (subst (λ z. total (new_order_share v e) last ≡ total (new_order_share v e) rows +ℤ counted z 1) t (new_orders v e) ∙ nothing_more _)
       c
 
-  districts : (v e : ℕ) (r : DistrictRow) → get last (key.District v e) ≡ Some (row.District r) → IsConsistent last v e r.next_order
+  districts : (v e : ℕ) (r : DistrictNextRow) → get last (key.DistrictNext v e) ≡ Some (row.DistrictNext r) → IsConsistent last v e r.next_order
   districts v e r h =
-      let now : get last (key.District v e) ≡ get m1 (key.District v e) = lines.elsewhere (key.District v e) refl ∙ aside m2 nk row.NewOrder (key.District v e) (λ s. cc) ∙ aside m1 ok (row.Order order) (key.District v e) (λ s. cc) in
-      elim (single.same_key row_key_cmp_total exact_keys (key.District v e) dk) [
+      let now : get last (key.DistrictNext v e) ≡ get m1 (key.DistrictNext v e) = lines.elsewhere (key.DistrictNext v e) refl ∙ aside m2 nk row.NewOrder (key.DistrictNext v e) (λ s. cc) ∙ aside m1 ok (row.Order order) (key.DistrictNext v e) (λ s. cc) in
+      elim (single.same_key row_key_cmp_total exact_keys (key.DistrictNext v e) dk) [
         | inl s ↦
-            let both : Some (row.District new) ≡ Some (row.District r) = sym (placed rows dk (row.District new)) ∙ ap (get m1) (sym s) ∙ sym now ∙ h in
+            let both : Some (row.DistrictNext new) ≡ Some (row.DistrictNext r) = sym (placed rows dk (row.DistrictNext new)) ∙ ap (get m1) (sym s) ∙ sym now ∙ h in
             let same : new ≡ r = cc in
-            let whole : ◌≡◌ {A = ℕ × ℕ × ℕ} (p.warehouse, p.district, o + 1) (v, e, r.next_order) = (let n : o + 1 ≡ r.next_order = ap (λ (z : DistrictRow). z.next_order) same in cc) in
+            let whole : ◌≡◌ {A = ℕ × ℕ × ℕ} (p.warehouse, p.district, o + 1) (v, e, r.next_order) = (let n : o + 1 ≡ r.next_order = ap (λ (z : DistrictNextRow). z.next_order) same in cc) in
             subst (λ (z : ℕ × ℕ × ℕ). IsConsistent last z.0 z.1 z.2) whole own_district
         | inr n ↦
-            let was : get rows (key.District v e) ≡ Some (row.District r) = sym (now ∙ aside rows dk (row.District new) (key.District v e) n) ∙ h in
+            let was : get rows (key.DistrictNext v e) ≡ Some (row.DistrictNext r) = sym (now ∙ aside rows dk (row.DistrictNext new) (key.DistrictNext v e) n) ∙ h in
             other_districts v e r.next_order (λ a b. n cc) (sound.districts v e r was)
       ]
 

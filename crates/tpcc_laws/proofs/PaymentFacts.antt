@@ -1,5 +1,5 @@
 -- What a payment that isn't refused found and made.
-use Rattle.std.proofs.Common.{◌≡◌, ◌≤◌, ◌<◌, ◌+◌, ◌^◌, ℕ, zero, suc, pos, ◌+ℤ◌, ◌-ℤ◌, List, [], ◌∷◌, ◌++◌, Option, Some, None, IsSome, Ok, refl, sym, ap, subst, ◌∙◌, arith, codes, decimal}
+use Rattle.std.proofs.Common.{◌≡◌, ◌≤◌, ◌<◌, ◌+◌, ◌^◌, ℕ, zero, suc, pos, ◌+ℤ◌, ◌-ℤ◌, List, [], ◌∷◌, ◌++◌, Option, Some, None, IsSome, Ok, sym, ap, subst, ◌∙◌, arith, codes, decimal}
 use Rattle.std.specs.Option.{option_and_then}
 use Rattle.std.specs.FinMap.{get}
 use Rattle.std.proofs.lemmas.List.Elements.{All-append}
@@ -11,14 +11,14 @@ use Rattle.catalog.specs.declared.card.Credit.TheVariants.{Good, Bad}
 use Rattle.requests.specs.declared.request.Payment.{Payment}
 use Rattle.tpcc_rows.specs.Limits.{IsBetween, IsCents, between, cents_of}
 use Rattle.tpcc_rows.specs.Texts.{ArePrintable, IsPrintable, IsText}
-use Rattle.tpcc_rows.specs.Rows.{warehouse_row, district_row, customer_row}
+use Rattle.tpcc_rows.specs.Rows.{warehouse_row, district_ytd_row, customer_row}
 use Rattle.tpcc_rows.specs.declared.key.RowKey.TheVariants as key
 use Rattle.tpcc_rows.specs.declared.row.Row.{Row}
 use Rattle.tpcc_rows.specs.declared.row.Row.TheVariants as row
 use Rattle.tpcc_rows.specs.declared.row.WarehouseRow.{WarehouseRow}
-use Rattle.tpcc_rows.specs.declared.row.DistrictRow.{DistrictRow}
+use Rattle.tpcc_rows.specs.declared.row.DistrictYtdRow.{DistrictYtdRow}
 use Rattle.tpcc_rows.specs.declared.row.CustomerRow.{CustomerRow}
-use Rattle.tpcc_rows.specs.RowKinds.{as_warehouse, as_district, as_customer}
+use Rattle.tpcc_rows.specs.RowKinds.{as_warehouse, as_district_ytd, as_customer}
 use Rattle.tpcc_rows.proofs.Clips.{clip-is, decimal_printable}
 use Rattle.tpcc_model.specs.Choices.{chosen_customer}
 use Rattle.tpcc_model.specs.Database.{Database}
@@ -35,9 +35,9 @@ warehouse-there None r h = cc
 warehouse-there (Some (row.Warehouse x)) r h = cc
 warehouse-there (Some _) r h = cc
 
-pub district-there : (o : Option Row) (r : DistrictRow) → option_and_then as_district o ≡ Some r → o ≡ Some (row.District r)
+district-there : (o : Option Row) (r : DistrictYtdRow) → option_and_then as_district_ytd o ≡ Some r → o ≡ Some (row.DistrictYtd r)
 district-there None r h = cc
-district-there (Some (row.District x)) r h = cc
+district-there (Some (row.DistrictYtd x)) r h = cc
 district-there (Some _) r h = cc
 
 pub customer-there : (o : Option Row) (r : CustomerRow) → option_and_then as_customer o ≡ Some r → o ≡ Some (row.Customer r)
@@ -54,13 +54,13 @@ warehouse-paid old new amount h =
     let is : ◌≡◌ {A = WarehouseRow} (record { ytd = ytd }) new = cc in
     subst (λ (r : WarehouseRow). (r.ytd ≡ old.ytd +ℤ pos amount) × IsCents r.ytd) is (sym sum.0, sum.1)
 
-district-paid : (old new : DistrictRow) (amount : ℕ) → paid_district old amount ≡ Ok new → (new.ytd ≡ old.ytd +ℤ pos amount) × IsCents new.ytd × (new.next_order ≡ old.next_order)
+district-paid : (old new : DistrictYtdRow) (amount : ℕ) → paid_district old amount ≡ Ok new → (new.ytd ≡ old.ytd +ℤ pos amount) × IsCents new.ytd
 unfolding paid_district
 district-paid old new amount h =
     ok-by (within (cents_of (old.ytd +ℤ pos amount))) _ _ h λ ytd e made.
     let sum = cents-some (old.ytd +ℤ pos amount) ytd (ok_or-ok _ _ _ e) in
-    let is : ◌≡◌ {A = DistrictRow} (record old { ytd = ytd }) new = cc in
-    subst (λ (r : DistrictRow). (r.ytd ≡ old.ytd +ℤ pos amount) × IsCents r.ytd × (r.next_order ≡ old.next_order)) is (sym sum.0, sum.1, refl)
+    let is : ◌≡◌ {A = DistrictYtdRow} (record { ytd = ytd }) new = cc in
+    subst (λ (r : DistrictYtdRow). (r.ytd ≡ old.ytd +ℤ pos amount) × IsCents r.ytd) is (sym sum.0, sum.1)
 
 -- ---- texts
 one_byte : (b : ℕ) → IsPrintable b → ArePrintable (b ∷ [])
@@ -123,13 +123,12 @@ pub record IsPaid (db : Database) (p : Payment) (number : ℕ) (paid : Paid) : T
   pub customer_card : IsSome (customer_card db.cards p.customer_warehouse p.customer_district paid.customer_id)
   pub old_warehouse : WarehouseRow
   pub has_warehouse : get db.rows (key.Warehouse p.warehouse) ≡ Some (row.Warehouse old_warehouse)
-  pub old_district : DistrictRow
-  pub has_district : get db.rows (key.District p.warehouse p.district) ≡ Some (row.District old_district)
+  pub old_district : DistrictYtdRow
+  pub has_district : get db.rows (key.DistrictYtd p.warehouse p.district) ≡ Some (row.DistrictYtd old_district)
   pub warehouse_ytd : paid.warehouse.ytd ≡ old_warehouse.ytd +ℤ pos p.amount
   pub district_ytd : paid.district.ytd ≡ old_district.ytd +ℤ pos p.amount
   pub warehouse : IsCents paid.warehouse.ytd
   pub district : IsCents paid.district.ytd
-  pub next : paid.district.next_order ≡ old_district.next_order
   pub customer : IsCustomerRow paid.customer
   pub history : IsHistory db.cards number paid.history
 
@@ -146,7 +145,7 @@ found db p number moment paid sound few numbered timed h =
     let card1 : c1 ≡ cards.warehouse = cc in
     let card2 : c2 ≡ cards.district = cc in
     ok-by (known (warehouse_row db.rows p.warehouse)) _ _ er λ w ew hw.
-    ok-by (known (district_row db.rows p.warehouse p.district)) _ _ hw λ d ed hd.
+    ok-by (known (district_ytd_row db.rows p.warehouse p.district)) _ _ hw λ d ed hd.
     ok-by (known (customer_row db.rows p.customer_warehouse p.customer_district cards.customer_id)) _ _ hd λ e ee he.
     let row1 : w ≡ rows.warehouse = cc in
     let row2 : d ≡ rows.district = cc in
@@ -180,12 +179,11 @@ found db p number moment paid sound few numbered timed h =
       old_warehouse = rows.warehouse;
       has_warehouse = warehouse-there _ rows.warehouse (ok_or-ok _ _ _ ew ∙ ap (λ (x : WarehouseRow). Some x) row1);
       old_district = rows.district;
-      has_district = district-there _ rows.district (ok_or-ok _ _ _ ed ∙ ap (λ (x : DistrictRow). Some x) row2);
+      has_district = district-there _ rows.district (ok_or-ok _ _ _ ed ∙ ap (λ (x : DistrictYtdRow). Some x) row2);
       warehouse_ytd = wp.0;
       district_ytd = dp.0;
       warehouse = wp.1;
       district = dp.1;
-      next = dp.2;
       customer = customer-paid p cards.customer_id cards.customer.credit rows.customer nc small (subst IsCustomerRow row3 was) enc;
       history = record {
         number = numbered;
