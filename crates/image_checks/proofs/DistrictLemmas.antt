@@ -10,7 +10,7 @@ use Rattle.tpcc_rows.specs.RowMap.{Rows}
 use Rattle.tpcc_rows.specs.Totals.{total}
 use Rattle.tpcc_rows.specs.declared.key.RowKey.{RowKey}
 use Rattle.tpcc_rows.specs.declared.key.RowKey.TheVariants as key
-use Rattle.tpcc_rows.specs.declared.row.DistrictRow.{DistrictRow}
+use Rattle.tpcc_rows.specs.declared.row.DistrictNextRow.{DistrictNextRow}
 use Rattle.tpcc_rows.specs.declared.row.Row.{Row}
 use Rattle.tpcc_rows.specs.declared.row.Row.TheVariants as row
 use Rattle.tpcc_rows.proofs.Keys.{exact_keys, row_key_cmp_total}
@@ -112,16 +112,16 @@ module _ (rows : Rows) (w d : ℕ) where
 
 -- rows that pass the tests are consistent, whatever else they have
 pub consistent : (rows : Rows) → next_orders_agree rows ≡ true → spans_agree rows ≡ true → line_counts_agree rows ≡ true
-    → (w d : ℕ) (r : DistrictRow) → get rows (key.District w d) ≡ Some (row.District r) → IsConsistent rows w d r.next_order
+    → (w d : ℕ) (r : DistrictNextRow) → get rows (key.DistrictNext w d) ≡ Some (row.DistrictNext r) → IsConsistent rows w d r.next_order
 unfolding next_orders_agree spans_agree line_counts_agree
 consistent rows nexts spans line_counts w d r there =
-    let next = passes row_key_cmp_total exact_keys (next_order_agrees rows) rows (key.District w d) (row.District r) nexts there in
+    let next = passes row_key_cmp_total exact_keys (next_order_agrees rows) rows (key.DistrictNext w d) (row.DistrictNext r) nexts there in
     let last_order = unwrap_or (greatest (order_numbers rows w d)) 0 == r.next_order - 1 in
     let last_new_order = option_map_or (λ o. o == r.next_order - 1) (greatest (new_order_numbers rows w d)) true in
     record {
       last_order = last-order rows w d (r.next_order - 1) (and-left last_order last_new_order next);
       last_new_order = last-new_order rows w d (r.next_order - 1) (and-right last_order last_new_order next);
-      new_orders = no-gap rows w d (total (new_order_share w d) rows) (passes row_key_cmp_total exact_keys (span_agrees rows) rows (key.District w d) (row.District r) spans there);
+      new_orders = no-gap rows w d (total (new_order_share w d) rows) (passes row_key_cmp_total exact_keys (span_agrees rows) rows (key.DistrictNext w d) (row.DistrictNext r) spans there);
       lines = (Decides-int_eq (total (promised_share w d) rows) (total (line_share w d) rows)).0
-          (passes row_key_cmp_total exact_keys (line_count_agrees rows) rows (key.District w d) (row.District r) line_counts there);
+          (passes row_key_cmp_total exact_keys (line_count_agrees rows) rows (key.DistrictNext w d) (row.DistrictNext r) line_counts there);
     }

@@ -3,7 +3,6 @@ use Rattle.std.specs.Prelude.{◌≡◌, ◌==◌, ◌<◌, ◌*◌, ◌+ℤ◌,
 use Rattle.std.specs.Ordering.{int_eq}
 use Rattle.std.specs.List.{list_all}
 use Rattle.std.specs.FinMap as map
-use Rattle.catalog.specs.CardMap.{Cards}
 use Rattle.catalog.specs.declared.card.Card.{Card}
 use Rattle.catalog.specs.declared.card.CardKey.{CardKey}
 use Rattle.catalog.specs.declared.card.CardKey.TheVariants as card_key
@@ -24,15 +23,21 @@ use Rattle.image_records.specs.Databases.{has_card, has_row}
 use Rattle.image_records.specs.declared.fault.LoadError.{LoadError}
 use Rattle.image_records.specs.declared.fault.LoadError.TheVariants as err
 
--- a warehouse has its ten districts, a district its warehouse, a customer its district, and a stock its warehouse and
--- its item
-abbrev pub card_has_parents : Cards → CardKey × Card → Bool
-card_has_parents cards (card_key.Warehouse w, _) = list_all (λ d. has_card cards (card_key.District w d)) ten
-card_has_parents cards (card_key.District w d, _) = has_card cards (card_key.Warehouse w)
-card_has_parents cards (card_key.Customer w d c, _) = has_card cards (card_key.District w d)
-card_has_parents cards (card_key.Stock w i, _) =
-    has_card cards (card_key.Warehouse w) && has_card cards (card_key.Item i)
-card_has_parents cards (card_key.Item i, _) = true
+-- a district's card has both its rows; those of other cards come with them
+abbrev pub has_own_rows : Rows → CardKey → Bool
+has_own_rows rows (card_key.District w d) = has_row rows (key.DistrictYtd w d) && has_row rows (key.DistrictNext w d)
+has_own_rows rows _ = true
+
+-- a warehouse has its ten districts, a district its warehouse and its rows, a customer its district, and a stock its
+-- warehouse and its item
+abbrev pub card_has_parents : Database → CardKey × Card → Bool
+card_has_parents db (card_key.Warehouse w, _) = list_all (λ d. has_card db.cards (card_key.District w d)) ten
+card_has_parents db (card_key.District w d, _) =
+    has_card db.cards (card_key.Warehouse w) && has_own_rows db.rows (card_key.District w d)
+card_has_parents db (card_key.Customer w d c, _) = has_card db.cards (card_key.District w d)
+card_has_parents db (card_key.Stock w i, _) =
+    has_card db.cards (card_key.Warehouse w) && has_card db.cards (card_key.Item i)
+card_has_parents db (card_key.Item i, _) = true
 
 -- an order that is there, and has at least so many lines
 abbrev pub has_line : ℕ → Option OrderRow → Bool
@@ -40,7 +45,7 @@ has_line number None = false
 has_line number (Some order) = nat_le number order.line_count
 
 -- an order has its district and its customer, a new order its order, an order line an order of at least so many lines
--- and its stock, and a row of HISTORY its customer and its district
+-- and its stock, a row of HISTORY its customer and its district, and each row of a district its district
 abbrev pub row_has_parents : Database → RowKey × Row → Bool
 row_has_parents db (key.Order w d o, row.Order r) =
     has_card db.cards (card_key.District w d) && has_card db.cards (card_key.Customer w d r.customer)
@@ -50,11 +55,13 @@ row_has_parents db (key.OrderLine w d o number, row.OrderLine r) =
 row_has_parents db (key.History number, row.History r) =
     has_card db.cards (card_key.Customer r.customer_warehouse r.customer_district r.customer)
     && has_card db.cards (card_key.District r.warehouse r.district)
+row_has_parents db (key.DistrictYtd w d, _) = has_card db.cards (card_key.District w d)
+row_has_parents db (key.DistrictNext w d, _) = has_card db.cards (card_key.District w d)
 row_has_parents db (_, _) = true
 
 unfoldable pub parents_there : Database → Bool
 parents_there db =
-    list_all (card_has_parents db.cards) (map.entries db.cards)
+    list_all (card_has_parents db) (map.entries db.cards)
     && list_all (row_has_parents db) (map.entries db.rows)
 
 -- condition 1: W_YTD of a warehouse is the sum of D_YTD over its districts

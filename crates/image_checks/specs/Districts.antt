@@ -32,7 +32,7 @@ follows_on next last_order last_new_order =
 
 -- condition 2: D_NEXT_O_ID - 1 is the greatest O_ID, 0 where there is none, and the greatest NO_O_ID where there is one
 abbrev pub next_order_agrees : Rows → RowKey × Row → Bool
-next_order_agrees rows (key.District w d, row.District r) =
+next_order_agrees rows (key.DistrictNext w d, row.DistrictNext r) =
     follows_on r.next_order (greatest (order_numbers rows w d)) (greatest (new_order_numbers rows w d))
 next_order_agrees rows (_, _) = true
 
@@ -43,13 +43,13 @@ are_without_gap _ _ count = true
 
 -- condition 3: the numbers of the new orders are without a gap
 abbrev pub span_agrees : Rows → RowKey × Row → Bool
-span_agrees rows (key.District w d, row.District r) =
+span_agrees rows (key.DistrictNext w d, row.DistrictNext r) =
     are_without_gap (least (new_order_numbers rows w d)) (greatest (new_order_numbers rows w d)) (total (new_order_share w d) rows)
 span_agrees rows (_, _) = true
 
 -- condition 4: the sum of O_OL_CNT is the number of the order lines
 abbrev pub line_count_agrees : Rows → RowKey × Row → Bool
-line_count_agrees rows (key.District w d, row.District r) = int_eq (total (promised_share w d) rows) (total (line_share w d) rows)
+line_count_agrees rows (key.DistrictNext w d, row.DistrictNext r) = int_eq (total (promised_share w d) rows) (total (line_share w d) rows)
 line_count_agrees rows (_, _) = true
 
 unfoldable pub next_orders_agree : Rows → Bool

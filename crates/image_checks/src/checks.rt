@@ -8,10 +8,10 @@ ghost use Rattle.tpcc_rows.specs.Limits.{IsCents, ten};
 ghost use Rattle.tpcc_rows.specs.RowKinds.{as_order};
 ghost use Rattle.tpcc_rows.specs.RowMap.{Rows};
 ghost use Rattle.records.specs.Fields.{IsWithin};
-ghost use Rattle.image_checks.specs.Checks.{AreSums, AreWithin, IsShare, card_has_parents, checked, has_line, parents_there, row_has_parents, sum_at, ytd_agrees, ytds_agree};
+ghost use Rattle.image_checks.specs.Checks.{AreSums, AreWithin, IsShare, card_has_parents, checked, has_line, has_own_rows, parents_there, row_has_parents, sum_at, ytd_agrees, ytds_agree};
 ghost use Rattle.image_checks.specs.Orders.{order_key, order_of};
 ghost use Rattle.image_records.specs.Faults.{IsOfText, StopsBy};
-ghost use Rattle.image_records.specs.Databases.{has_card};
+ghost use Rattle.image_records.specs.Databases.{has_card, has_row};
 ghost use Rattle.tpcc_model.specs.Database.{database};
 
 use crate::books::books_of;
@@ -53,14 +53,19 @@ fn has_ten_districts(catalog: &Catalog, warehouse: WarehouseId) -> bool
         .all(|district| has_district(catalog, warehouse, *district))
 }
 
-/// Whether the cards are there that a card goes with.
-fn card_has_parents(catalog: &Catalog, key: &CardKey, card: &Card) -> bool
-    ensures { result ≡ card_has_parents catalog.now (key.now, card.now) }
+/// Whether the cards and the rows are there that a card goes with. Whether the rows of a district are is passed.
+pub(crate) fn card_has_parents(
+    catalog: &Catalog,
+    has_rows: bool,
+    key: &CardKey,
+    card: &Card,
+) -> bool
+    ensures { (rows : Rows) → has_rows ≡ has_own_rows rows key.now → result ≡ card_has_parents (database catalog.now rows) (key.now, card.now) }
 {
     match *key {
         CardKey::Warehouse { warehouse } => has_ten_districts(catalog, warehouse),
         CardKey::District { warehouse, .. } => {
-            has_card(catalog, CardKey::Warehouse { warehouse })
+            has_card(catalog, CardKey::Warehouse { warehouse }) && has_rows
         }
         CardKey::Customer {
             warehouse,
@@ -168,16 +173,60 @@ pub(crate) fn row_has_parents(
                 row.customer,
             ) && has_district(catalog, row.warehouse, row.district)
         }
+        (
+            RowKey::DistrictYtd {
+                warehouse,
+                district,
+            },
+            _,
+        )
+        | (
+            RowKey::DistrictNext {
+                warehouse,
+                district,
+            },
+            _,
+        ) => has_district(catalog, *warehouse, *district),
         _ => true,
     }
 }
 
-/// Whether the cards are there that the cards go with.
-pub(crate) fn cards_have_parents(catalog: &Catalog) -> bool
-    ensures { result ≡ list_all (card_has_parents catalog.now) (map.entries catalog.now) }
+fn has_row(rows: &RowStore, key: RowKey) -> bool
+    ensures { result ≡ has_row rows.now key }
+{
+    rows.get(&key).is_some()
+}
+
+/// Whether the rows are there that the card of a district goes with.
+fn has_own_rows(rows: &RowStore, key: &CardKey) -> bool
+    ensures { result ≡ has_own_rows rows.now key.now }
+{
+    match *key {
+        CardKey::District {
+            warehouse,
+            district,
+        } => {
+            let ytd = RowKey::DistrictYtd {
+                warehouse,
+                district,
+            };
+            let next = RowKey::DistrictNext {
+                warehouse,
+                district,
+            };
+            has_row(rows, ytd) && has_row(rows, next)
+        }
+        _ => true,
+    }
+}
+
+/// Whether the cards and the rows are there that the cards go with.
+fn cards_have_parents(catalog: &Catalog, rows: &RowStore) -> bool
+    ensures { result ≡ list_all (card_has_parents (database catalog.now rows.now)) (map.entries catalog.now) }
 {
     for (key, card) in catalog.cards() {
-        if !card_has_parents(catalog, key, card) {
+        let has_rows = has_own_rows(rows, key);
+        if !card_has_parents(catalog, has_rows, key, card) {
             return false;
         }
     }
@@ -210,7 +259,7 @@ fn rows_have_parents(catalog: &Catalog, rows: &RowStore) -> bool
 fn parents_there(catalog: &Catalog, rows: &RowStore) -> bool
     ensures { result ≡ parents_there (database catalog.now rows.now) }
 {
-    cards_have_parents(catalog) && rows_have_parents(catalog, rows)
+    cards_have_parents(catalog, rows) && rows_have_parents(catalog, rows)
 }
 
 fn plus(sum: i128, amount: i64) -> i128
@@ -220,18 +269,20 @@ fn plus(sum: i128, amount: i64) -> i128
     sum + i128::from(amount)
 }
 
-/// The warehouse of a district's row, and what the row adds to its sum: D_YTD.
+/// The warehouse of a district, and what its row of D_YTD adds to the warehouse's sum.
 fn share(key: &RowKey, row: &Row) -> Option<(WarehouseId, Cents)>
     ensures none { IfNone result ((w : ℕ) → district_share w key.now row.now ≡ pos 0) }
     ensures some { IfSome result (IsShare key.now row.now) }
 {
     match (key, row) {
-        (RowKey::District { warehouse, .. }, Row::District(row)) => Some((*warehouse, row.ytd)),
+        (RowKey::DistrictYtd { warehouse, .. }, Row::DistrictYtd(row)) => {
+            Some((*warehouse, row.ytd))
+        }
         _ => None,
     }
 }
 
-/// Adds D_YTD of a district's row to the sum of its warehouse.
+/// Adds D_YTD of a district to the sum of its warehouse.
 pub(crate) fn add_share(sums: &mut Sums, key: &RowKey, row: &Row)
     requires { AreWithin (2 ^ 63) sums.old }
     ensures sums { (w : ℕ) → w < 101 → sum_at sums.new w ≡ sum_at sums.old w +ℤ district_share w key.now row.now }

@@ -14,11 +14,11 @@ pub(crate) fn next_order_agrees(books: &Books, key: &RowKey, row: &Row) -> bool
 {
     match (key, row) {
         (
-            RowKey::District {
+            RowKey::DistrictNext {
                 warehouse,
                 district,
             },
-            Row::District(row),
+            Row::DistrictNext(row),
         ) => book_of(books, *warehouse, *district).goes_before(row.next_order),
         _ => true,
     }
@@ -39,11 +39,11 @@ pub(crate) fn span_agrees(books: &Books, key: &RowKey, row: &Row) -> bool
 {
     match (key, row) {
         (
-            RowKey::District {
+            RowKey::DistrictNext {
                 warehouse,
                 district,
             },
-            Row::District(_),
+            Row::DistrictNext(_),
         ) => book_of(books, *warehouse, *district).has_no_gap(),
         _ => true,
     }
@@ -63,11 +63,11 @@ pub(crate) fn line_count_agrees(books: &Books, key: &RowKey, row: &Row) -> bool
 {
     match (key, row) {
         (
-            RowKey::District {
+            RowKey::DistrictNext {
                 warehouse,
                 district,
             },
-            Row::District(_),
+            Row::DistrictNext(_),
         ) => book_of(books, *warehouse, *district).has_all_lines(),
         _ => true,
     }

@@ -5,17 +5,19 @@ ghost use Rattle.std.specs.List.{list_all};
 ghost use Rattle.tpcc_rows.specs.Places.{IsPlaceOf, are_in_order};
 ghost use Rattle.tpcc_rows.specs.RowMap.{row_key_cmp};
 ghost use Rattle.image_checks.specs.Books.{AreBooks};
-ghost use Rattle.image_checks.specs.Checks.{AreSums, checked, parents_there, row_has_parents, ytds_agree};
+ghost use Rattle.image_checks.specs.Checks.{AreSums, card_has_parents, checked, has_own_rows, parents_there, row_has_parents, ytds_agree};
 ghost use Rattle.image_checks.specs.Districts.{line_counts_agree, next_orders_agree, spans_agree};
 ghost use Rattle.image_checks.specs.Orders.{order_of};
 ghost use Rattle.image_checks.specs.Sorted.{rows_in};
+ghost use Rattle.image_records.specs.Databases.{has_row};
 ghost use Rattle.image_records.specs.Faults.{IsOfText, StopsBy};
 ghost use Rattle.tpcc_model.specs.Database.{database};
 
 use crate::books::{Books, enter};
-use crate::checks::{Sums, add_share, cards_have_parents, order_key, row_has_parents, ytd_agrees};
+use crate::checks::{Sums, add_share, card_has_parents, order_key, row_has_parents, ytd_agrees};
 use crate::districts::{line_count_agrees, next_order_agrees, span_agrees};
 use catalog::Catalog;
+use catalog::card::CardKey;
 use image_records::fault::LoadError;
 use std::alloc::Global;
 use tpcc_rows::key::RowKey;
@@ -70,6 +72,52 @@ fn order_of<'a>(rows: &'a [(RowKey, Row)], key: &RowKey, guess: &mut usize) -> O
     found(rows, &order, guess)
 }
 
+fn has_row(rows: &[(RowKey, Row)], key: RowKey) -> bool
+    requires { are_in_order row_key_cmp rows.now ≡ true }
+    ensures { result ≡ has_row (rows_in rows.now) key }
+{
+    let mut guess = 0;
+    found(rows, &key, &mut guess).is_some()
+}
+
+/// Whether the rows are there that the card of a district goes with.
+fn has_own_rows(rows: &[(RowKey, Row)], key: &CardKey) -> bool
+    requires { are_in_order row_key_cmp rows.now ≡ true }
+    ensures { result ≡ has_own_rows (rows_in rows.now) key.now }
+{
+    match *key {
+        CardKey::District {
+            warehouse,
+            district,
+        } => {
+            let ytd = RowKey::DistrictYtd {
+                warehouse,
+                district,
+            };
+            let next = RowKey::DistrictNext {
+                warehouse,
+                district,
+            };
+            has_row(rows, ytd) && has_row(rows, next)
+        }
+        _ => true,
+    }
+}
+
+/// Whether the cards and the rows are there that the cards go with.
+fn cards_have_parents(catalog: &Catalog, rows: &[(RowKey, Row)]) -> bool
+    requires { are_in_order row_key_cmp rows.now ≡ true }
+    ensures { result ≡ list_all (card_has_parents (database catalog.now (rows_in rows.now))) (map.entries catalog.now) }
+{
+    for (key, card) in catalog.cards() {
+        let has_rows = has_own_rows(rows, key);
+        if !card_has_parents(catalog, has_rows, key, card) {
+            return false;
+        }
+    }
+    true
+}
+
 /// Whether the cards and the rows are there that the rows go with. Rows that stand together mostly go with one order, or with
 /// orders that stand together.
 fn rows_have_parents(catalog: &Catalog, rows: &[(RowKey, Row)]) -> bool
@@ -92,7 +140,7 @@ fn parents_there(catalog: &Catalog, rows: &[(RowKey, Row)]) -> bool
     requires { are_in_order row_key_cmp rows.now ≡ true }
     ensures { result ≡ parents_there (database catalog.now (rows_in rows.now)) }
 {
-    cards_have_parents(catalog) && rows_have_parents(catalog, rows)
+    cards_have_parents(catalog, rows) && rows_have_parents(catalog, rows)
 }
 
 /// The sum of D_YTD over the districts of each warehouse.
