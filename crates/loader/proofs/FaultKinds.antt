@@ -1,17 +1,19 @@
 -- The faults that a text can have.
-use Rattle.std.proofs.Common.{◌+◌, ℕ, List, [], ◌∷◌, Bool, true, false, cond, Result, Ok, Err, sym, subst, inl, inr}
+use Rattle.std.proofs.Common.{◌+◌, ℕ, List, [], ◌∷◌, Bool, true, false, cond, Option, Some, None, Result, Ok, Err, sym, subst, inl, inr}
 use Rattle.records.specs.Fields.{Fields}
 use Rattle.records.specs.Records.{records_in}
 use Rattle.records.specs.declared.fault.Slip.{Slip}
 use Rattle.records.specs.declared.fault.Slip.TheVariants as slip
 use Rattle.tpcc_model.specs.Database.{Database}
 use Rattle.image_records.specs.Faults.{IsOfText, StopsBy, fault_of}
-use Rattle.loader.specs.Image.{counts, ended, is_end, is_first, placed, read_all, read_from}
+use Rattle.loader.specs.Image.{counts, ended, is_end, placed, read_all, read_as, read_from}
 use Rattle.image_records.specs.ImageRecords.{record_at}
+use Rattle.image_records.specs.Versions.{version_of}
 use Rattle.loader.specs.Tables.{is_taken, no_tables, with_record}
 use Rattle.image_records.specs.declared.fault.LoadError.{LoadError}
 use Rattle.image_records.specs.declared.fault.LoadError.TheVariants as err
 use Rattle.image_records.specs.declared.image_record.ImageRecord.{ImageRecord}
+use Rattle.image_records.specs.declared.version.Version.{Version}
 
 -- an answer whose error, if it is one, is of this kind
 abbrev Faults : Result Database LoadError → Type 0
@@ -37,17 +39,21 @@ ended-faults : (rs : List Fields) (n : ℕ) (db : Database) → Faults (ended rs
 ended-faults [] n db = tt
 ended-faults (r ∷ rs) n db = tt
 
-read_from-faults : (rs : List Fields) (n : ℕ) (db : Database) → Faults (read_from rs n db)
+read_from-faults : (version : Version) (rs : List Fields) (n : ℕ) (db : Database) → Faults (read_from version rs n db)
 unfolding read_from
-read_from-faults [] n db = tt
-read_from-faults (r ∷ rs) n db = either (is_end r) _ _
+read_from-faults version [] n db = tt
+read_from-faults version (r ∷ rs) n db = either (is_end r) _ _
     (either (counts n r) (ended rs (n + 1) db) (Err (err.BadRecord n)) (ended-faults rs (n + 1) db) tt)
-    (placed-faults n db (record_at r) (read_from rs (n + 1)) (read_from-faults rs (n + 1)))
+    (placed-faults n db (record_at version r) (read_from version rs (n + 1)) (read_from-faults version rs (n + 1)))
+
+read_as-faults : (version : Option Version) (rs : List Fields) → Faults (read_as version rs)
+read_as-faults None rs = tt
+read_as-faults (Some version) rs = read_from-faults version rs 2 no_tables
 
 read_all-faults : (rs : List Fields) → Faults (read_all rs)
 unfolding read_all
 read_all-faults [] = tt
-read_all-faults (r ∷ rs) = either (is_first r) _ _ (read_from-faults rs 2 no_tables) tt
+read_all-faults (r ∷ rs) = read_as-faults (version_of r) rs
 
 -- what stops the records of a text is no fault of its source
 pub stops-of_records : (e : LoadError) (bytes : List ℕ) → StopsBy e (read_all (records_in bytes)) → IsOfText e

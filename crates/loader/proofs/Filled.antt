@@ -1,4 +1,5 @@
--- Tables as they are filled: each value is within its limits, and a row that goes with a card is there with it.
+-- Tables as they are filled: each value is within its limits, and a row that comes in its card's record is there with it. The rows of
+-- districts may come in records of their own.
 use Rattle.std.proofs.Common.{◌≡◌, ◌∙◌, ℕ, Option, Some, None, IsSome, IfSome, refl, sym, subst, inl, inr}
 use Rattle.std.specs.Cmp.{IsTotalOrder}
 use Rattle.std.specs.FinMap.{FinMap, IsAntisymmetric, get, get-empty, insert}
@@ -29,21 +30,22 @@ use Rattle.loader.specs.Tables.{no_tables, with_record}
 use Rattle.image_records.specs.declared.image_record.ImageRecord.{ImageRecord}
 use Rattle.image_records.specs.declared.image_record.ImageRecord.TheVariants as said
 
--- the key of the card that a row goes with
+-- the key of the card whose record a row comes in
 abbrev pub card_key_of : RowKey → Option CardKey
 card_key_of (key.Warehouse w) = Some (card_key.Warehouse w)
-card_key_of (key.District w d) = Some (card_key.District w d)
 card_key_of (key.Customer w d c) = Some (card_key.Customer w d c)
 card_key_of (key.Stock w i) = Some (card_key.Stock w i)
 card_key_of (key.Order w d o) = None
 card_key_of (key.NewOrder w d o) = None
 card_key_of (key.OrderLine w d o n) = None
 card_key_of (key.History n) = None
+card_key_of (key.DistrictYtd w d) = None
+card_key_of (key.DistrictNext w d) = None
 
--- the key of the row that a card goes with
+-- the key of the row that comes in a card's record
 abbrev pub row_key_of : CardKey → Option RowKey
 row_key_of (card_key.Warehouse w) = Some (key.Warehouse w)
-row_key_of (card_key.District w d) = Some (key.District w d)
+row_key_of (card_key.District w d) = None
 row_key_of (card_key.Customer w d c) = Some (key.Customer w d c)
 row_key_of (card_key.Stock w i) = Some (key.Stock w i)
 row_key_of (card_key.Item i) = None
@@ -75,13 +77,14 @@ pub record IsLineRow (n : ℕ) (r : OrderLineRow) : Type 0 where
 -- the row is of its key's kind, and within its limits
 abbrev pub IsLimited : RowKey → Row → Type 0
 IsLimited (key.Warehouse w) (row.Warehouse r) = IsCents r.ytd
-IsLimited (key.District w d) (row.District r) = IsCents r.ytd × IsBetween 1 9999999 r.next_order
 IsLimited (key.Customer w d c) (row.Customer r) = IsCustomerRow r
 IsLimited (key.Stock w i) (row.Stock r) = IsStockRow r
 IsLimited (key.Order w d o) (row.Order r) = IsOrderKey w d o × IsOrderRow r
 IsLimited (key.NewOrder w d o) row.NewOrder = IsOrderKey w d o
 IsLimited (key.OrderLine w d o n) (row.OrderLine r) = IsOrderKey w d o × IsLineRow n r
 IsLimited (key.History n) (row.History r) = IsHistoryRow n r
+IsLimited (key.DistrictYtd w d) (row.DistrictYtd r) = IsCents r.ytd
+IsLimited (key.DistrictNext w d) (row.DistrictNext r) = IsBetween 1 9999999 r.next_order
 IsLimited _ _ = ⊥
 
 pub record IsFilled (db : Database) : Type 0 where
@@ -94,7 +97,10 @@ pub record IsFilled (db : Database) : Type 0 where
 -- what a record says is within its limits
 abbrev pub IsRead : ImageRecord → Type 0
 IsRead (said.Warehouse c r) = IsCard (card.Warehouse c) × IsCents r.ytd
-IsRead (said.District c r) = IsCard (card.District c) × IsCents r.ytd × IsBetween 1 9999999 r.next_order
+IsRead (said.District c) = IsCard (card.District c)
+IsRead (said.DistrictYtd w d r) = IsCents r.ytd
+IsRead (said.DistrictNext w d r) = IsBetween 1 9999999 r.next_order
+IsRead (said.WholeDistrict c ytd next) = IsCard (card.District c) × IsCents ytd.ytd × IsBetween 1 9999999 next.next_order
 IsRead (said.Customer c r) = IsCard (card.Customer c) × IsCustomerRow r
 IsRead (said.Item c) = IsCard (card.Item c)
 IsRead (said.Stock c r) = IsCard (card.Stock c) × IsStockRow r
@@ -190,7 +196,15 @@ module _ (db : Database) (k : RowKey) (x : Row) (filled : IsFilled db) where
 -- the tables with what one more record says
 pub filled-more : (db : Database) (record_said : ImageRecord) → IsRead record_said → IsFilled db → IsFilled (with_record db record_said)
 filled-more db (said.Warehouse c r) h filled = filled-both db (card_key.Warehouse c.warehouse) (card.Warehouse c) (key.Warehouse c.warehouse) (row.Warehouse r) filled refl refl refl h.0 h.1
-filled-more db (said.District c r) h filled = filled-both db (card_key.District c.warehouse c.district) (card.District c) (key.District c.warehouse c.district) (row.District r) filled refl refl refl h.0 (h.1, h.2)
+filled-more db (said.District c) h filled = filled-card db (card_key.District c.warehouse c.district) (card.District c) filled refl refl h
+filled-more db (said.DistrictYtd w d r) h filled = filled-row db (key.DistrictYtd w d) (row.DistrictYtd r) filled refl h
+filled-more db (said.DistrictNext w d r) h filled = filled-row db (key.DistrictNext w d) (row.DistrictNext r) filled refl h
+filled-more db (said.WholeDistrict c ytd next) h filled =
+    let cards = insert db.cards (card_key.District c.warehouse c.district) (card.District c) in
+    let rows = insert db.rows (key.DistrictYtd c.warehouse c.district) (row.DistrictYtd ytd) in
+    let with_card = filled-card db (card_key.District c.warehouse c.district) (card.District c) filled refl refl h.0 in
+    let with_ytd = filled-row (database cards db.rows) (key.DistrictYtd c.warehouse c.district) (row.DistrictYtd ytd) with_card refl h.1 in
+    filled-row (database cards rows) (key.DistrictNext c.warehouse c.district) (row.DistrictNext next) with_ytd refl h.2
 filled-more db (said.Customer c r) h filled = filled-both db (card_key.Customer c.warehouse c.district c.customer) (card.Customer c) (key.Customer c.warehouse c.district c.customer) (row.Customer r) filled refl refl refl h.0 h.1
 filled-more db (said.Item c) h filled = filled-card db (card_key.Item c.item) (card.Item c) filled refl refl h
 filled-more db (said.Stock c r) h filled = filled-both db (card_key.Stock c.warehouse c.item) (card.Stock c) (key.Stock c.warehouse c.item) (row.Stock r) filled refl refl refl h.0 h.1

@@ -1,5 +1,5 @@
 -- The database of an image is sound.
-use Rattle.std.proofs.Common.{◌≡◌, ◌+◌, ℕ, List, [], ◌∷◌, Bool, true, false, not, cond, Result, Ok, Err, refl, subst}
+use Rattle.std.proofs.Common.{◌≡◌, ◌+◌, ℕ, List, [], ◌∷◌, Bool, true, false, not, cond, Option, Some, None, Result, Ok, Err, refl, subst}
 use Rattle.std.specs.Prelude.{IfOk}
 use Rattle.records.specs.Fields.{Fields}
 use Rattle.records.specs.Records.{records_in}
@@ -8,12 +8,14 @@ use Rattle.tpcc_model.specs.Database.{Database}
 use Rattle.tpcc_model.specs.Soundness.{IsSound}
 use Rattle.image_checks.specs.Checks.{parents_there, ytds_agree}
 use Rattle.image_checks.specs.Districts.{line_counts_agree, next_orders_agree, spans_agree}
-use Rattle.loader.specs.Image.{counts, ended, image, is_end, is_first, placed, read_all, read_from, tested}
+use Rattle.loader.specs.Image.{counts, ended, image, is_end, placed, read_all, read_as, read_from, tested}
 use Rattle.image_records.specs.ImageRecords.{record_at}
+use Rattle.image_records.specs.Versions.{version_of}
 use Rattle.loader.specs.Tables.{is_taken, no_tables, with_record}
 use Rattle.image_records.specs.declared.fault.LoadError.{LoadError}
 use Rattle.image_records.specs.declared.fault.LoadError.TheVariants as err
 use Rattle.image_records.specs.declared.image_record.ImageRecord.{ImageRecord}
+use Rattle.image_records.specs.declared.version.Version.{Version}
 use Rattle.loader.proofs.Filled.{IsFilled, IsRead, filled-more, filled-none}
 use Rattle.loader.proofs.RecordLimits.{record_at-limits}
 use Rattle.loader.proofs.Sound.{is-sound}
@@ -31,17 +33,21 @@ ended-filled : (rs : List Fields) (n : ℕ) (db : Database) → IsFilled db → 
 ended-filled [] n db filled = filled
 ended-filled (r ∷ rs) n db filled = tt
 
-read_from-filled : (rs : List Fields) (n : ℕ) (db : Database) → IsFilled db → IfOk (read_from rs n db) IsFilled
+read_from-filled : (version : Version) (rs : List Fields) (n : ℕ) (db : Database) → IsFilled db → IfOk (read_from version rs n db) IsFilled
 unfolding read_from
-read_from-filled [] n db filled = tt
-read_from-filled (r ∷ rs) n db filled = either IsFilled (is_end r) _ _
+read_from-filled version [] n db filled = tt
+read_from-filled version (r ∷ rs) n db filled = either IsFilled (is_end r) _ _
     (λ _. either IsFilled (counts n r) (ended rs (n + 1) db) (Err (err.BadRecord n)) (λ _. ended-filled rs (n + 1) db filled) (λ _. tt))
-    (λ _. placed-filled n db (record_at r) (read_from rs (n + 1)) (record_at-limits r) filled (read_from-filled rs (n + 1)))
+    (λ _. placed-filled n db (record_at version r) (read_from version rs (n + 1)) (record_at-limits version r) filled (read_from-filled version rs (n + 1)))
+
+read_as-filled : (version : Option Version) (rs : List Fields) → IfOk (read_as version rs) IsFilled
+read_as-filled None rs = tt
+read_as-filled (Some version) rs = read_from-filled version rs 2 no_tables filled-none
 
 read_all-filled : (rs : List Fields) → IfOk (read_all rs) IsFilled
 unfolding read_all
 read_all-filled [] = tt
-read_all-filled (r ∷ rs) = either IsFilled (is_first r) (read_from rs 2 no_tables) (Err (err.BadRecord 1)) (λ _. read_from-filled rs 2 no_tables filled-none) (λ _. tt)
+read_all-filled (r ∷ rs) = read_as-filled (version_of r) rs
 
 passed : (b : Bool) → not b ≡ false → b ≡ true
 passed true h = refl

@@ -17,7 +17,7 @@ use Rattle.tpcc_rows.specs.Places.{IsPlaceOf, are_in_order}
 use Rattle.tpcc_rows.specs.RowKinds.{fits}
 use Rattle.tpcc_rows.specs.RowMap.{row_key_cmp}
 use Rattle.tpcc_rows.specs.declared.key.RowKey.{RowKey}
-use Rattle.tpcc_rows.specs.declared.key.RowKey.TheVariants.{Warehouse, District, Customer, Stock, Order, NewOrder, OrderLine, History}
+use Rattle.tpcc_rows.specs.declared.key.RowKey.TheVariants.{Warehouse, Customer, Stock, Order, NewOrder, OrderLine, History, DistrictYtd, DistrictNext}
 use Rattle.tpcc_rows.specs.declared.row.Row.{Row}
 use Rattle.tpcc_rows.proofs.Keys.{exact_keys, row_key_cmp_total}
 use Rattle.tpcc_rows.proofs.Places.{entries-map_of, got, got-none}
@@ -45,13 +45,14 @@ in-order false h = absurd h
 -- ---- the order of keys of two kinds
 by_kinds : (a b : RowKey) → row_key_cmp a b ≡ ordering_then (nat_cmp (kind a) (kind b)) (row_key_cmp a b)
 by_kinds (Warehouse w) (Warehouse v) = refl
-by_kinds (District w d) (District v e) = refl
 by_kinds (Customer w d c) (Customer v e b) = refl
 by_kinds (Stock w i) (Stock v j) = refl
 by_kinds (Order w d o) (Order v e p) = refl
 by_kinds (NewOrder w d o) (NewOrder v e p) = refl
 by_kinds (OrderLine w d o n) (OrderLine v e p m) = refl
 by_kinds (History n) (History m) = refl
+by_kinds (DistrictYtd w d) (DistrictYtd v e) = refl
+by_kinds (DistrictNext w d) (DistrictNext v e) = refl
 by_kinds a b = refl
 
 kinds_rise : (a b : RowKey) → kind a < kind b → row_key_cmp a b ≡ Less

@@ -9,8 +9,10 @@ use Rattle.records.specs.declared.fault.Slip.TheVariants as slip
 use Rattle.tpcc_rows.specs.Limits.{IsBetween, IsCents, IsStockQuantity}
 use Rattle.tpcc_rows.specs.Texts.{IsText}
 use Rattle.image_records.specs.Columns.{credit_of, texts_at}
-use Rattle.image_records.specs.ImageRecords.{customer_fields, district_fields, history_fields, item_fields, new_order_fields, order_fields, order_line_fields, record_at, stock_fields, warehouse_fields}
+use Rattle.image_records.specs.ImageRecords.{customer_fields, district_count, district_fields, district_next_fields, district_record_at, district_row_at, district_ytd_fields, history_fields, item_fields, new_order_fields, order_fields, order_line_fields, record_at, stock_fields, warehouse_fields, whole_district_fields}
 use Rattle.image_records.specs.declared.image_record.ImageRecord.{ImageRecord}
+use Rattle.image_records.specs.declared.version.Version.{Version}
+use Rattle.image_records.specs.declared.version.Version.TheVariants as version
 use Rattle.loader.proofs.FieldLimits.{any-gives, cents_at-within, number_at-within, number_or_null_at-within, quantity_at-within, text_at-within, texts_at-within, then-gives}
 use Rattle.loader.proofs.Filled.{IsRead}
 
@@ -44,6 +46,28 @@ module _ (fields : Fields) where
   district : IfOk (district_fields fields) IsRead
   unfolding district_fields
   district =
+      number 1 1 100 _ (λ w w_is.
+      number 2 1 10 _ (λ d d_is.
+      text 3 10 _ (λ name name_is.
+      number 4 0 9999 _ (λ tax tax_is. (w_is, d_is, name_is, tax_is)))))
+
+  district_ytd : IfOk (district_ytd_fields fields) IsRead
+  unfolding district_ytd_fields
+  district_ytd =
+      number 1 1 100 _ (λ w w_is.
+      number 2 1 10 _ (λ d d_is.
+      cents 3 _ (λ ytd ytd_is. ytd_is)))
+
+  district_next : IfOk (district_next_fields fields) IsRead
+  unfolding district_next_fields
+  district_next =
+      number 1 1 100 _ (λ w w_is.
+      number 2 1 10 _ (λ d d_is.
+      number 3 1 9999999 _ (λ next next_is. next_is)))
+
+  whole_district : IfOk (whole_district_fields fields) IsRead
+  unfolding whole_district_fields
+  whole_district =
       number 1 1 100 _ (λ w w_is.
       number 2 1 10 _ (λ d d_is.
       text 3 10 _ (λ name name_is.
@@ -167,14 +191,24 @@ module _ (fields : Fields) where
   counted : (count : ℕ) (said : Result ImageRecord Slip) → IfOk said IsRead → IfOk (of_count count fields said) IsRead
   counted count said h = kind (length fields == count) said (Err slip.WrongCount) h tt
 
-  pub record_at-limits : IfOk (record_at fields) IsRead
-  record_at-limits =
+  district_record : (version : Version) → IfOk (district_record_at version fields) IsRead
+  district_record version.One = whole_district
+  district_record version.Two = district
+
+  district_row : (version : Version) → IfOk (district_row_at version fields) IsRead
+  district_row version.One = tt
+  district_row version.Two =
+      kind (is_text (codes "Y") (field_at fields 0)) _ _ (counted 4 (district_ytd_fields fields) district_ytd)
+      (kind (is_text (codes "X") (field_at fields 0)) (of_count 4 fields (district_next_fields fields)) (Err slip.UnknownKind) (counted 4 (district_next_fields fields) district_next) tt)
+
+  pub record_at-limits : (version : Version) → IfOk (record_at version fields) IsRead
+  record_at-limits version =
       kind (is_text (codes "W") (field_at fields 0)) _ _ (counted 5 (warehouse_fields fields) warehouse)
-      (kind (is_text (codes "D") (field_at fields 0)) _ _ (counted 7 (district_fields fields) district)
+      (kind (is_text (codes "D") (field_at fields 0)) _ _ (counted (district_count version) (district_record_at version fields) (district_record version))
       (kind (is_text (codes "C") (field_at fields 0)) _ _ (counted 14 (customer_fields fields) customer)
       (kind (is_text (codes "I") (field_at fields 0)) _ _ (counted 5 (item_fields fields) item)
       (kind (is_text (codes "S") (field_at fields 0)) _ _ (counted 18 (stock_fields fields) stock)
       (kind (is_text (codes "O") (field_at fields 0)) _ _ (counted 9 (order_fields fields) order)
       (kind (is_text (codes "N") (field_at fields 0)) _ _ (counted 4 (new_order_fields fields) new_order)
       (kind (is_text (codes "L") (field_at fields 0)) _ _ (counted 11 (order_line_fields fields) order_line)
-      (kind (is_text (codes "H") (field_at fields 0)) (of_count 10 fields (history_fields fields)) (Err slip.UnknownKind) (counted 10 (history_fields fields) history) tt))))))))
+      (kind (is_text (codes "H") (field_at fields 0)) _ _ (counted 10 (history_fields fields) history) (district_row version)))))))))

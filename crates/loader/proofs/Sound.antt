@@ -29,9 +29,9 @@ use Rattle.tpcc_rows.specs.declared.row.Row.{Row}
 use Rattle.tpcc_rows.specs.declared.row.Row.TheVariants as row
 use Rattle.tpcc_rows.proofs.Keys.{exact_keys, row_key_cmp_total}
 use Rattle.tpcc_rows.proofs.Singles.{and-left, and-right, passes}
-use Rattle.image_checks.specs.Checks.{card_has_parents, has_line, parents_there, row_has_parents, ytd_agrees, ytds_agree}
+use Rattle.image_checks.specs.Checks.{card_has_parents, has_line, has_own_rows, parents_there, row_has_parents, ytd_agrees, ytds_agree}
 use Rattle.image_checks.specs.Districts.{line_counts_agree, next_orders_agree, spans_agree}
-use Rattle.image_records.specs.Databases.{has_card}
+use Rattle.image_records.specs.Databases.{has_card, has_row}
 use Rattle.image_checks.proofs.DistrictLemmas.{consistent}
 use Rattle.loader.proofs.Filled.{IsFilled, IsLimited}
 
@@ -100,19 +100,19 @@ ten-pass p all d within = elim (cases_Bool (p d)) [
 ]
 
 module _ (db : Database) (filled : IsFilled db) (parents : parents_there db ≡ true) where
-  cards-pass : list_all (card_has_parents db.cards) (entries db.cards) ≡ true
+  cards-pass : list_all (card_has_parents db) (entries db.cards) ≡ true
   unfolding parents_there
-  cards-pass = and-left (list_all (card_has_parents db.cards) (entries db.cards)) (list_all (row_has_parents db) (entries db.rows)) parents
+  cards-pass = and-left (list_all (card_has_parents db) (entries db.cards)) (list_all (row_has_parents db) (entries db.rows)) parents
 
   rows-pass : list_all (row_has_parents db) (entries db.rows) ≡ true
   unfolding parents_there
-  rows-pass = and-right (list_all (card_has_parents db.cards) (entries db.cards)) (list_all (row_has_parents db) (entries db.rows)) parents
+  rows-pass = and-right (list_all (card_has_parents db) (entries db.cards)) (list_all (row_has_parents db) (entries db.rows)) parents
 
   -- a card that is there has its parents
-  card-parents : (q : CardKey) → IsSome (get db.cards q) → (c : Card) × (card_has_parents db.cards (q, c) ≡ true)
+  card-parents : (q : CardKey) → IsSome (get db.cards q) → (c : Card) × (card_has_parents db (q, c) ≡ true)
   card-parents q some =
       let (c, there) = value-of (get db.cards q) some in
-      (c, passes card_key_cmp_total exact_cards (card_has_parents db.cards) db.cards q c cards-pass there)
+      (c, passes card_key_cmp_total exact_cards (card_has_parents db) db.cards q c cards-pass there)
 
   pub are-cards : AreCards db.cards
   are-cards = record {
@@ -123,7 +123,8 @@ module _ (db : Database) (filled : IsFilled db) (parents : parents_there db ≡ 
         then-kind as_district db.cards (card_key.District w d) filled.keyed (district-kind w d) (ten-pass (λ d. has_card db.cards (card_key.District w d)) pass d within);
     warehouse_of_district = λ w d some.
         let (c, pass) = card-parents (card_key.District w d) (then-some as_district (get db.cards (card_key.District w d)) some) in
-        then-kind as_warehouse db.cards (card_key.Warehouse w) filled.keyed (warehouse-kind w) pass;
+        then-kind as_warehouse db.cards (card_key.Warehouse w) filled.keyed (warehouse-kind w)
+        (and-left (has_card db.cards (card_key.Warehouse w)) (has_own_rows db.rows (card_key.District w d)) pass);
     district_of_customer = λ w d n some.
         let (c, pass) = card-parents (card_key.Customer w d n) (then-some as_customer (get db.cards (card_key.Customer w d n)) some) in
         then-kind as_district db.cards (card_key.District w d) filled.keyed (district-kind w d) pass;
@@ -135,16 +136,23 @@ module _ (db : Database) (filled : IsFilled db) (parents : parents_there db ≡ 
         then-kind as_item db.cards (card_key.Item i) filled.keyed (item-kind i) (and-right (has_card db.cards (card_key.Warehouse w)) (has_card db.cards (card_key.Item i)) pass);
   }
 
+  -- a district that is there has its rows
+  own-rows : (w d : ℕ) → IsSome (district_card db.cards w d) → has_own_rows db.rows (card_key.District w d) ≡ true
+  own-rows w d some =
+      let (c, pass) = card-parents (card_key.District w d) (then-some as_district (get db.cards (card_key.District w d)) some) in
+      and-right (has_card db.cards (card_key.Warehouse w)) (has_own_rows db.rows (card_key.District w d)) pass
+
   -- where a card is, its row is
   pub rows-there : (k : RowKey) → HasCard db.cards k → IsSome (get db.rows k)
   rows-there (key.Warehouse w) some = filled.there (key.Warehouse w) (card_key.Warehouse w) refl (then-some as_warehouse (get db.cards (card_key.Warehouse w)) some)
-  rows-there (key.District w d) some = filled.there (key.District w d) (card_key.District w d) refl (then-some as_district (get db.cards (card_key.District w d)) some)
   rows-there (key.Customer w d n) some = filled.there (key.Customer w d n) (card_key.Customer w d n) refl (then-some as_customer (get db.cards (card_key.Customer w d n)) some)
   rows-there (key.Stock w i) some = filled.there (key.Stock w i) (card_key.Stock w i) refl (then-some as_stock (get db.cards (card_key.Stock w i)) some)
   rows-there (key.Order w d o) some = absurd some
   rows-there (key.NewOrder w d o) some = absurd some
   rows-there (key.OrderLine w d o n) some = absurd some
   rows-there (key.History n) some = absurd some
+  rows-there (key.DistrictYtd w d) some = and-left (has_row db.rows (key.DistrictYtd w d)) (has_row db.rows (key.DistrictNext w d)) (own-rows w d some)
+  rows-there (key.DistrictNext w d) some = and-right (has_row db.rows (key.DistrictYtd w d)) (has_row db.rows (key.DistrictNext w d)) (own-rows w d some)
 
   -- a row that is there has its parents
   row-parents : (k : RowKey) (x : Row) → get db.rows k ≡ Some x → row_has_parents db (k, x) ≡ true
@@ -175,7 +183,6 @@ module _ (db : Database) (filled : IsFilled db) (parents : parents_there db ≡ 
   -- each row is as it should be
   pub entry : (k : RowKey) (x : Row) → get db.rows k ≡ Some x → IsLimited k x → IsEntry db.cards db.rows k x
   entry (key.Warehouse w) (row.Warehouse r) there h = (then-kind as_warehouse db.cards (card_key.Warehouse w) filled.keyed (warehouse-kind w) (filled.owned (key.Warehouse w) (card_key.Warehouse w) (row.Warehouse r) refl there), h)
-  entry (key.District w d) (row.District r) there h = (then-kind as_district db.cards (card_key.District w d) filled.keyed (district-kind w d) (filled.owned (key.District w d) (card_key.District w d) (row.District r) refl there), h.0, h.1)
   entry (key.Customer w d n) (row.Customer r) there h = (then-kind as_customer db.cards (card_key.Customer w d n) filled.keyed (customer-kind w d n) (filled.owned (key.Customer w d n) (card_key.Customer w d n) (row.Customer r) refl there), h)
   entry (key.Stock w i) (row.Stock r) there h = (then-kind as_stock db.cards (card_key.Stock w i) filled.keyed (stock-kind w i) (filled.owned (key.Stock w i) (card_key.Stock w i) (row.Stock r) refl there), h)
   entry (key.Order w d o) (row.Order r) there h =
@@ -220,6 +227,8 @@ module _ (db : Database) (filled : IsFilled db) (parents : parents_there db ≡ 
         amount = h.amount;
         text = h.text;
       }
+  entry (key.DistrictYtd w d) (row.DistrictYtd r) there h = (district-card w d (row-parents (key.DistrictYtd w d) (row.DistrictYtd r) there), h)
+  entry (key.DistrictNext w d) (row.DistrictNext r) there h = (district-card w d (row-parents (key.DistrictNext w d) (row.DistrictNext r) there), h)
   entry _ _ there h = absurd h
 
 -- ---- conditions

@@ -10,23 +10,29 @@ use Rattle.loader.specs.declared.addition.Addition.TheVariants as variant
 use Rattle.tpcc_model.specs.Database.{Database}
 use Rattle.tpcc_rows.specs.RowKinds.{fits}
 
--- the database with the card and the row
+-- the database with the card and the rows
 abbrev pub with_addition : Database → Addition → Database
 with_addition db (variant.Card c) = record db { cards = map.insert db.cards (card_key c) c }
 with_addition db (variant.Row k x) = record db { rows = map.insert db.rows k x }
 with_addition db (variant.Both c k x) = record { cards = map.insert db.cards (card_key c) c; rows = map.insert db.rows k x }
+with_addition db (variant.CardAndRows c one other) = record {
+  cards = map.insert db.cards (card_key c) c;
+  rows = map.insert (map.insert db.rows one.0 one.1) other.0 other.1;
+}
 
 -- the key of the card, or of the row that goes with no card, came before
 abbrev pub has_addition : Database → Addition → Bool
 has_addition db (variant.Card c) = has_card db.cards (card_key c)
 has_addition db (variant.Row k x) = has_row db.rows k
 has_addition db (variant.Both c k x) = has_card db.cards (card_key c)
+has_addition db (variant.CardAndRows c one other) = has_card db.cards (card_key c)
 
--- the row is of its key's kind
+-- each row is of its key's kind
 abbrev pub AdditionFits : Addition → Type 0
 AdditionFits (variant.Card c) = ⊤
 AdditionFits (variant.Row k x) = fits k x ≡ true
 AdditionFits (variant.Both c k x) = fits k x ≡ true
+AdditionFits (variant.CardAndRows c one other) = (fits one.0 one.1 ≡ true) × (fits other.0 other.1 ≡ true)
 
 -- this is what the record adds
 pub record IsSaidBy (said : ImageRecord) (addition : Addition) : Type 0 where

@@ -1,5 +1,5 @@
 -- The database of an image, or its one fault.
-use Rattle.std.specs.Prelude.{◌==◌, ◌&&◌, ◌+◌, ◌-◌, ◌∷◌, [], Bool, ℕ, List, length, codes, decimal, Result, Ok, Err, if◌then◌else◌}
+use Rattle.std.specs.Prelude.{◌==◌, ◌&&◌, ◌+◌, ◌-◌, ◌∷◌, [], Bool, ℕ, List, length, codes, decimal, Option, Some, None, Result, Ok, Err, if◌then◌else◌}
 use Rattle.csv.specs.Records.{field_at}
 use Rattle.records.specs.Fields.{Fields, is_text}
 use Rattle.records.specs.Records.{records_in}
@@ -8,10 +8,12 @@ use Rattle.tpcc_model.specs.Database.{Database}
 use Rattle.image_checks.specs.Checks.{checked}
 use Rattle.image_records.specs.Faults.{fault_of}
 use Rattle.image_records.specs.ImageRecords.{record_at}
+use Rattle.image_records.specs.Versions.{version_of}
 use Rattle.loader.specs.Tables.{is_taken, no_tables, with_record}
 use Rattle.image_records.specs.declared.fault.LoadError.{LoadError}
 use Rattle.image_records.specs.declared.fault.LoadError.TheVariants as err
 use Rattle.image_records.specs.declared.image_record.ImageRecord.{ImageRecord}
+use Rattle.image_records.specs.declared.version.Version.{Version}
 
 -- what a database leads to
 abbrev pub Rest : Type 0
@@ -35,21 +37,21 @@ ended [] n db = Ok db
 ended (r ∷ rs) n db = Err (err.BadRecord n)
 
 -- the tables of these records, from the one of this number on, after what came before
-unfoldable pub read_from : List Fields → ℕ → Database → Result Database LoadError
-read_from [] n db = Err err.Truncated
-read_from (r ∷ rs) n db =
+unfoldable pub read_from : Version → List Fields → ℕ → Database → Result Database LoadError
+read_from version [] n db = Err err.Truncated
+read_from version (r ∷ rs) n db =
     if is_end r then (if counts n r then ended rs (n + 1) db else Err (err.BadRecord n))
-    else placed n db (record_at r) (read_from rs (n + 1))
+    else placed n db (record_at version r) (read_from version rs (n + 1))
 
--- `eve-tpcc,1`
-abbrev pub is_first : Fields → Bool
-is_first fields =
-    (length fields == 2) && (is_text (codes "eve-tpcc") (field_at fields 0) && is_text (codes "1") (field_at fields 1))
+-- the tables of the records behind the first, which tells the version
+abbrev pub read_as : Option Version → List Fields → Result Database LoadError
+read_as None rs = Err (err.BadRecord 1)
+read_as (Some version) rs = read_from version rs 2 no_tables
 
 -- the tables of all records
 unfoldable pub read_all : List Fields → Result Database LoadError
 read_all [] = Err err.Truncated
-read_all (r ∷ rs) = if is_first r then read_from rs 2 no_tables else Err (err.BadRecord 1)
+read_all (r ∷ rs) = read_as (version_of r) rs
 
 -- the tests of parents and of conditions come after all records
 abbrev pub tested : Result Database LoadError → Result Database LoadError

@@ -12,13 +12,14 @@ use Rattle.loader.specs.declared.kind_lists.TheConstants.{KINDS}
 -- the kind of a key, in the order of keys
 abbrev pub kind : RowKey → ℕ
 kind (key.Warehouse w) = 0
-kind (key.District w d) = 1
-kind (key.Customer w d c) = 2
-kind (key.Stock w i) = 3
-kind (key.Order w d o) = 4
-kind (key.NewOrder w d o) = 5
-kind (key.OrderLine w d o number) = 6
-kind (key.History number) = 7
+kind (key.Customer w d c) = 1
+kind (key.Stock w i) = 2
+kind (key.Order w d o) = 3
+kind (key.NewOrder w d o) = 4
+kind (key.OrderLine w d o number) = 5
+kind (key.History number) = 6
+kind (key.DistrictYtd w d) = 7
+kind (key.DistrictNext w d) = 8
 
 -- rows of this kind alone, in the order of their keys
 pub record AreOfKind (n : ℕ) (rows : List (RowKey × Row)) : Type 0 where

@@ -16,7 +16,10 @@ no_tables = database map.empty map.empty
 -- the key of what a record says came before
 abbrev pub is_taken : Database → ImageRecord → Bool
 is_taken db (said.Warehouse c r) = has_card db.cards (card_key.Warehouse c.warehouse)
-is_taken db (said.District c r) = has_card db.cards (card_key.District c.warehouse c.district)
+is_taken db (said.District c) = has_card db.cards (card_key.District c.warehouse c.district)
+is_taken db (said.DistrictYtd w d r) = has_row db.rows (key.DistrictYtd w d)
+is_taken db (said.DistrictNext w d r) = has_row db.rows (key.DistrictNext w d)
+is_taken db (said.WholeDistrict c ytd next) = has_card db.cards (card_key.District c.warehouse c.district)
 is_taken db (said.Customer c r) = has_card db.cards (card_key.Customer c.warehouse c.district c.customer)
 is_taken db (said.Item c) = has_card db.cards (card_key.Item c.item)
 is_taken db (said.Stock c r) = has_card db.cards (card_key.Stock c.warehouse c.item)
@@ -31,9 +34,14 @@ with_record db (said.Warehouse c r) = record {
   cards = map.insert db.cards (card_key.Warehouse c.warehouse) (card.Warehouse c);
   rows = map.insert db.rows (key.Warehouse c.warehouse) (row.Warehouse r);
 }
-with_record db (said.District c r) = record {
+with_record db (said.District c) = record db { cards = map.insert db.cards (card_key.District c.warehouse c.district) (card.District c) }
+with_record db (said.DistrictYtd w d r) = record db { rows = map.insert db.rows (key.DistrictYtd w d) (row.DistrictYtd r) }
+with_record db (said.DistrictNext w d r) = record db { rows = map.insert db.rows (key.DistrictNext w d) (row.DistrictNext r) }
+with_record db (said.WholeDistrict c ytd next) = record {
   cards = map.insert db.cards (card_key.District c.warehouse c.district) (card.District c);
-  rows = map.insert db.rows (key.District c.warehouse c.district) (row.District r);
+  rows = map.insert
+      (map.insert db.rows (key.DistrictYtd c.warehouse c.district) (row.DistrictYtd ytd))
+      (key.DistrictNext c.warehouse c.district) (row.DistrictNext next);
 }
 with_record db (said.Customer c r) = record {
   cards = map.insert db.cards (card_key.Customer c.warehouse c.district c.customer) (card.Customer c);

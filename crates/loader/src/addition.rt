@@ -10,15 +10,17 @@ use tpcc_rows::id::{DistrictId, LineNumber, OrderId, WarehouseId};
 use tpcc_rows::key::RowKey;
 use tpcc_rows::memory::Memory;
 use tpcc_rows::row::{
-    CustomerRow, DistrictRow, OrderLineRow, OrderRow, Row, StockRow, WarehouseRow,
+    CustomerRow, DistrictNextRow, DistrictYtdRow, OrderLineRow, OrderRow, Row, StockRow,
+    WarehouseRow,
 };
 
-/// A card, a row, or a card and the row that goes with it.
+/// A card, a row, or a card and the row or the two rows that go with it.
 #[derive(Drop)]
 pub(crate) enum Addition {
     Card(Card),
     Row(RowKey, Row),
     Both(Card, RowKey, Row),
+    CardAndRows(Card, (RowKey, Row), (RowKey, Row)),
 }
 
 fn warehouse(card: WarehouseCard, row: WarehouseRow) -> Addition
@@ -30,14 +32,42 @@ fn warehouse(card: WarehouseCard, row: WarehouseRow) -> Addition
     Addition::Both(Card::Warehouse(card), key, Row::Warehouse(row))
 }
 
-fn district(card: DistrictCard, row: DistrictRow) -> Addition
-    ensures { IsSaidBy (says.District card row) result }
+fn district_ytd(warehouse: WarehouseId, district: DistrictId, row: DistrictYtdRow) -> Addition
+    ensures { IsSaidBy (says.DistrictYtd warehouse district row) result }
 {
-    let key = RowKey::District {
+    let key = RowKey::DistrictYtd {
+        warehouse,
+        district,
+    };
+    Addition::Row(key, Row::DistrictYtd(row))
+}
+
+fn district_next(warehouse: WarehouseId, district: DistrictId, row: DistrictNextRow) -> Addition
+    ensures { IsSaidBy (says.DistrictNext warehouse district row) result }
+{
+    let key = RowKey::DistrictNext {
+        warehouse,
+        district,
+    };
+    Addition::Row(key, Row::DistrictNext(row))
+}
+
+fn whole_district(card: DistrictCard, ytd: DistrictYtdRow, next: DistrictNextRow) -> Addition
+    ensures { IsSaidBy (says.WholeDistrict card ytd next) result }
+{
+    let ytd_key = RowKey::DistrictYtd {
         warehouse: card.warehouse,
         district: card.district,
     };
-    Addition::Both(Card::District(card), key, Row::District(row))
+    let next_key = RowKey::DistrictNext {
+        warehouse: card.warehouse,
+        district: card.district,
+    };
+    Addition::CardAndRows(
+        Card::District(card),
+        (ytd_key, Row::DistrictYtd(ytd)),
+        (next_key, Row::DistrictNext(next)),
+    )
 }
 
 fn customer(alloc: Global, card: CustomerCard, row: CustomerRow) -> Result<Addition, Memory>
@@ -108,7 +138,18 @@ pub(crate) fn addition_of(alloc: Global, said: ImageRecord) -> Result<Addition, 
 {
     Ok(match said {
         ImageRecord::Warehouse { card, row } => warehouse(card, row),
-        ImageRecord::District { card, row } => district(card, row),
+        ImageRecord::District { card } => Addition::Card(Card::District(card)),
+        ImageRecord::DistrictYtd {
+            warehouse,
+            district,
+            row,
+        } => district_ytd(warehouse, district, row),
+        ImageRecord::DistrictNext {
+            warehouse,
+            district,
+            row,
+        } => district_next(warehouse, district, row),
+        ImageRecord::WholeDistrict { card, ytd, next } => whole_district(card, ytd, next),
         ImageRecord::Customer { card, row } => customer(alloc, card, row)?,
         ImageRecord::Item { card } => Addition::Card(Card::Item(card)),
         ImageRecord::Stock { card, row } => stock(card, row),

@@ -41,6 +41,18 @@ impl GatheredTables {
         })
     }
 
+    /// The key has this row from now on.
+    fn put_row(&mut self, key: RowKey, row: Row) -> Result<(), Memory>
+        requires { fits key row ≡ true }
+        ensures cards { self.new.cards ≡ self.old.cards }
+        ensures rows { OnOk result (gathered self.new.rows ≡ map.insert (gathered self.old.rows) key row) }
+    {
+        if let Some(late) = self.rows.push(&key, row)? {
+            self.rows.insert(self.alloc, key, late)?;
+        }
+        Ok(())
+    }
+
     /// One card more, and the row that goes with it.
     fn add_both(&mut self, card: Card, key: RowKey, row: Row) -> Result<(), CatalogError>
         requires { fits key row ≡ true }
@@ -51,13 +63,32 @@ impl GatheredTables {
             → IsSome (map.get self.old.cards (card_key card))) }
     {
         self.cards.add(card)?;
-        if let Some(late) = self.rows.push(&key, row)? {
-            self.rows.insert(self.alloc, key, late)?;
-        }
+        self.put_row(key, row)?;
         Ok(())
     }
 
-    /// One row more, which goes with no card.
+    /// One card more, and the two rows that go with it.
+    fn add_card_and_rows(
+        &mut self,
+        card: Card,
+        one: (RowKey, Row),
+        other: (RowKey, Row),
+    ) -> Result<(), CatalogError>
+        requires one { fits one.0 one.1 ≡ true }
+        requires other { fits other.0 other.1 ≡ true }
+        ensures cards { OnOk result (self.new.cards ≡ map.insert self.old.cards (card_key card) card) }
+        ensures rows { OnOk result (gathered self.new.rows ≡ map.insert (map.insert (gathered self.old.rows) one.0 one.1) other.0 other.1) }
+        ensures fresh { OnOk result (map.get self.old.cards (card_key card) ≡ None) }
+        ensures twice { IfErr result (λ e. e ≡ catalog_error.Twice
+            → IsSome (map.get self.old.cards (card_key card))) }
+    {
+        self.cards.add(card)?;
+        self.put_row(one.0, one.1)?;
+        self.put_row(other.0, other.1)?;
+        Ok(())
+    }
+
+    /// One row more, without a card.
     fn add_row(&mut self, key: RowKey, row: Row) -> Result<(), CatalogError>
         requires { fits key row ≡ true }
         ensures cards { self.new.cards ≡ self.old.cards }
@@ -86,6 +117,7 @@ impl GatheredTables {
             Addition::Card(card) => self.cards.add(card),
             Addition::Row(key, row) => self.add_row(key, row),
             Addition::Both(card, key, row) => self.add_both(card, key, row),
+            Addition::CardAndRows(card, one, other) => self.add_card_and_rows(card, one, other),
         }
     }
 

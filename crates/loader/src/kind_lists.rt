@@ -15,7 +15,7 @@ use tpcc_rows::memory::Memory;
 use tpcc_rows::row::Row;
 
 /// How many kinds of rows there are.
-const KINDS: usize = 8;
+const KINDS: usize = 9;
 
 /// A finite map from keys to rows, each row of its key's kind, which takes a row behind all others of its kind.
 #[derive(Drop)]
@@ -45,13 +45,14 @@ fn kind(key: &RowKey) -> usize
 {
     match key {
         RowKey::Warehouse { .. } => 0,
-        RowKey::District { .. } => 1,
-        RowKey::Customer { .. } => 2,
-        RowKey::Stock { .. } => 3,
-        RowKey::Order { .. } => 4,
-        RowKey::NewOrder { .. } => 5,
-        RowKey::OrderLine { .. } => 6,
-        RowKey::History { .. } => 7,
+        RowKey::Customer { .. } => 1,
+        RowKey::Stock { .. } => 2,
+        RowKey::Order { .. } => 3,
+        RowKey::NewOrder { .. } => 4,
+        RowKey::OrderLine { .. } => 5,
+        RowKey::History { .. } => 6,
+        RowKey::DistrictYtd { .. } => 7,
+        RowKey::DistrictNext { .. } => 8,
     }
 }
 

@@ -3,7 +3,7 @@ ghost use Rattle.std.specs.Prelude.{◌≡◌, ◌+◌, ◌<◌, ◌≤◌, ◌^
 ghost use Rattle.csv.specs.Records.{fields_of};
 ghost use Rattle.records.specs.Records.{IsGoing, records_in, records_left};
 ghost use Rattle.image_records.specs.Faults.{StopsBy};
-ghost use Rattle.loader.specs.Image.{Rest, counts, ended, is_first, placed, read_all, read_from};
+ghost use Rattle.loader.specs.Image.{Rest, counts, ended, placed, read_all, read_from};
 ghost use Rattle.image_records.specs.ImageRecords.{record_at};
 ghost use Rattle.loader.specs.Gathered.{gathered_database};
 ghost use Rattle.loader.specs.Tables.{no_tables};
@@ -14,23 +14,11 @@ use csv::{ByteRecord, Reader};
 use image_records::fault::{LoadError, fault};
 use image_records::image_record::image_record;
 use image_records::record_fault::RecordFault;
+use image_records::version::{Version, version_of};
 use itoa::Buffer;
 use records::fields::has_text;
 use records::reading::{next_record, records_of};
 use std::alloc::Global;
-
-/// Whether this is `eve-tpcc,1`.
-fn is_first(fields: &ByteRecord) -> bool
-    ensures { result ≡ is_first (fields_of fields.now) }
-{
-    if fields.len() != 2 {
-        return false;
-    }
-    if !has_text(fields, 0, b"eve-tpcc") {
-        return false;
-    }
-    has_text(fields, 1, b"1")
-}
 
 /// Whether the record of this number gives the number of records between the first and this one.
 fn counts(number: u64, fields: &ByteRecord) -> bool
@@ -47,16 +35,17 @@ fn counts(number: u64, fields: &ByteRecord) -> bool
 /// Takes in the record of this number.
 fn place(
     alloc: Global,
+    version: Version,
     tables: &mut GatheredTables,
     number: u64,
     fields: &ByteRecord,
 ) -> Result<(), LoadError>
     ensures ok { OnOk result ((rest : Rest)
-        → placed number (gathered_database tables.old) (record_at (fields_of fields.now)) rest ≡ rest (gathered_database tables.new)) }
+        → placed number (gathered_database tables.old) (record_at version (fields_of fields.now)) rest ≡ rest (gathered_database tables.new)) }
     ensures err { IfErr result (λ e. (rest : Rest)
-        → StopsBy e (placed number (gathered_database tables.old) (record_at (fields_of fields.now)) rest)) }
+        → StopsBy e (placed number (gathered_database tables.old) (record_at version (fields_of fields.now)) rest)) }
 {
-    let said = match image_record(alloc, fields) {
+    let said = match image_record(alloc, version, fields) {
         Ok(said) => said,
         Err(RecordFault::Slip(slip)) => return Err(fault(number, slip)),
         Err(RecordFault::Memory) => return Err(LoadError::Memory),
@@ -84,6 +73,7 @@ fn end(reader: &mut Reader<&[u8]>, fields: &mut ByteRecord, number: u64) -> Resu
 #[tactic(auto, unfolding(crate::specs::Image::read_from))]
 fn read_rest(
     alloc: Global,
+    version: Version,
     reader: &mut Reader<&[u8]>,
     fields: &mut ByteRecord,
     tables: &mut GatheredTables,
@@ -91,8 +81,8 @@ fn read_rest(
     requires going { IsGoing reader.old }
     requires room { 2 + length (records_left reader.old) < 2 ^ 64 }
     ensures ok { OnOk result
-        (read_from (records_left reader.old) 2 (gathered_database tables.old) ≡ Ok (gathered_database tables.new)) }
-    ensures err { IfErr result (λ e. StopsBy e (read_from (records_left reader.old) 2 (gathered_database tables.old))) }
+        (read_from version (records_left reader.old) 2 (gathered_database tables.old) ≡ Ok (gathered_database tables.new)) }
+    ensures err { IfErr result (λ e. StopsBy e (read_from version (records_left reader.old) 2 (gathered_database tables.old))) }
 {
     let mut number = 2;
     while next_record(reader, fields)? {
@@ -102,7 +92,7 @@ fn read_rest(
             }
             return end(reader, fields, number + 1);
         }
-        place(alloc, tables, number, fields)?;
+        place(alloc, version, tables, number, fields)?;
         number += 1;
     }
     Err(LoadError::Truncated)
@@ -125,10 +115,10 @@ fn read_records(
     if !next_record(reader, fields)? {
         return Err(LoadError::Truncated);
     }
-    if !is_first(fields) {
+    let Some(version) = version_of(fields) else {
         return Err(LoadError::BadRecord(1));
-    }
-    read_rest(alloc, reader, fields, tables)
+    };
+    read_rest(alloc, version, reader, fields, tables)
 }
 
 /// The tables of a text, unchecked. It has a frame of its own, so that its room isn't added to that of the checks.

@@ -9,7 +9,7 @@ abbrev pub invariant-loop-fields : goal.invariant-loop-fields
 invariant-loop-fields l = IsGoing l.reader
     × (l.number + length (records_left l.reader) < 2 ^ 64)
     × (2 ≤ l.number)
-    × (read_from (records_left l.fn.reader) 2 (gathered_database l.fn.tables) ≡ read_from (records_left l.reader) l.number (gathered_database l.tables))
+    × (read_from l.version (records_left l.fn.reader) 2 (gathered_database l.fn.tables) ≡ read_from l.version (records_left l.reader) l.number (gathered_database l.tables))
 
 abbrev pub decreases-loop-fields : goal.decreases-loop-fields
 decreases-loop-fields l = length (records_left l.reader)
