@@ -1,7 +1,7 @@
 //! What requests touch on a made database, computed a second time: from their lines, from the database's rows by their keys, and
 //! from the numbers that it was made of.
 use crate::columns::{byte, column, short, word};
-use crate::granules::{BOOK, CUSTOMER, DISTRICT, STOCK, Touch, WAREHOUSE, packed};
+use crate::granules::{BOOK, CUSTOMER, NEXT, STOCK, Touch, WAREHOUSE, YTD, packed};
 use rollback::PointedStore;
 use std::alloc::Global;
 use tpcc_rows::id::{DistrictId, LineNumber, OrderId, WarehouseId};
@@ -49,7 +49,7 @@ impl Books<'_> {
         if !self.are_known(line) {
             return Some(());
         }
-        touch.write(packed(DISTRICT, byte(line, 1), byte(line, 2), 0))?;
+        touch.write(packed(NEXT, byte(line, 1), byte(line, 2), 0))?;
         touch.write(packed(BOOK, byte(line, 1), byte(line, 2), 0))?;
         for place in 1..16usize {
             let item = word(line, 3 * place + 1);
@@ -66,17 +66,18 @@ impl Books<'_> {
             return Some(());
         }
         touch.write(packed(WAREHOUSE, byte(line, 1), 0, 0))?;
-        touch.write(packed(DISTRICT, byte(line, 1), byte(line, 2), 0))?;
+        touch.write(packed(YTD, byte(line, 1), byte(line, 2), 0))?;
         touch.write(packed(CUSTOMER, byte(line, 3), byte(line, 4), customer))
     }
 
     /// D_NEXT_O_ID.
     fn next_order(&self, warehouse: WarehouseId, district: DistrictId) -> Option<u32> {
-        let key = RowKey::District {
+        let key = RowKey::DistrictNext {
             warehouse,
             district,
         };
-        Some(self.store.get(&key)?.as_district()?.next_order.number())
+        let row = self.store.get(&key)?.as_district_next()?;
+        Some(row.next_order.number())
     }
 
     fn is_new(&self, warehouse: WarehouseId, district: DistrictId, order: OrderId) -> bool {
@@ -145,7 +146,7 @@ impl Books<'_> {
     fn look(&self, line: &str, touch: &mut Touch) -> Option<()> {
         let (w, d) = (byte(line, 1), byte(line, 2));
         let (warehouse, district) = (WarehouseId::new(w)?, DistrictId::new(d)?);
-        touch.read(packed(DISTRICT, w, d, 0))?;
+        touch.read(packed(NEXT, w, d, 0))?;
         touch.read(packed(BOOK, w, d, 0))?;
         let next = self.next_order(warehouse, district)?;
         for order in next.saturating_sub(20).max(1)..next {

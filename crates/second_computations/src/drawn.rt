@@ -76,7 +76,6 @@ S,w,d,t
 /// Rows of every kind, with texts of up to 21 digits and spaces.
 const ROWS: &str = "\
 1,w,m
-2,w,d,m,n
 3,w,d,n,m,m,c,c,
 3,w,d,n,m,m,n,c,x  x
 4,w,n,-5,n,c,3
@@ -87,6 +86,8 @@ const ROWS: &str = "\
 7,w,d,n,l,n,w,1,t,0,n,
 8,t,n,d,w,2,1,t,5,x x
 8,t,n,d,w,d,w,t,n,
+9,w,d,m
+10,w,d,n
 ";
 
 /// The range of a letter.

@@ -6,18 +6,23 @@ use std::alloc::Global;
 /// how many bytes each column of the body takes; how many the length of the text behind it takes, 0 where there is no text.
 const LAYOUTS: &str = "\
 1,1,8,0
-2,1 16,8 4,0
 3,1 16 4096,8 8 4 4,2
 4,1 131072,4 4 4 4,0
 5,1 16 16777216,2 8 1 1 1,0
 6,1 16 16777216,,0
 7,1 16 16777216 16,4 1 1 8 1 4,1
 8,1,2 1 1 1 1 8 4,1
+9,1 16,8,0
+10,1 16,4,0
 ";
 
 fn layout_of(line: &str) -> &'static str {
-    let place = usize::from(byte(line, 0)).saturating_sub(1);
-    LAYOUTS.lines().nth(place).unwrap_or("")
+    for layout in LAYOUTS.lines() {
+        if byte(layout, 0) == byte(line, 0) {
+            return layout;
+        }
+    }
+    ""
 }
 
 /// The code of a row's key.

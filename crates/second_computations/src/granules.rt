@@ -9,13 +9,17 @@ pub type Packed = u64;
 
 pub const WAREHOUSE: u64 = 1;
 
-pub const DISTRICT: u64 = 2;
-
 pub const CUSTOMER: u64 = 3;
 
 pub const STOCK: u64 = 4;
 
 pub const BOOK: u64 = 5;
+
+/// D_YTD of a district.
+pub const YTD: u64 = 6;
+
+/// D_NEXT_O_ID of a district.
+pub const NEXT: u64 = 7;
 
 pub fn packed(kind: u64, warehouse: u8, district: u8, number: u32) -> Packed {
     (kind << 48) | (u64::from(warehouse) << 32) | (u64::from(district) << 24) | u64::from(number)
@@ -24,10 +28,6 @@ pub fn packed(kind: u64, warehouse: u8, district: u8, number: u32) -> Packed {
 fn pack(granule: &Granule) -> Packed {
     match *granule {
         Granule::Warehouse { warehouse: w } => packed(WAREHOUSE, w.number(), 0, 0),
-        Granule::District {
-            warehouse: w,
-            district: d,
-        } => packed(DISTRICT, w.number(), d.number(), 0),
         Granule::Customer {
             warehouse: w,
             district: d,
@@ -41,6 +41,14 @@ fn pack(granule: &Granule) -> Packed {
             warehouse: w,
             district: d,
         } => packed(BOOK, w.number(), d.number(), 0),
+        Granule::DistrictYtd {
+            warehouse: w,
+            district: d,
+        } => packed(YTD, w.number(), d.number(), 0),
+        Granule::DistrictNext {
+            warehouse: w,
+            district: d,
+        } => packed(NEXT, w.number(), d.number(), 0),
     }
 }
 
@@ -98,10 +106,11 @@ pub fn print_granules(rt: &impl Print, granules: &[Packed]) {
     for granule in granules {
         let letter = match granule >> 48 {
             WAREHOUSE => 'W',
-            DISTRICT => 'D',
             CUSTOMER => 'C',
             STOCK => 'S',
-            _ => 'B',
+            BOOK => 'B',
+            YTD => 'Y',
+            _ => 'X',
         };
         let (warehouse, district) = ((granule >> 32) % 65_536, (granule >> 24) % 256);
         let number = granule % 16_777_216;

@@ -10,14 +10,14 @@ use std::alloc::Global;
 use std::thread::Threads;
 
 const WAREHOUSE_AND_DISTRICT: &str = "\
-2,1,1,3000000,1
+10,1,1,1
+9,1,1,3000000
 1,1,30000000
 ";
 
 /// A row of each kind, two of those that may lack a column.
 pub const EVERY_KIND: &str = "\
 1,2,30000000
-2,2,3,3000000,3001
 3,2,3,45,-1000,2000,3,4,hello
 4,2,99999,-7,8,9,10
 5,2,3,3000,45,1700000000,10,15,1
@@ -26,18 +26,21 @@ pub const EVERY_KIND: &str = "\
 7,2,3,3000,15,99999,1,1,0,5,999999,DIST03
 7,2,3,3001,1,1,2,0,0,99,100,
 8,123456789012345,45,3,2,4,1,1700000001,4999,W2    D3
+9,2,3,3000000
+10,2,3,3001
 ";
 
-/// Rows of six kinds that share leaf 1,123, in falling order.
+/// Rows of eight kinds that share leaf 827, in falling order.
 pub const ONE_LEAF: &str = "\
-8,1,1,1,1,1,1,7,8,W    D
-7,1,2,54,13,1,1,0,0,1,2,DIST02
-6,1,1,59
-5,1,6,29,1,2,3,5,0
-4,2,2775,4,5,6,7
-4,1,4092,3,2,1,0
-4,1,1508,1,2,3,4
-3,2,1,56,1,2,3,4,
+10,26,5,7
+9,30,1,-5
+8,46909,1,1,1,1,1,7,8,W    D
+7,1,10,366,11,1,1,0,0,1,2,DIST02
+6,1,5,4586
+5,1,7,3257,1,2,3,5,0
+4,2,45502,4,5,6,7
+4,1,55181,3,2,1,0
+3,2,6,2008,1,2,3,4,
 ";
 
 const CHOSEN: [(&str, &str); 4] = [
@@ -70,15 +73,15 @@ fn show_chosen<R: Threads + Sync + Print>(
     Some(())
 }
 
-/// The customers of eleven warehouses that stand on leaf 7, each with a text of 500 characters: more than there is room for beside
-/// other leaves.
+/// The customers of a hundred warehouses that stand on leaf 31,739, each with a text of 500 characters: more than there is room for
+/// beside other leaves.
 fn long_leaf(alloc: Global) -> Option<String> {
     let mut text = String::new(alloc);
-    for number in 0..330_000u64 {
+    for number in 0..3_000_000u64 {
         let (warehouse, district) = (1 + number / 30_000, 1 + number / 3_000 % 10);
         let customer = 1 + number % 3_000;
         let code = (3 << 56) | (warehouse << 16) | (district << 12) | customer;
-        if leaf_of(code) == 7 {
+        if leaf_of(code) == 31_739 {
             writeln!(
                 text,
                 "3,{warehouse},{district},{customer},-5,5,{customer},0,{:x>500}",
@@ -90,9 +93,9 @@ fn long_leaf(alloc: Global) -> Option<String> {
     Some(text)
 }
 
-/// Of more than 60 rows of one leaf, of all but seven, of all but fourteen, and so on.
+/// Of more than 50 rows of one leaf, of all but seven, of all but fourteen, and so on.
 fn show_long_leaf<R: Threads + Sync + Print>(rt: &R, alloc: Global, lines: &[&str]) -> Option<()> {
-    let mut all = 60 < lines.len();
+    let mut all = 50 < lines.len();
     for sevens in 1..lines.len() / 7 + 1 {
         let rest = lines.get(sevens.saturating_mul(7)..)?;
         all = agree(rt, alloc, rest)? && all;

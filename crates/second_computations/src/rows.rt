@@ -11,7 +11,8 @@ use tpcc_rows::id::{
 use tpcc_rows::key::RowKey;
 use tpcc_rows::number::{Amount, Carrier, Cents, Count, LineQuantity, Moment, StockQuantity};
 use tpcc_rows::row::{
-    CustomerRow, DistrictRow, HistoryRow, OrderLineRow, OrderRow, Row, StockRow, WarehouseRow, fits,
+    CustomerRow, DistrictNextRow, DistrictYtdRow, HistoryRow, OrderLineRow, OrderRow, Row,
+    StockRow, WarehouseRow, fits,
 };
 use tpcc_rows::text::Text;
 
@@ -20,10 +21,6 @@ fn key_in_district(line: &str, warehouse: WarehouseId) -> Option<RowKey> {
     let district = DistrictId::new(byte(line, 2))?;
     let number = word(line, 3);
     Some(match byte(line, 0) {
-        2 => RowKey::District {
-            warehouse,
-            district,
-        },
         3 => RowKey::Customer {
             warehouse,
             district,
@@ -39,11 +36,19 @@ fn key_in_district(line: &str, warehouse: WarehouseId) -> Option<RowKey> {
             district,
             order: OrderId::new(number)?,
         },
-        _ => RowKey::OrderLine {
+        7 => RowKey::OrderLine {
             warehouse,
             district,
             order: OrderId::new(number)?,
             number: LineNumber::new(byte(line, 4))?,
+        },
+        9 => RowKey::DistrictYtd {
+            warehouse,
+            district,
+        },
+        _ => RowKey::DistrictNext {
+            warehouse,
+            district,
         },
     })
 }
@@ -127,16 +132,18 @@ fn row_of(alloc: Global, line: &str) -> Option<Row> {
         1 => Row::Warehouse(WarehouseRow {
             ytd: Cents::new(signed(line, 2))?,
         }),
-        2 => Row::District(DistrictRow {
-            ytd: Cents::new(signed(line, 3))?,
-            next_order: OrderId::new(word(line, 4))?,
-        }),
         3 => Row::of_customer(alloc, customer_row(line)?).ok()?,
         4 => Row::Stock(stock_row(line)?),
         5 => Row::Order(order_row(line)?),
         6 => Row::NewOrder,
         7 => Row::OrderLine(order_line_row(line)?),
-        _ => Row::History(history_row(line)?),
+        8 => Row::History(history_row(line)?),
+        9 => Row::DistrictYtd(DistrictYtdRow {
+            ytd: Cents::new(signed(line, 3))?,
+        }),
+        _ => Row::DistrictNext(DistrictNextRow {
+            next_order: OrderId::new(word(line, 3))?,
+        }),
     })
 }
 

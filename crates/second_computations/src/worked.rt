@@ -36,6 +36,8 @@ cut|1|two payments|nothing|two payments
 cut|1|sixteen payments|nothing|sixteen payments
 cut|1|ten orders|nothing|ten orders
 cut|1|seven orders of the same items|nothing|seven orders
+cut|1|an order and a payment of a district|nothing|order and payment
+cut|1|orders of two districts|nothing|two districts
 cut|1|granules of the same bit|nothing|same bit
 cut|1|only reads|order|two order statuses
 cut|1|a book before and after an order|nothing|book

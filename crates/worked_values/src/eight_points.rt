@@ -9,12 +9,12 @@ use std::alloc::Global;
 const BEFORE_MARKS: [Change; POINTS] = [
     Change::Put(Columns::Warehouse(1, 100)),
     Change::Put(Columns::Warehouse(1, 200)),
-    Change::Remove(Columns::District((1, 1), 0, 1)),
+    Change::Remove(Columns::DistrictNext((1, 1), 1)),
     Change::Put(Columns::Warehouse(1, 400)),
     Change::Put(Columns::Warehouse(1, 500)),
-    Change::Put(Columns::District((1, 1), 500, 2)),
+    Change::Put(Columns::DistrictNext((1, 1), 2)),
     Change::Put(Columns::Warehouse(1, 700)),
-    Change::Remove(Columns::District((1, 1), 0, 1)),
+    Change::Remove(Columns::DistrictNext((1, 1), 1)),
 ];
 
 /// What is changed after the last mark.

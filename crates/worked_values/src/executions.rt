@@ -62,7 +62,7 @@ const ORDERS: &[Step] = &[
     Stock(2, 3),
     Stock(1, 3),
     Order(2, 1),
-    Put(Columns::District((1, 1), 0, 9_999_999)),
+    Put(Columns::DistrictNext((1, 1), 9_999_999)),
     Unchanged("no row is added", ORDER),
 ];
 

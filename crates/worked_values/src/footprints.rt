@@ -1,5 +1,5 @@
 //! What requests are declared to touch on made databases of 45 customers in each district and 100 items. A granule is
-//! spelled as a letter and its numbers, as in `D1.3`.
+//! spelled as a letter and its numbers, as in `B1.3`.
 use crate::batches::SEVEN_ORDERS;
 use crate::database::{Database, batch_of, database_after};
 use crate::rows::{Columns, Sold, put_all};
@@ -10,10 +10,6 @@ use tpcc_rows::granule::Granule;
 fn print_granule(rt: &impl Print, granule: &Granule) {
     let _ = match *granule {
         Granule::Warehouse { warehouse: w } => print!(rt; " W{}", w.number()),
-        Granule::District {
-            warehouse: w,
-            district: d,
-        } => print!(rt; " D{}.{}", w.number(), d.number()),
         Granule::Customer {
             warehouse: w,
             district: d,
@@ -27,6 +23,14 @@ fn print_granule(rt: &impl Print, granule: &Granule) {
             warehouse: w,
             district: d,
         } => print!(rt; " B{}.{}", w.number(), d.number()),
+        Granule::DistrictYtd {
+            warehouse: w,
+            district: d,
+        } => print!(rt; " Y{}.{}", w.number(), d.number()),
+        Granule::DistrictNext {
+            warehouse: w,
+            district: d,
+        } => print!(rt; " X{}.{}", w.number(), d.number()),
     };
 }
 
@@ -113,7 +117,7 @@ const SOLD: Sold = Sold {
 
 /// The last twenty orders are 2 to 21, and item 101 has no card.
 const LINES: [Columns; 7] = [
-    Columns::District((1, 1), 0, 22),
+    Columns::DistrictNext((1, 1), 22),
     Columns::Line((1, 1), 1, 3, SOLD),
     Columns::Line((1, 1), 2, 15, Sold { item: 4, ..SOLD }),
     Columns::Line((1, 1), 21, 1, Sold { item: 5, ..SOLD }),

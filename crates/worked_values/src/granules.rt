@@ -7,9 +7,17 @@ use tpcc_rows::footprint::Footprint;
 use tpcc_rows::granule::Granule;
 use tpcc_rows::id::{CustomerId, DistrictId, ItemId, WarehouseId};
 
-/// A district of the first warehouse.
-pub fn district(number: u8) -> Option<Granule> {
-    Some(Granule::District {
+/// D_YTD of a district of the first warehouse.
+pub fn district_ytd(number: u8) -> Option<Granule> {
+    Some(Granule::DistrictYtd {
+        warehouse: WarehouseId::new(1)?,
+        district: DistrictId::new(number)?,
+    })
+}
+
+/// Its D_NEXT_O_ID.
+pub fn district_next(number: u8) -> Option<Granule> {
+    Some(Granule::DistrictNext {
         warehouse: WarehouseId::new(1)?,
         district: DistrictId::new(number)?,
     })
@@ -48,15 +56,11 @@ fn print_bit(rt: &impl Print, granule: &Granule) {
     let _ = print!(rt; " {}", granule_bit(granule));
 }
 
-/// The bits of warehouse 1, of a customer, of the districts and their books, and of the items 1 to 50.
+/// The bits of warehouse 1, of a customer, of the books of its districts, of the items 1 to 50, and of the districts.
 pub fn show_bits(rt: &impl Print) -> Option<()> {
     let _ = print!(rt; "bits of a warehouse and a customer:");
     print_bit(rt, &warehouse()?);
     print_bit(rt, &customer()?);
-    let _ = print!(rt; "\nbits of districts:");
-    for number in 1..11 {
-        print_bit(rt, &district(number)?);
-    }
     let _ = print!(rt; "\nbits of books:");
     for number in 1..11 {
         print_bit(rt, &book(number)?);
@@ -64,6 +68,19 @@ pub fn show_bits(rt: &impl Print) -> Option<()> {
     let _ = print!(rt; "\nbits of stocks:");
     for item in 1..51 {
         print_bit(rt, &stock(item)?);
+    }
+    show_district_bits(rt)
+}
+
+/// The bits of what the districts of warehouse 1 have besides.
+fn show_district_bits(rt: &impl Print) -> Option<()> {
+    let _ = print!(rt; "\nbits of the sums of districts:");
+    for number in 1..11 {
+        print_bit(rt, &district_ytd(number)?);
+    }
+    let _ = print!(rt; "\nbits of the next orders of districts:");
+    for number in 1..11 {
+        print_bit(rt, &district_next(number)?);
     }
     let _ = println!(rt; "");
     Some(())
@@ -142,11 +159,12 @@ fn show_growing(rt: &impl Print, declared: &mut Footprint, touch: &mut Footprint
 enum Touch {
     Read(u8),
     Write(u8),
+    WriteYtd(u8),
     WriteStock(u32),
 }
 
-/// Batches whose requests read or write a district, or write a stock.
-const BATCHES: [(&str, &[Touch]); 5] = [
+/// Batches whose requests read or write a district's next order, or write its sum or a stock.
+const BATCHES: [(&str, &[Touch]); 6] = [
     ("levels of none", &[]),
     ("levels of sixteen that share", &[Touch::Write(1); 16]),
     (
@@ -166,7 +184,11 @@ const BATCHES: [(&str, &[Touch]); 5] = [
     ),
     (
         "levels of two of one bit",
-        &[Touch::Write(5), Touch::WriteStock(14)],
+        &[Touch::Write(4), Touch::WriteStock(75)],
+    ),
+    (
+        "levels of a district's two columns",
+        &[Touch::Write(1), Touch::WriteYtd(1), Touch::WriteYtd(1)],
     ),
     (
         "levels of readers and a writer",
@@ -181,8 +203,9 @@ const BATCHES: [(&str, &[Touch]); 5] = [
 
 fn add(footprint: &mut Footprint, touch: Touch) -> Option<()> {
     match touch {
-        Touch::Read(number) => footprint.read(district(number)?).ok(),
-        Touch::Write(number) => footprint.write(district(number)?).ok(),
+        Touch::Read(number) => footprint.read(district_next(number)?).ok(),
+        Touch::Write(number) => footprint.write(district_next(number)?).ok(),
+        Touch::WriteYtd(number) => footprint.write(district_ytd(number)?).ok(),
         Touch::WriteStock(item) => footprint.write(stock(item)?).ok(),
     }
 }

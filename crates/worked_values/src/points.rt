@@ -1,4 +1,4 @@
-//! Marks, changes and goings back on a warehouse's row, whose sum is 500 at first, and a district's. Their leaves were
+//! Marks, changes and goings back on a warehouse's row, whose sum is 500 at first, and a district's next order. Their leaves were
 //! worked out apart, from the codes' format.
 use crate::rows::{Change, Columns, apply, next_of, number_of, put_all, store_of, ytd_of};
 use rollback::PointedStore;
@@ -6,21 +6,21 @@ use std::alloc::Global;
 use tpcc_rows::id::{CustomerId, DistrictId, WarehouseId};
 
 /// The leaf of the first warehouse.
-const WAREHOUSE_LEAF: usize = 2867;
+const WAREHOUSE_LEAF: usize = 45_879;
 
-/// The leaf of its first district.
-const DISTRICT_LEAF: usize = 2746;
+/// The leaf of its first district's next order.
+const DISTRICT_LEAF: usize = 21_423;
 
 /// A row for the warehouse, and one for the district with 2 as its next order.
 const BOTH: [Change; 2] = [
     Change::Put(Columns::Warehouse(1, 500)),
-    Change::Put(Columns::District((1, 1), 500, 2)),
+    Change::Put(Columns::DistrictNext((1, 1), 2)),
 ];
 
 /// Another sum for the warehouse, and no row for the district.
 pub const OTHER: [Change; 2] = [
     Change::Put(Columns::Warehouse(1, 700)),
-    Change::Remove(Columns::District((1, 1), 0, 1)),
+    Change::Remove(Columns::DistrictNext((1, 1), 1)),
 ];
 
 /// A store with both rows, and no points.
@@ -34,7 +34,9 @@ pub fn both_rows(alloc: Global) -> Option<PointedStore> {
 pub fn show_rows(rt: &impl Print, what: &str, store: &PointedStore) -> Option<()> {
     let warehouse = WarehouseId::new(1)?;
     let sum = ytd_of(store.warehouse(warehouse));
-    let district = store.district(warehouse, DistrictId::new(1)?).is_some();
+    let district = store
+        .district_next(warehouse, DistrictId::new(1)?)
+        .is_some();
     let _ = println!(rt;
         "{what}: {} points, {sum:?} cents, a district: {district}",
         store.points()
@@ -57,7 +59,7 @@ pub fn show_dirty(rt: &impl Print, what: &str, store: &mut PointedStore) {
 fn show_kinds(rt: &impl Print, store: &PointedStore) -> Option<()> {
     let (warehouse, district) = (WarehouseId::new(1)?, DistrictId::new(1)?);
     let ytd = ytd_of(store.warehouse(warehouse));
-    let next = next_of(store.district(warehouse, district));
+    let next = next_of(store.district_next(warehouse, district));
     let _ = println!(rt; "rows: {}, by kind: {ytd:?} {next:?}", store.len());
     let customer = CustomerId::new(1)?;
     let no_customer = store.customer(warehouse, district, customer).is_none();

@@ -231,9 +231,9 @@ fn bytes(text: &str) -> Option<[u8; 32]> {
 fn show_token(rt: &impl Print) -> Option<()> {
     let parts = TokenParts {
         sequence: 1,
-        prior: bytes("7f94b79fd0f486dd899754f1d08b86126f282e7cb6f911a8337604206827df75")?,
+        prior: bytes("8612e8eeacf1fd272c5a44d72977a2c220110138f1b558d6978c06e758c0ff54")?,
         catalog: bytes("54ecfbe4a6e72975f6529391ce6485c721516ecd3c71d163425e89470bf4ee20")?,
-        root: bytes("a976ef9c6903dba14a186ca3bd6d158387132f2eefb4c1ca046d479d8495f54c")?,
+        root: bytes("9470931bfca6872924fe0e49349ee12646b771c0fa6038cdaef8d3c510877f6a")?,
         replies: bytes("e3b0c44298fc1c149afbf4c8996fb92427ae41e4649b934ca495991b7852b855")?,
     };
     print_hash(rt, "token of an empty batch", &parts.token());

@@ -36,9 +36,8 @@ const LINE_AT_LAST: Sold = Sold {
 };
 
 /// Rows, and what they are called.
-const ROWS: [(&str, Columns); 12] = [
+const ROWS: [(&str, Columns); 13] = [
     ("a warehouse", Columns::Warehouse(1, 30_000_000)),
-    ("a district", Columns::District((1, 1), 3_000_000, 1)),
     (
         "a customer",
         Columns::Customer((3, 10), 3_000, (-1_000, 123_456_789_012), (7, 5), b"a|z"),
@@ -81,6 +80,14 @@ const ROWS: [(&str, Columns); 12] = [
             (1_700_000_001, 100_000),
             b"W6    D7",
         ),
+    ),
+    (
+        "a sum of a district",
+        Columns::DistrictYtd((1, 1), 3_000_000),
+    ),
+    (
+        "a next order of a district",
+        Columns::DistrictNext((1, 1), 1),
     ),
 ];
 

@@ -9,7 +9,8 @@ use tpcc_rows::id::{
 use tpcc_rows::key::RowKey;
 use tpcc_rows::number::{Amount, Carrier, Cents, Count, LineQuantity, Moment, StockQuantity};
 use tpcc_rows::row::{
-    CustomerRow, DistrictRow, HistoryRow, OrderLineRow, OrderRow, Row, StockRow, WarehouseRow, fits,
+    CustomerRow, DistrictNextRow, DistrictYtdRow, HistoryRow, OrderLineRow, OrderRow, Row,
+    StockRow, WarehouseRow, fits,
 };
 use tpcc_rows::text::Text;
 
@@ -24,8 +25,10 @@ pub type Place = (u8, u8);
 pub enum Columns {
     /// A warehouse, and W_YTD.
     Warehouse(u8, i64),
-    /// D_YTD and D_NEXT_O_ID.
-    District(Place, i64, u32),
+    /// D_YTD.
+    DistrictYtd(Place, i64),
+    /// D_NEXT_O_ID.
+    DistrictNext(Place, u32),
     /// A customer with a balance and payments, and the numbers of its payments and deliveries.
     Customer(Place, u16, (i64, i64), (u32, u32), &'static [u8]),
     /// A warehouse, an item, S_QUANTITY, and S_YTD, S_ORDER_CNT and S_REMOTE_CNT.
@@ -64,17 +67,24 @@ fn warehouse(number: u8, ytd: i64) -> Option<Pair> {
     ))
 }
 
-fn district(place: Place, ytd: i64, next: u32) -> Option<Pair> {
+fn district_ytd(place: Place, ytd: i64) -> Option<Pair> {
     let (warehouse, district) = district_of(place)?;
     let ytd = Cents::new(ytd)?;
+    let key = RowKey::DistrictYtd {
+        warehouse,
+        district,
+    };
+    Some((key, Row::DistrictYtd(DistrictYtdRow { ytd })))
+}
+
+fn district_next(place: Place, next: u32) -> Option<Pair> {
+    let (warehouse, district) = district_of(place)?;
     let next_order = OrderId::new(next)?;
-    Some((
-        RowKey::District {
-            warehouse,
-            district,
-        },
-        Row::District(DistrictRow { ytd, next_order }),
-    ))
+    let key = RowKey::DistrictNext {
+        warehouse,
+        district,
+    };
+    Some((key, Row::DistrictNext(DistrictNextRow { next_order })))
 }
 
 fn customer_key(place: Place, number: u16) -> Option<RowKey> {
@@ -205,7 +215,8 @@ impl Columns {
     pub fn row(self, alloc: Global) -> Option<Pair> {
         match self {
             Columns::Warehouse(number, ytd) => warehouse(number, ytd),
-            Columns::District(place, ytd, next) => district(place, ytd, next),
+            Columns::DistrictYtd(place, ytd) => district_ytd(place, ytd),
+            Columns::DistrictNext(place, next) => district_next(place, next),
             Columns::Customer(place, number, money, counts, data) => {
                 customer(alloc, customer_key(place, number)?, money, counts, data)
             }
@@ -299,7 +310,7 @@ pub fn ytd_of(row: Option<&WarehouseRow>) -> Option<i64> {
 }
 
 /// D_NEXT_O_ID.
-pub fn next_of(row: Option<&DistrictRow>) -> Option<u32> {
+pub fn next_of(row: Option<&DistrictNextRow>) -> Option<u32> {
     Some(row?.next_order.number())
 }
 

@@ -10,7 +10,7 @@ use tpcc_rows::plain;
 use tpcc_rows::row::fits;
 
 /// The leaf of the first seven rows.
-const LEAF: usize = 2867;
+const LEAF: usize = 45_879;
 
 const SOLD: Sold = Sold {
     item: 1,
@@ -22,26 +22,28 @@ const SOLD: Sold = Sold {
 };
 
 /// The row of a customer, which is removed later.
-const CUSTOMER: Columns = Columns::Customer((1, 2), 1_178, (500, 500), (1, 1), b"data");
+const CUSTOMER: Columns = Columns::Customer((1, 9), 1_163, (500, 500), (1, 1), b"data");
 
-/// Seven rows of one leaf, one of each kind but the district's, in key order. Behind them twelve on other leaves: two of
+/// Seven rows of one leaf, one of each kind but the district's two, in key order. Behind them fourteen on other leaves: two of
 /// each kind but the customer's and the history's.
-const ROWS: [Columns; 19] = [
+const ROWS: [Columns; 21] = [
     Columns::Warehouse(1, 500),
     CUSTOMER,
-    Columns::Stock(1, 1_088, 10, (1, 1, 1)),
-    Columns::Order((1, 1), 6_464, 1, 7, 0, 5),
-    Columns::NewOrder((1, 1), 6_404),
-    Columns::Line((1, 1), 200, 7, SOLD),
-    Columns::History(3_762, 1, ((1, 1), (1, 1)), (7, 100), b"data"),
+    Columns::Stock(1, 47_456, 10, (1, 1, 1)),
+    Columns::Order((1, 2), 2_387, 1, 7, 0, 5),
+    Columns::NewOrder((1, 6), 10_495),
+    Columns::Line((1, 3), 18, 3, SOLD),
+    Columns::History(39_184, 1, ((1, 1), (1, 1)), (7, 100), b"data"),
     Columns::Warehouse(2, 500),
-    Columns::District((2, 2), 500, 1),
+    Columns::DistrictYtd((2, 2), 500),
+    Columns::DistrictNext((2, 2), 1),
     Columns::Stock(2, 2, 10, (1, 1, 1)),
     Columns::Order((2, 2), 2, 1, 7, 0, 5),
     Columns::NewOrder((2, 2), 2),
     Columns::Line((2, 2), 2, 2, SOLD),
     Columns::Warehouse(3, 500),
-    Columns::District((2, 3), 500, 1),
+    Columns::DistrictYtd((2, 3), 500),
+    Columns::DistrictNext((2, 3), 1),
     Columns::Stock(2, 3, 10, (1, 1, 1)),
     Columns::Order((2, 3), 3, 1, 7, 0, 5),
     Columns::NewOrder((2, 3), 3),
@@ -97,7 +99,7 @@ fn show_kinds(rt: &impl Print, store: &RowStore) -> Option<()> {
     let (warehouse, district) = (WarehouseId::new(2)?, DistrictId::new(2)?);
     let customer = CustomerId::new(1)?;
     let ytd = ytd_of(store.warehouse(warehouse));
-    let next = next_of(store.district(warehouse, district));
+    let next = next_of(store.district_next(warehouse, district));
     let no_customer = store.customer(warehouse, district, customer).is_none();
     let _ = println!(rt; "by kind: {ytd:?} {next:?}, no customer: {no_customer}");
     let oldest = number_of(store.oldest_new(warehouse, district));

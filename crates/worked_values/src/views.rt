@@ -1,6 +1,6 @@
 //! Two views of one small store: district 1 of warehouse 1, in whose book customer 2 has the orders 4 and 6, both new, and
 //! a row of HISTORY.
-use crate::granules::{book, district};
+use crate::granules::{book, district_next};
 use crate::rows::{Columns, number_of, store_of};
 use rollback::PointedStore;
 use std::alloc::Global;
@@ -8,8 +8,9 @@ use tpcc_rows::footprint::Footprint;
 use tpcc_rows::id::{CustomerId, DistrictId, OrderId, WarehouseId};
 use worker_rows::{Loan, RowView, Strayed, Whole};
 
-const ROWS: [Columns; 6] = [
-    Columns::District((1, 1), 500, 7),
+const ROWS: [Columns; 7] = [
+    Columns::DistrictYtd((1, 1), 500),
+    Columns::DistrictNext((1, 1), 7),
     Columns::Order((1, 1), 4, 2, 1, 0, 5),
     Columns::Order((1, 1), 6, 2, 1, 0, 5),
     Columns::NewOrder((1, 1), 4),
@@ -18,9 +19,10 @@ const ROWS: [Columns; 6] = [
 ];
 
 /// Rows with the keys that are read: of the warehouse, the district, an order and HISTORY.
-const READ: [Columns; 4] = [
+const READ: [Columns; 5] = [
     Columns::Warehouse(1, 0),
-    Columns::District((1, 1), 0, 1),
+    Columns::DistrictYtd((1, 1), 0),
+    Columns::DistrictNext((1, 1), 1),
     Columns::NewOrder((1, 1), 4),
     Columns::History(9, 1, ((1, 1), (1, 1)), (0, 0), b""),
 ];
@@ -53,8 +55,11 @@ fn show_rest<V: RowView>(rt: &impl Print, what: &str, view: &V) -> Option<()> {
     let last = view.last_order(warehouse, number, CustomerId::new(3)?);
     let no_order = last.map(|order| order.is_none());
     let _ = println!(rt; "{what}, a customer without orders: {no_order:?}");
-    let (own, book) = (view.may_write(&district(1)?), view.may_write(&book(1)?));
-    let _ = println!(rt; "{what}: the district may be written: {own}, the book: {book}");
+    let (own, book) = (
+        view.may_write(&district_next(1)?),
+        view.may_write(&book(1)?),
+    );
+    let _ = println!(rt; "{what}: the next order may be written: {own}, the book: {book}");
     Some(())
 }
 
@@ -75,7 +80,7 @@ fn show_loan(
     show_view(rt, alloc, what, &Loan { store, footprint })
 }
 
-/// All rows; those where the district is only read; and those where its book is written.
+/// All rows; those where the district's next order is only read; and those where its book is written.
 fn show_views(
     rt: &impl Print,
     alloc: Global,
@@ -84,8 +89,8 @@ fn show_views(
     other: &mut Footprint,
 ) -> Option<()> {
     show_view(rt, alloc, "all rows", &Whole { store })?;
-    one.read(district(1)?).ok()?;
-    show_loan(rt, alloc, "a district that is lent", store, one)?;
+    one.read(district_next(1)?).ok()?;
+    show_loan(rt, alloc, "a next order that is lent", store, one)?;
     other.write(book(1)?).ok()?;
     show_loan(rt, alloc, "a book that is lent", store, other)
 }
