@@ -1,5 +1,5 @@
 -- What a record of an image says.
-use Rattle.std.specs.Prelude.{Bool, true, false, ℕ, List, Result, Ok, Err, codes, if◌then◌else◌}
+use Rattle.std.specs.Prelude.{Bool, true, false, ◌==◌, ℕ, List, Result, Ok, Err, codes, if◌then◌else◌}
 use Rattle.csv.specs.Records.{field_at}
 use Rattle.records.specs.Fields.{Fields, ◌>>=◌, is_text, number_at, number_or_null_at, of_count, signed_at, text_at}
 use Rattle.records.specs.declared.fault.Slip.{Slip}
