@@ -10,9 +10,10 @@ use Rattle.merkle.specs.declared.jobs.Job.{Job}
 use Rattle.merkle.proofs.Placing.{of-place}
 use Rattle.tpcc_model.specs.Roots.{joined, leaf_hash, node, root}
 use Rattle.tpcc_rows.specs.RowMap.{Rows}
+use Rattle.tpcc_rows.specs.declared.codes.TheConstants.{LEAVES}
 
 -- ---- a level joined again
-module _ (nodes new : List (List ℕ)) (marks after : List Bool) (jobs : List Job) (low high : ℕ) (positive : 1 ≤ low) (apart : high ≤ 2 * low) (below : low ≤ high) (inside : high ≤ 4096)
+module _ (nodes new : List (List ℕ)) (marks after : List Bool) (jobs : List Job) (low high : ℕ) (positive : 1 ≤ low) (apart : high ≤ 2 * low) (below : low ≤ high) (inside : high ≤ LEAVES)
     (range : All (λ job. (low ≤ job.place) × (job.place < high)) jobs)
     (above : (i : ℕ) → low ≤ i → i < high → has_place jobs i ≡ (is_dirty marks (2 * i) || is_dirty marks (2 * i + 1)))
     (marked : (i : ℕ) → is_dirty after i ≡ (has_place jobs i || is_dirty marks i))
@@ -38,7 +39,7 @@ module _ (nodes new : List (List ℕ)) (marks after : List Bool) (jobs : List Jo
         | inr e ↦ let none = or_parts _ _ (sym (above i l h) ∙ e) in kept i e a b (from.left i (omega arith) h none.0 none.1)
       ]
 
-  pub level-joined : length new ≡ 8192 → length after ≡ 8192 → IsJoinedFrom low new after
+  pub level-joined : length new ≡ 2 * LEAVES → length after ≡ 2 * LEAVES → IsJoinedFrom low new after
   level-joined full wide = record {
     full = full;
     wide = wide;
@@ -52,21 +53,21 @@ module _ (nodes new : List (List ℕ)) (marks after : List Bool) (jobs : List Jo
         kept i (outside i (λ x y. omega arith)) left.0 right.0 (from.left i p (omega arith) left.1 right.1);
   }
 
-  pub leaves-same : (i : ℕ) → 4096 ≤ i → at new i ≡ at nodes i
+  pub leaves-same : (i : ℕ) → LEAVES ≤ i → at new i ≡ at nodes i
   leaves-same i h = same i (outside i (λ x y. omega arith))
 
 -- ---- heights
--- a level of b nodes at this height has 4,096 leaves below
+-- a level of b nodes at this height has LEAVES leaves below
 abbrev pub IsWidth : ℕ → ℕ → Type 0
-IsWidth zero b = b ≡ 4096
+IsWidth zero b = b ≡ LEAVES
 IsWidth (suc height) b = IsWidth height (2 * b)
 
-width_le : (height b : ℕ) → IsWidth height b → b ≤ 4096
+width_le : (height b : ℕ) → IsWidth height b → b ≤ LEAVES
 width_le zero b e = omega arith
 width_le (suc height) b e = let k = width_le height (2 * b) e in omega arith
 
 -- the place b + n holds the node of this height and number n
-at-node : (nodes : List (List ℕ)) → IsTree nodes → (height b : ℕ) → IsWidth height b → (n : ℕ) → n < b → at nodes (b + n) ≡ node (λ m. at nodes (4096 + m)) height n
+at-node : (nodes : List (List ℕ)) → IsTree nodes → (height b : ℕ) → IsWidth height b → (n : ℕ) → n < b → at nodes (b + n) ≡ node (λ m. at nodes (LEAVES + m)) height n
 unfolding node
 at-node nodes tree zero b w n small = ap (λ c. at nodes (c + n)) w
 at-node nodes tree (suc height) b w n small =
@@ -76,10 +77,10 @@ at-node nodes tree (suc height) b w n small =
     (tree.joins (b + n) (omega arith) (omega arith)).join
     ∙ ap (λ i. joined (at nodes i) (at nodes (2 * (b + n) + 1))) left ∙ ap (λ i. joined (at nodes (2 * b + 2 * n)) (at nodes i)) right
     ∙ ap (λ y. joined y (at nodes (2 * b + (2 * n + 1)))) (at-node nodes tree height (2 * b) w (2 * n) (omega arith))
-    ∙ ap (joined (node (λ m. at nodes (4096 + m)) height (2 * n))) (at-node nodes tree height (2 * b) w (2 * n + 1) (omega arith))
+    ∙ ap (joined (node (λ m. at nodes (LEAVES + m)) height (2 * n))) (at-node nodes tree height (2 * b) w (2 * n + 1) (omega arith))
 
 -- nodes over leaf hashes that agree are the same
-node-alike : (f g : ℕ → List ℕ) → ((n : ℕ) → n < 4096 → f n ≡ g n) → (height b : ℕ) → IsWidth height b → (n : ℕ) → n < b → node f height n ≡ node g height n
+node-alike : (f g : ℕ → List ℕ) → ((n : ℕ) → n < LEAVES → f n ≡ g n) → (height b : ℕ) → IsWidth height b → (n : ℕ) → n < b → node f height n ≡ node g height n
 unfolding node
 node-alike f g e zero b w n small = e n (omega arith)
 node-alike f g e (suc height) b w n small =
@@ -92,13 +93,13 @@ at-drop zero n nodes = let e : n ≡ 0 + n = omega arith in ap (at nodes) e
 at-drop (suc k) n [] = refl
 at-drop (suc k) n (x ∷ nodes) = at-drop k n nodes ∙ (let e : suc (k + n) ≡ suc k + n = omega arith in ap (at (x ∷ nodes)) e)
 
-pub at-leaf : (nodes : List (List ℕ)) (n : ℕ) → at (drop 4096 nodes) n ≡ at nodes (4096 + n)
-at-leaf nodes n = at-drop 4096 n nodes
+pub at-leaf : (nodes : List (List ℕ)) (n : ℕ) → at (drop LEAVES nodes) n ≡ at nodes (LEAVES + n)
+at-leaf nodes n = at-drop LEAVES n nodes
 
 -- the node at 1 is the root from scratch
-pub at-root : (nodes : List (List ℕ)) → IsTree nodes → (rows : Rows) → IsOf (drop 4096 nodes) rows → at nodes 1 ≡ root rows
+pub at-root : (nodes : List (List ℕ)) → IsTree nodes → (rows : Rows) → IsOf (drop LEAVES nodes) rows → at nodes 1 ≡ root rows
 unfolding root
-at-root nodes tree rows h = at-node nodes tree 12 1 refl 0 (omega arith) ∙ node-alike (λ m. at nodes (4096 + m)) (leaf_hash rows) (λ n small. sym (at-leaf nodes n) ∙ h.each n small) 12 1 refl 0 (omega arith)
+at-root nodes tree rows h = at-node nodes tree 16 1 refl 0 (omega arith) ∙ node-alike (λ m. at nodes (LEAVES + m)) (leaf_hash rows) (λ n small. sym (at-leaf nodes n) ∙ h.each n small) 16 1 refl 0 (omega arith)
 
 pub at-default : (nodes : List (List ℕ)) (i : ℕ) (d : List ℕ) → i < length nodes → get_or nodes i d ≡ at nodes i
 at-default [] i d h = absurd (omega arith)
@@ -116,17 +117,17 @@ at-back d f l n i e = get_or-append_right f l n (n + i) d e (omega arith) ∙ (l
 
 -- leaves that were hashed again where they are dirty
 pub record AreRehashed (dirty : List Bool) (rows : Rows) (old new : List (List ℕ)) : Type 0 where
-  pub each : (k : ℕ) → k < 4096 → at new k ≡ rehashed dirty rows (at old k) k
+  pub each : (k : ℕ) → k < LEAVES → at new k ≡ rehashed dirty rows (at old k) k
 
-module _ (front old new : List (List ℕ)) (before dirty : List Bool) (rows : Rows) (f : length front ≡ 4096) (g : length before ≡ 4096) (h : AreRehashed dirty rows old new) where
-  unchanged : (j : ℕ) → j < 8192 → is_dirty (before ++ dirty) j ≡ false → at (front ++ new) j ≡ at (front ++ old) j
-  unchanged j small e = elim (leb_tells 4096 j) [
+module _ (front old new : List (List ℕ)) (before dirty : List Bool) (rows : Rows) (f : length front ≡ LEAVES) (g : length before ≡ LEAVES) (h : AreRehashed dirty rows old new) where
+  unchanged : (j : ℕ) → j < 2 * LEAVES → is_dirty (before ++ dirty) j ≡ false → at (front ++ new) j ≡ at (front ++ old) j
+  unchanged j small e = elim (leb_tells LEAVES j) [
     | inr t ↦ at-front [] front new j (omega arith) ∙ sym (at-front [] front old j (omega arith))
     | inl t ↦
-        let k : ℕ = j - 4096 in
-        let is : 4096 + k ≡ j = omega arith in
-        let clean : is_dirty dirty k ≡ false = sym (at-back false before dirty 4096 k g) ∙ ap (is_dirty (before ++ dirty)) is ∙ e in
-        ap (at (front ++ new)) (sym is) ∙ at-back [] front new 4096 k f ∙ h.each k (omega arith) ∙ ap (λ b. cond b (leaf_hash rows k) (at old k)) clean ∙ sym (at-back [] front old 4096 k f) ∙ ap (at (front ++ old)) is
+        let k : ℕ = j - LEAVES in
+        let is : LEAVES + k ≡ j = omega arith in
+        let clean : is_dirty dirty k ≡ false = sym (at-back false before dirty LEAVES k g) ∙ ap (is_dirty (before ++ dirty)) is ∙ e in
+        ap (at (front ++ new)) (sym is) ∙ at-back [] front new LEAVES k f ∙ h.each k (omega arith) ∙ ap (λ b. cond b (leaf_hash rows k) (at old k)) clean ∙ sym (at-back [] front old LEAVES k f) ∙ ap (at (front ++ old)) is
   ]
 
   pub nearly : IsTree (front ++ old) → IsNearlyTree (front ++ new) (before ++ dirty)
@@ -138,9 +139,9 @@ module _ (front old new : List (List ℕ)) (before dirty : List Bool) (rows : Ro
     };
   }
 
-  pub rehashed-leaf : (n : ℕ) → n < 4096 → at (front ++ new) (4096 + n) ≡ rehashed dirty rows (at (front ++ old) (4096 + n)) n
-  rehashed-leaf n small = at-back [] front new 4096 n f ∙ h.each n small ∙ ap (λ old. rehashed dirty rows old n) (sym (at-back [] front old 4096 n f))
+  pub rehashed-leaf : (n : ℕ) → n < LEAVES → at (front ++ new) (LEAVES + n) ≡ rehashed dirty rows (at (front ++ old) (LEAVES + n)) n
+  rehashed-leaf n small = at-back [] front new LEAVES n f ∙ h.each n small ∙ ap (λ old. rehashed dirty rows old n) (sym (at-back [] front old LEAVES n f))
 
 -- where all are marked, no node need be joined
-pub all-nearly : (nodes : List (List ℕ)) → IsNearlyTree nodes (replicate 8192 true)
-all-nearly nodes = record { joins = λ i low high a b. let t = get_or-replicate 8192 (2 * i) true false (omega arith) in cc }
+pub all-nearly : (nodes : List (List ℕ)) → IsNearlyTree nodes (replicate (2 * LEAVES) true)
+all-nearly nodes = record { joins = λ i low high a b. let t = get_or-replicate (2 * LEAVES) (2 * i) true false (omega arith) in cc }

@@ -8,6 +8,7 @@ use Rattle.tpcc_model.specs.Roots.{leaf_hash}
 use Rattle.rollback.specs.Marks.{is_dirty}
 use Rattle.rollback.specs.Pointed.{Pointed, KeepsCleanLeaves}
 use Rattle.merkle.specs.Nodes.{at, rehashed, IsOf, IsOfClean}
+use Rattle.tpcc_rows.specs.declared.codes.TheConstants.{LEAVES}
 
 -- what changes no clean leaf's rows leaves the tree right on the clean leaves
 pub kept-clean : (leaves : List (List ℕ)) (old new : Pointed) → KeepsCleanLeaves old new → IsOfClean leaves old.dirty old.rows → IsOfClean leaves new.dirty new.rows
@@ -17,8 +18,8 @@ kept-clean leaves old new keeps of_old = record {
 }
 
 -- where it was right on the clean leaves, it is right on all
-pub of-all : (old new : List (List ℕ)) (dirty : List Bool) (rows : Rows) → ((n : ℕ) → n < 4096 → at new n ≡ rehashed dirty rows (at old n) n) → IsOfClean old dirty rows → IsOf new rows
+pub of-all : (old new : List (List ℕ)) (dirty : List Bool) (rows : Rows) → ((n : ℕ) → n < LEAVES → at new n ≡ rehashed dirty rows (at old n) n) → IsOfClean old dirty rows → IsOf new rows
 of-all old new dirty rows each of_old = record { each = λ n small. each n small ∙ by-mark n small (is_dirty dirty n) refl } where
-  by-mark : (n : ℕ) → n < 4096 → (b : Bool) → is_dirty dirty n ≡ b → cond b (leaf_hash rows n) (at old n) ≡ leaf_hash rows n
+  by-mark : (n : ℕ) → n < LEAVES → (b : Bool) → is_dirty dirty n ≡ b → cond b (leaf_hash rows n) (at old n) ≡ leaf_hash rows n
   by-mark n small true e = refl
   by-mark n small false e = of_old.each n small e

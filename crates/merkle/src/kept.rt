@@ -93,9 +93,8 @@ fn look_of(row: &Row) -> u64 {
         }
         Row::Stock(row) => { u64::from(row.ytd.value()) << 32 | u64::from(row.order_count.value()) }
         Row::Warehouse(row) => row.ytd.amount().cast_unsigned(),
-        Row::District(row) => {
-            row.ytd.amount().cast_unsigned() ^ u64::from(row.next_order.number()) << 32
-        }
+        Row::DistrictYtd(row) => row.ytd.amount().cast_unsigned(),
+        Row::DistrictNext(row) => u64::from(row.next_order.number()),
         Row::Order(row) => u64::from(row.carrier.map_or(0, Carrier::number)),
         Row::OrderLine(row) => row.delivery.map_or(0, Moment::seconds),
         Row::NewOrder | Row::History(_) => 0,

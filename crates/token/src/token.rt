@@ -25,7 +25,7 @@ impl TokenParts {
         ensures { result ≡ token_of self.now.sequence self.now.prior self.now.catalog self.now.root self.now.replies }
     {
         let mut hasher = Sha256::new();
-        hasher.update(b"EVE-TPCC-1".as_slice());
+        hasher.update(b"EVE-TPCC-2".as_slice());
         hasher.update(self.sequence.to_be_bytes().as_slice());
         hasher.update(self.prior.as_slice());
         hasher.update(self.catalog.as_slice());
