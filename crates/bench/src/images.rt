@@ -43,7 +43,9 @@ fn push_district(
     customers: u16,
     population: Population,
 ) -> Result<(), AllocError> {
-    writeln!(text, "D,{w},{d},D{d},500,3000000,1")?;
+    writeln!(text, "D,{w},{d},D{d},500")?;
+    writeln!(text, "Y,{w},{d},3000000")?;
+    writeln!(text, "X,{w},{d},1")?;
     for c in 0..customers {
         push_customer(text, (w, d, c + 1), population)?;
     }
@@ -70,11 +72,11 @@ pub fn image(
     customers: u16,
     population: Population,
 ) -> Result<String, AllocError> {
-    let mut text = String::from_str(alloc, "eve-tpcc,1\n")?;
+    let mut text = String::from_str(alloc, "eve-tpcc,2\n")?;
     for w in 0..warehouses {
         push_warehouse(&mut text, w.wrapping_add(1), customers, population)?;
     }
-    let count = u32::from(warehouses) * (11 + 10 * u32::from(customers));
+    let count = u32::from(warehouses) * (31 + 10 * u32::from(customers));
     writeln!(text, "E,{count}")?;
     Ok(text)
 }
@@ -93,8 +95,8 @@ fn push_records(text: &mut Vec<u8>, image: &[u8], letters: &[u8]) -> Result<u64,
 
 /// The image with the items and the stocks of another one.
 pub fn with_stocks(alloc: Global, image: &[u8], other: &[u8]) -> Result<Vec<u8>, AllocError> {
-    let mut text = b"eve-tpcc,1\n".to_vec(alloc)?;
-    let front = push_records(&mut text, image, b"WDC")?;
+    let mut text = b"eve-tpcc,2\n".to_vec(alloc)?;
+    let front = push_records(&mut text, image, b"WDYXC")?;
     let count = front.wrapping_add(push_records(&mut text, other, b"IS")?);
     let end = format!(in alloc; "E,{count}\n")?;
     text.extend_from_slice(end.as_bytes())?;

@@ -14,7 +14,9 @@ use std::thread::Threads;
 use std::time::Duration;
 use tpcc_rows::codes::LEAVES;
 use tpcc_rows::key::RowKey;
-use tpcc_rows::row::{CustomerRow, DistrictRow, Row, WarehouseRow, fits};
+use tpcc_rows::row::{
+    CustomerRow, DistrictNextRow, DistrictYtdRow, Row, StockRow, WarehouseRow, fits,
+};
 
 /// How often each time is taken; the least counts.
 const ROUNDS: u32 = 20;
@@ -34,19 +36,26 @@ fn paid(alloc: Global, row: &CustomerRow) -> Option<Row> {
     Row::of_customer(alloc, changed).ok()
 }
 
-/// Another row than this one; None of a kind with which no page of a full warehouse begins.
+/// Another row than this one; None of a kind that a full warehouse hasn't before its first order.
 fn changed(alloc: Global, row: &Row) -> Option<Row> {
     match row {
         Row::Warehouse(row) => {
             let ytd = row.ytd.raised(1)?;
             Some(Row::Warehouse(WarehouseRow { ytd }))
         }
-        Row::District(row) => {
-            let ytd = row.ytd.raised(1)?;
-            let next_order = row.next_order;
-            Some(Row::District(DistrictRow { ytd, next_order }))
-        }
         Row::Customer(shared) => paid(alloc, shared.row()),
+        Row::Stock(row) => {
+            let ytd = row.ytd.raised(1)?;
+            Some(Row::Stock(StockRow { ytd, ..*row }))
+        }
+        Row::DistrictYtd(row) => {
+            let ytd = row.ytd.raised(1)?;
+            Some(Row::DistrictYtd(DistrictYtdRow { ytd }))
+        }
+        Row::DistrictNext(row) => {
+            let next_order = row.next_order.next()?;
+            Some(Row::DistrictNext(DistrictNextRow { next_order }))
+        }
         _ => None,
     }
 }
@@ -57,25 +66,28 @@ fn first_changed(alloc: Global, page: &LeafRows) -> Option<(RowKey, Row)> {
     Some((*key, changed(alloc, row)?))
 }
 
-/// All leaves. The first row of each becomes another one, so that all of its text is hashed, whatever is kept of it.
-fn all_leaves(alloc: Global, store: &mut PointedStore) -> Option<Dirty> {
+/// All leaves with a row. The first row of each becomes another one, so that all of its text is hashed, whatever is kept of it.
+fn filled_leaves(alloc: Global, store: &mut PointedStore) -> Option<Dirty> {
     for leaf in 0..LEAVES {
-        let (key, row) = first_changed(alloc, store.page(leaf))?;
-        if fits(&key, &row) {
-            store.put(key, row).ok()?;
+        if let Some((key, row)) = first_changed(alloc, store.page(leaf)) {
+            if fits(&key, &row) {
+                store.put(key, row).ok()?;
+            }
         }
     }
     Some(store.take_dirty())
 }
 
-/// Hashes all leaves, and as many nodes as stand above them, one after the other.
-fn hash_alone(store: &PointedStore) -> u64 {
+/// Hashes the leaves of a set, and as many nodes as they are, one after the other.
+fn hash_alone(store: &PointedStore, dirty: &Dirty) -> u64 {
     let mut last = [0u8; 32];
     let mut mixed = 0u64;
     for leaf in 0..LEAVES {
-        let hash = hash_leaf(store.page(leaf));
-        last = join(&last, &hash);
-        mixed = mixed.wrapping_add(u64::from(last[0]));
+        if dirty.has(leaf) {
+            let hash = hash_leaf(store.page(leaf));
+            last = join(&last, &hash);
+            mixed = mixed.wrapping_add(u64::from(last[0]));
+        }
     }
     mixed
 }
@@ -127,7 +139,7 @@ impl Times {
         dirty: &Dirty,
     ) -> u64 {
         let begin = start(rt);
-        let mixed = hash_alone(store);
+        let mixed = hash_alone(store, dirty);
         self.tree_alone = self.tree_alone.min(since(rt, begin));
         let begin = start(rt);
         tree.refresh(rt, store, dirty, 1);
@@ -148,14 +160,14 @@ impl Times {
     fn print(&self, rt: &impl Eprint) {
         print_ratio(
             rt,
-            "4,096 leaves and the nodes above them, one hash after the other",
+            "all leaves with a row and the nodes above them, one hash after the other",
             self.tree_alone,
             "four at once",
             self.tree,
         );
         print_ratio(
             rt,
-            "4,096 nodes, one hash after the other",
+            "65,536 nodes, one hash after the other",
             self.nodes_alone,
             "four at once",
             self.nodes,
@@ -171,7 +183,7 @@ pub fn measure<R: Clock + Eprint + AllocGlobal + Threads + Sync>(rt: &R) -> Opti
     let mut times = Times::LONGEST;
     let mut mixed = 0u64;
     for _ in 0..ROUNDS {
-        let dirty = all_leaves(rt.alloc(), &mut store)?;
+        let dirty = filled_leaves(rt.alloc(), &mut store)?;
         mixed = mixed.wrapping_add(times.take_tree(rt, &mut tree, &store, &dirty));
         mixed = mixed.wrapping_add(times.take_nodes(rt));
     }

@@ -69,15 +69,14 @@ impl Stages {
 
 /// How many nodes stand above the leaves of a set.
 fn nodes_above(dirty: &Dirty) -> usize {
-    let mut marks = [false; 2 * LEAVES];
-    let (_, leaves) = marks.split_at_mut(LEAVES);
-    leaves.copy_from_slice(dirty.marks());
     let mut count = 0usize;
-    for place in 1..LEAVES {
-        let node = LEAVES - place;
-        if marks[2 * node] || marks[2 * node + 1] {
-            marks[node] = true;
-            count = count.saturating_add(1);
+    for height in 1..17u32 {
+        let mut last = LEAVES;
+        for leaf in 0..LEAVES {
+            if dirty.has(leaf) && leaf >> height != last {
+                last = leaf >> height;
+                count = count.saturating_add(1);
+            }
         }
     }
     count

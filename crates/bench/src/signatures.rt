@@ -219,7 +219,7 @@ fn touch_new_order(footprint: &mut Footprint, place: usize) -> Option<()> {
     let warehouse = WarehouseId::new(1)?;
     let district = DistrictId::new((place % 10) as u8 + 1)?;
     footprint
-        .write(Granule::District {
+        .write(Granule::DistrictNext {
             warehouse,
             district,
         })

@@ -185,9 +185,8 @@ fn awkward<R: Host>(rt: &R, alloc: Global, seed: u32, scale: Scale) -> Option<Ve
     session(rt, alloc, image.as_slice(), commands.as_slice(), 2)
 }
 
-/// Batches of the mix, by four workers, on a database whose leaves have more bytes than are hashed four at once: some forty customers
-/// each, whose data are as long as they can be.
-fn long_leaves<R: Host>(rt: &R, alloc: Global, seed: u32, scale: Scale) -> Option<Vec<u8>> {
+/// Batches of the mix, by four workers, on six warehouses of nearly full scale whose customers' data are as long as they can be.
+fn long_data<R: Host>(rt: &R, alloc: Global, seed: u32, scale: Scale) -> Option<Vec<u8>> {
     let size = Size {
         warehouses: scale.of(6, 2),
         customers: scale.of(2_750, 10),
@@ -215,7 +214,7 @@ pub fn done<R: Host>(
         "load" => load(rt, alloc, seed, scale),
         "store" => store(rt, alloc, seed, scale),
         "awkward" => awkward(rt, alloc, seed, scale),
-        "scale" => long_leaves(rt, alloc, seed, scale),
+        "scale" => long_data(rt, alloc, seed, scale),
         _ => None,
     }
 }
