@@ -38,7 +38,7 @@ unfolding read_from
 read_from-filled version [] n db filled = tt
 read_from-filled version (r ∷ rs) n db filled = either IsFilled (is_end r) _ _
     (λ _. either IsFilled (counts n r) (ended rs (n + 1) db) (Err (err.BadRecord n)) (λ _. ended-filled rs (n + 1) db filled) (λ _. tt))
-    (λ _. placed-filled n db (record_at version r) (read_from version rs (n + 1)) (record_at-limits version r) filled (read_from-filled version rs (n + 1)))
+    (λ _. placed-filled n db (record_at version r) (read_from version rs (n + 1)) (record_at-limits r version) filled (read_from-filled version rs (n + 1)))
 
 read_as-filled : (version : Option Version) (rs : List Fields) → IfOk (read_as version rs) IsFilled
 read_as-filled None rs = tt
