@@ -1,4 +1,4 @@
--- The keys of the rows that go with no card, gathered page after page, and what is said at them.
+-- The keys of the rows that are said by themselves, gathered page after page, and what is said at them.
 use Rattle.std.proofs.Common.{◌≡◌, ◌∙◌, inl, inr, ℕ, ◌+◌, List, [], ◌∷◌, cond, T, Bool, true, false, ◌&&◌, ◌||◌, eqb, ltb, Option, Some, None, refl, sym, ap, arith}
 use Rattle.std.specs.Prelude.{filter_map, is_some}
 use Rattle.std.specs.BTreeMap.{is_at}
@@ -22,7 +22,9 @@ use Rattle.tpcc_rows.proofs.Keys.{exact_keys, row_key_cmp_total}
 use Rattle.tpcc_rows.proofs.LeafPicks.{leaf-small}
 use Rattle.tpcc_rows.proofs.Singles.{tied}
 use Rattle.pages.proofs.Paging.{get-page_rows}
-use Rattle.stored_image.specs.StoredImage.{HasAlsoAlone, row_said, said_at, stands_alone}
+use Rattle.stored_image.specs.StoredImage.{HasAlsoAlone, row_said, rows_said, said_at, stands_alone}
+use Rattle.stored_image.specs.declared.stored_record.RowPart.{RowPart}
+use Rattle.stored_image.specs.declared.stored_record.RowPart.TheVariants as row_part
 use Rattle.image_records.specs.Databases.{has_row}
 use Rattle.image_records.specs.declared.image_record.ImageRecord.{ImageRecord}
 
@@ -42,14 +44,14 @@ module _ (rows : Rows) where
   abbrev pub rows_at : List RowKey → List (RowKey × Row)
   rows_at ks = filter_map row_at ks
 
-  said-cons : (k : RowKey) (o : Option Row) (ss : List ImageRecord) (es : List (RowKey × Row)) → ss ≡ filter_map row_said es
-      → cons_option (option_and_then (λ r. row_said (k, r)) o) ss ≡ filter_map row_said (cons_option (option_map (λ r. (k, r)) o) es)
-  said-cons k None ss es h = h
-  said-cons k (Some r) ss es h = ap (cons_option (row_said (k, r))) h
+  said-cons : (p : RowPart) (k : RowKey) (o : Option Row) (ss : List ImageRecord) (es : List (RowKey × Row)) → ss ≡ rows_said p es
+      → cons_option (option_and_then (λ r. row_said p (k, r)) o) ss ≡ rows_said p (cons_option (option_map (λ r. (k, r)) o) es)
+  said-cons p k None ss es h = h
+  said-cons p k (Some r) ss es h = ap (cons_option (row_said p (k, r))) h
 
-  said-rows_at : (ks : List RowKey) → filter_map (said_at rows) ks ≡ filter_map row_said (rows_at ks)
-  said-rows_at [] = refl
-  said-rows_at (k ∷ ks) = said-cons k (get rows k) _ _ (said-rows_at ks)
+  said-rows_at : (p : RowPart) (ks : List RowKey) → filter_map (said_at p rows) ks ≡ rows_said p (rows_at ks)
+  said-rows_at p [] = refl
+  said-rows_at p (k ∷ ks) = said-cons p k (get rows k) _ _ (said-rows_at p ks)
 
   below-cons : (k y : RowKey) (o : Option Row) (es : List (RowKey × Row)) → row_key_cmp k y ≡ Less → T (below_all row_key_cmp k es)
       → T (below_all row_key_cmp k (cons_option (option_map (λ r. (y, r)) o) es))
@@ -92,21 +94,24 @@ module _ (rows : Rows) where
   find-rows_at q [] = refl
   find-rows_at q (k ∷ ks) = found-cons q k (get rows k) (rows_at ks) (list_any (is_at (row_key_cmp q)) ks) refl (find-rows_at q ks)
 
--- ---- the rows that go with no card
-not_said : (e : RowKey × Row) → stands_alone e.0 ≡ false → row_said e ≡ None
-not_said (key.Order w d o, r) h = cc
-not_said (key.NewOrder w d o, r) h = cc
-not_said (key.OrderLine w d o n, r) h = cc
-not_said (key.History n, r) h = cc
-not_said (_, r) h = refl
+-- ---- the rows that are said by themselves
+not_said : (p : RowPart) (e : RowKey × Row) → stands_alone e.0 ≡ false → row_said p e ≡ None
+not_said p (key.Order w d o, r) h = cc
+not_said p (key.NewOrder w d o, r) h = cc
+not_said p (key.OrderLine w d o n, r) h = cc
+not_said p (key.History n, r) h = cc
+not_said p (key.DistrictYtd w d, r) h = cc
+not_said p (key.DistrictNext w d, r) h = cc
+not_said row_part.Districts (_, r) h = refl
+not_said row_part.Others (_, r) h = refl
 
-said-where : (es : List (RowKey × Row)) → filter_map row_said (where_key row_key_cmp stands_alone es) ≡ filter_map row_said es
-said-where [] = refl
-said-where (e ∷ es) = elim (cases_Bool (stands_alone e.0)) [
-  | inl alone ↦ ap (λ b. filter_map row_said (cond b (e ∷ where_key row_key_cmp stands_alone es) (where_key row_key_cmp stands_alone es))) alone ∙ ap (cons_option (row_said e)) (said-where es)
+said-where : (p : RowPart) (es : List (RowKey × Row)) → rows_said p (where_key row_key_cmp stands_alone es) ≡ rows_said p es
+said-where p [] = refl
+said-where p (e ∷ es) = elim (cases_Bool (stands_alone e.0)) [
+  | inl alone ↦ ap (λ b. rows_said p (cond b (e ∷ where_key row_key_cmp stands_alone es) (where_key row_key_cmp stands_alone es))) alone ∙ ap (cons_option (row_said p e)) (said-where p es)
   | inr with_card ↦
-      ap (λ b. filter_map row_said (cond b (e ∷ where_key row_key_cmp stands_alone es) (where_key row_key_cmp stands_alone es))) with_card
-      ∙ said-where es ∙ ap (λ o. cons_option o (filter_map row_said es)) (sym (not_said e with_card))
+      ap (λ b. rows_said p (cond b (e ∷ where_key row_key_cmp stands_alone es) (where_key row_key_cmp stands_alone es))) with_card
+      ∙ said-where p es ∙ ap (λ o. cons_option o (rows_said p es)) (sym (not_said p e with_card))
 ]
 
 there : (alone : Bool) (o : Option Row) → cond (alone && is_some o) o None ≡ cond alone o None
@@ -114,18 +119,18 @@ there true None = refl
 there true (Some r) = refl
 there false o = refl
 
--- what is said at the keys of all rows that go with no card
-pub said-in_order : (rows : Rows) (keys : BTreeSet RowKey) → IsStrictlySortedBy row_key_cmp keys.keys
+-- what is said at the keys of all rows that are said by themselves
+pub said-in_order : (p : RowPart) (rows : Rows) (keys : BTreeSet RowKey) → IsStrictlySortedBy row_key_cmp keys.keys
     → ((q : RowKey) → contains row_key_cmp keys q ≡ (stands_alone q && has_row rows q))
-    → filter_map (said_at rows) keys.keys ≡ filter_map row_said (entries rows)
-said-in_order rows keys ordered all =
+    → filter_map (said_at p rows) keys.keys ≡ rows_said p (entries rows)
+said-in_order p rows keys ordered all =
     let left = where_key row_key_cmp stands_alone (entries rows) in
     let same : rows_at rows keys.keys ≡ left = same_entries row_key_cmp row_key_cmp_total exact_keys (rows_at rows keys.keys) left (sorted-rows_at rows keys.keys ordered)
     (is_sorted-where_key row_key_cmp stands_alone (entries rows) (entries_sorted rows))
     (λ q. find-rows_at rows q keys.keys ∙ ap (λ b. cond b (get rows q) None) (all q) ∙ there (stands_alone q) (get rows q)
     ∙ ap (λ o. cond (stands_alone q) o None) (get-entries rows q)
     ∙ sym (find-where_key row_key_cmp stands_alone q (λ x t. ap stands_alone (sym (exact_keys q x t))) (entries rows))) in
-    said-rows_at rows keys.keys ∙ ap (filter_map row_said) same ∙ said-where (entries rows)
+    said-rows_at rows p keys.keys ∙ ap (rows_said p) same ∙ said-where p (entries rows)
 
 -- ---- the keys of one page
 -- the keys so far and those of what is left of the page are those of before and of the whole page
@@ -177,7 +182,7 @@ adding-whole old page new h q =
     sym (or-false (contains row_key_cmp new q) (stands_alone q)) ∙ h.whole q ∙ ap (λ o. contains row_key_cmp old q || (stands_alone q && is_some o)) (sym (get-entries page q))
 
 -- ---- the keys of all pages
--- the keys of the rows that go with no card on the leaves below n
+-- the keys of the rows that are said by themselves on the leaves below n
 pub record HasBelow (rows : Rows) (n : ℕ) (keys : BTreeSet RowKey) : Type 0 where
   pub has : (q : RowKey) → contains row_key_cmp keys q ≡ (ltb (leaf q) n && (stands_alone q && has_row rows q))
 
@@ -203,7 +208,7 @@ below-more rows n old new h more = record {
       ]
     ]
 
-pub below-all : (rows : Rows) (n : ℕ) (keys : BTreeSet RowKey) → n ≡ 4096 → HasBelow rows n keys → (q : RowKey) → contains row_key_cmp keys q ≡ (stands_alone q && has_row rows q)
+pub below-all : (rows : Rows) (n : ℕ) (keys : BTreeSet RowKey) → n ≡ 65536 → HasBelow rows n keys → (q : RowKey) → contains row_key_cmp keys q ≡ (stands_alone q && has_row rows q)
 below-all rows n keys last h q =
     let small = leaf-small q in
     h.has q ∙ ap (λ b. b && (stands_alone q && has_row rows q)) (lt-ltb (leaf q) n (omega (arith, small, last)))

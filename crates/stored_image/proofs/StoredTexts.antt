@@ -1,8 +1,9 @@
 -- The texts of the parts of an image, one after the other, and how many records they are.
-use Rattle.std.proofs.Common.{◌≡◌, ◌∙◌, ◌≤◌, ◌+◌, ℕ, suc, List, [], ◌∷◌, ◌++◌, length, map, Option, Some, None, refl, sym, ap, ap₂, arith, append_assoc, append-nil}
+use Rattle.std.proofs.Common.{◌≡◌, ◌∙◌, ◌⊎◌, inl, inr, ◌≤◌, ◌+◌, ℕ, suc, List, [], ◌∷◌, ◌++◌, length, map, Option, Some, None, refl, sym, ap, ap₂, arith, append_assoc, append-nil, length-append}
 use Rattle.std.specs.Prelude.{filter_map}
 use Rattle.std.specs.List.{cons_option}
-use Rattle.std.specs.FinMap.{entries}
+use Rattle.std.specs.FinMap.{entries, get}
+use Rattle.std.specs.Option.{option_and_then}
 use Rattle.std.proofs.lemmas.List.{map-append}
 use Rattle.catalog.specs.declared.card.Card.{Card}
 use Rattle.catalog.specs.declared.card.CardKey.{CardKey}
@@ -11,10 +12,14 @@ use Rattle.records.specs.Fields.{Fields}
 use Rattle.records.specs.Spelling.{text_of_record, text_of_records}
 use Rattle.tpcc_model.specs.Database.{Database}
 use Rattle.tpcc_rows.specs.RowMap.{Rows}
-use Rattle.stored_image.specs.StoredImage.{card_said, image_records, image_said, part_said, row_said}
+use Rattle.tpcc_rows.specs.declared.key.RowKey.{RowKey}
+use Rattle.tpcc_rows.specs.declared.key.RowKey.TheVariants as key
+use Rattle.tpcc_rows.specs.declared.row.Row.{Row}
+use Rattle.stored_image.specs.StoredImage.{card_said, image_records, image_said, part_said, row_said, rows_said, said_at}
 use Rattle.stored_image.specs.StoredRecords.{written_end, written_first, written_record}
 use Rattle.image_records.specs.declared.image_record.ImageRecord.{ImageRecord}
 use Rattle.stored_image.specs.declared.store.CardPart.TheVariants as part
+use Rattle.stored_image.specs.declared.stored_record.RowPart.TheVariants as row_part
 
 pub text_of_records-append : (xs ys : List Fields) → text_of_records (xs ++ ys) ≡ text_of_records xs ++ text_of_records ys
 text_of_records-append [] ys = refl
@@ -32,30 +37,84 @@ text_said-more : (start one two : List ℕ) (ss ts : List ImageRecord) → one �
 text_said-more start one two ss ts e1 e2 =
     e2 ∙ ap (λ (t : List ℕ). t ++ text_said ts) e1 ∙ append_assoc start (text_said ss) (text_said ts) ∙ ap (λ (t : List ℕ). start ++ t) (sym (text_said-append ss ts))
 
--- the texts of the four parts, after what was written before
-pub tables-whole : (db : Database) (start one two three four : List ℕ) (alone : List ImageRecord) → one ≡ start ++ text_said (part_said part.BeforeItems db.rows (entries db.cards))
-    → two ≡ one ++ text_said (part_said part.Items db.rows (entries db.cards)) → three ≡ two ++ text_said (part_said part.Stocks db.rows (entries db.cards))
-    → four ≡ three ++ text_said alone → alone ≡ filter_map row_said (entries db.rows) → four ≡ start ++ text_said (image_said db)
+-- the texts of the six parts, after what was written before
+pub tables-whole : (db : Database) (start one two three four five six : List ℕ) (districts others : List ImageRecord)
+    → one ≡ start ++ text_said (part_said part.WarehousesAndDistricts db.rows (entries db.cards)) → two ≡ one ++ text_said districts
+    → three ≡ two ++ text_said (part_said part.Customers db.rows (entries db.cards)) → four ≡ three ++ text_said (part_said part.Items db.rows (entries db.cards))
+    → five ≡ four ++ text_said (part_said part.Stocks db.rows (entries db.cards)) → six ≡ five ++ text_said others
+    → districts ≡ rows_said row_part.Districts (entries db.rows) → others ≡ rows_said row_part.Others (entries db.rows) → six ≡ start ++ text_said (image_said db)
 unfolding image_said
-tables-whole db start one two three four alone e1 e2 e3 e4 said =
-    text_said-more start three four _ _ (text_said-more start two three _ _ (text_said-more start one two _ _ e1 e2) e3) (e4 ∙ ap (λ ss. three ++ text_said ss) said)
+tables-whole db start one two three four five six districts others e1 e2 e3 e4 e5 e6 districts_are others_are =
+    text_said-more start five six _ _
+    (text_said-more start four five _ _ (text_said-more start three four _ _ (text_said-more start two three _ _
+    (text_said-more start one two _ _ e1 (e2 ∙ ap (λ ss. one ++ text_said ss) districts_are)) e3) e4) e5)
+    (e6 ∙ ap (λ ss. five ++ text_said ss) others_are)
+
+-- how many records the six parts are
+pub count-whole : (db : Database) (districts others : List ImageRecord) → districts ≡ rows_said row_part.Districts (entries db.rows) → others ≡ rows_said row_part.Others (entries db.rows)
+    → length (part_said part.WarehousesAndDistricts db.rows (entries db.cards)) + length (part_said part.Customers db.rows (entries db.cards)) + length (part_said part.Items db.rows (entries db.cards))
+    + length (part_said part.Stocks db.rows (entries db.cards)) + (length districts + length others) ≡ length (image_said db)
+unfolding image_said
+count-whole db districts others districts_are others_are =
+    let first = part_said part.WarehousesAndDistricts db.rows (entries db.cards) in
+    let customers = part_said part.Customers db.rows (entries db.cards) in
+    let items = part_said part.Items db.rows (entries db.cards) in
+    let stocks = part_said part.Stocks db.rows (entries db.cards) in
+    let district_rows = rows_said row_part.Districts (entries db.rows) in
+    let other_rows = rows_said row_part.Others (entries db.rows) in
+    let one = length-append first district_rows in
+    let two = length-append (first ++ district_rows) customers in
+    let three = length-append (first ++ district_rows ++ customers) items in
+    let four = length-append (first ++ district_rows ++ customers ++ items) stocks in
+    let five = length-append (first ++ district_rows ++ customers ++ items ++ stocks) other_rows in
+    let districts_count : length districts ≡ length district_rows = ap length districts_are in
+    let others_count : length others ≡ length other_rows = ap length others_are in
+    omega (arith, one, two, three, four, five, districts_count, others_count)
 
 -- one entry more is at most one record more
 cons-fewer : {A : Type 0} (o : Option A) (xs : List A) → length (cons_option o xs) ≤ suc (length xs)
 cons-fewer None xs = omega arith
 cons-fewer (Some x) xs = omega arith
 
-pub fewer : {A B : Type 0} (f : A → Option B) (xs : List A) → length (filter_map f xs) ≤ length xs
-fewer f [] = omega arith
-fewer f (x ∷ xs) = let one = cons-fewer (f x) (filter_map f xs) in let rest = fewer f xs in omega (arith, one, rest)
-
 -- a card is in one part
 pub parts-fewer : (rows : Rows) (es : List (CardKey × Card))
-    → length (part_said part.BeforeItems rows es) + length (part_said part.Items rows es) + length (part_said part.Stocks rows es) ≤ length es
+    → length (part_said part.WarehousesAndDistricts rows es) + length (part_said part.Customers rows es) + length (part_said part.Items rows es) + length (part_said part.Stocks rows es) ≤ length es
 parts-fewer rows [] = omega arith
+parts-fewer rows ((card_key.Warehouse w, c) ∷ es) = let one = cons-fewer (card_said rows c) (part_said part.WarehousesAndDistricts rows es) in let rest = parts-fewer rows es in omega (arith, one, rest)
+parts-fewer rows ((card_key.District w d, c) ∷ es) = let one = cons-fewer (card_said rows c) (part_said part.WarehousesAndDistricts rows es) in let rest = parts-fewer rows es in omega (arith, one, rest)
+parts-fewer rows ((card_key.Customer w d n, c) ∷ es) = let one = cons-fewer (card_said rows c) (part_said part.Customers rows es) in let rest = parts-fewer rows es in omega (arith, one, rest)
 parts-fewer rows ((card_key.Item i, c) ∷ es) = let one = cons-fewer (card_said rows c) (part_said part.Items rows es) in let rest = parts-fewer rows es in omega (arith, one, rest)
 parts-fewer rows ((card_key.Stock w i, c) ∷ es) = let one = cons-fewer (card_said rows c) (part_said part.Stocks rows es) in let rest = parts-fewer rows es in omega (arith, one, rest)
-parts-fewer rows ((_, c) ∷ es) = let one = cons-fewer (card_said rows c) (part_said part.BeforeItems rows es) in let rest = parts-fewer rows es in omega (arith, one, rest)
+
+-- and so is a row
+one_part : (e : RowKey × Row) → (row_said row_part.Districts e ≡ None) ⊎ (row_said row_part.Others e ≡ None)
+one_part (key.DistrictYtd w d, r) = inr refl
+one_part (key.DistrictNext w d, r) = inr refl
+one_part (_, r) = inl refl
+
+one_part-at : (rows : Rows) (k : RowKey) → (said_at row_part.Districts rows k ≡ None) ⊎ (said_at row_part.Others rows k ≡ None)
+one_part-at rows k = by (get rows k)
+  where
+    by : (o : Option Row) → (option_and_then (λ r. row_said row_part.Districts (k, r)) o ≡ None) ⊎ (option_and_then (λ r. row_said row_part.Others (k, r)) o ≡ None)
+    by None = inl refl
+    by (Some r) = one_part (k, r)
+
+pub rows-fewer : (rows : Rows) (ks : List RowKey) → length (filter_map (said_at row_part.Districts rows) ks) + length (filter_map (said_at row_part.Others rows) ks) ≤ length ks
+rows-fewer rows [] = omega arith
+rows-fewer rows (k ∷ ks) =
+    let districts = filter_map (said_at row_part.Districts rows) ks in
+    let others = filter_map (said_at row_part.Others rows) ks in
+    let rest = rows-fewer rows ks in
+    elim (one_part-at rows k) [
+      | inl none ↦
+          let more = cons-fewer (said_at row_part.Others rows k) others in
+          let same : length (cons_option (said_at row_part.Districts rows k) districts) ≡ length districts = ap (λ o. length (cons_option o districts)) none in
+          omega (arith, more, same, rest)
+      | inr none ↦
+          let more = cons-fewer (said_at row_part.Districts rows k) districts in
+          let same : length (cons_option (said_at row_part.Others rows k) others) ≡ length others = ap (λ o. length (cons_option o others)) none in
+          omega (arith, more, same, rest)
+    ]
 
 -- the first record, the records of the tables, and the end record
 pub image-whole : (db : Database) (first end : Fields) (none start middle whole : List ℕ) → none ≡ [] → first ≡ written_first → start ≡ none ++ text_of_record first

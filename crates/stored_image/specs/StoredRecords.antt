@@ -13,7 +13,8 @@ use Rattle.records.specs.Fields.{Fields}
 use Rattle.records.specs.Spelling.{number_or_dash}
 use Rattle.tpcc_rows.specs.Limits.{ten}
 use Rattle.tpcc_rows.specs.declared.row.CustomerRow.{CustomerRow}
-use Rattle.tpcc_rows.specs.declared.row.DistrictRow.{DistrictRow}
+use Rattle.tpcc_rows.specs.declared.row.DistrictNextRow.{DistrictNextRow}
+use Rattle.tpcc_rows.specs.declared.row.DistrictYtdRow.{DistrictYtdRow}
 use Rattle.tpcc_rows.specs.declared.row.HistoryRow.{HistoryRow}
 use Rattle.tpcc_rows.specs.declared.row.OrderLineRow.{OrderLineRow}
 use Rattle.tpcc_rows.specs.declared.row.OrderRow.{OrderRow}
@@ -30,10 +31,23 @@ credit_text credit.Bad = codes "BC"
 unfoldable pub written_warehouse : WarehouseCard → WarehouseRow → Fields
 written_warehouse c r = codes "W" ∷ decimal c.warehouse ∷ c.name ∷ decimal c.tax ∷ signed_decimal r.ytd ∷ []
 
--- `D,w,d,name,tax,ytd,next`
-unfoldable pub written_district : DistrictCard → DistrictRow → Fields
-written_district c r =
-    codes "D" ∷ decimal c.warehouse ∷ decimal c.district ∷ c.name ∷ decimal c.tax ∷ signed_decimal r.ytd ∷ decimal r.next_order ∷ []
+-- `D,w,d,name,tax`
+unfoldable pub written_district : DistrictCard → Fields
+written_district c = codes "D" ∷ decimal c.warehouse ∷ decimal c.district ∷ c.name ∷ decimal c.tax ∷ []
+
+-- `Y,w,d,ytd`
+unfoldable pub written_district_ytd : ℕ → ℕ → DistrictYtdRow → Fields
+written_district_ytd w d r = codes "Y" ∷ decimal w ∷ decimal d ∷ signed_decimal r.ytd ∷ []
+
+-- `X,w,d,next`
+unfoldable pub written_district_next : ℕ → ℕ → DistrictNextRow → Fields
+written_district_next w d r = codes "X" ∷ decimal w ∷ decimal d ∷ decimal r.next_order ∷ []
+
+-- `D,w,d,name,tax,ytd,next`, which only version 1 has
+unfoldable pub written_whole_district : DistrictCard → DistrictYtdRow → DistrictNextRow → Fields
+written_whole_district c ytd next =
+    codes "D" ∷ decimal c.warehouse ∷ decimal c.district ∷ c.name ∷ decimal c.tax ∷ signed_decimal ytd.ytd
+    ∷ decimal next.next_order ∷ []
 
 -- `C,w,d,c,last,middle,first,credit,discount,balance,ytd_payment,payment_cnt,delivery_cnt,data`
 unfoldable pub written_customer : CustomerCard → CustomerRow → Fields
@@ -77,7 +91,10 @@ written_history number r =
 -- the record that says this
 abbrev pub written_record : ImageRecord → Fields
 written_record (said.Warehouse c r) = written_warehouse c r
-written_record (said.District c r) = written_district c r
+written_record (said.District c) = written_district c
+written_record (said.DistrictYtd w d r) = written_district_ytd w d r
+written_record (said.DistrictNext w d r) = written_district_next w d r
+written_record (said.WholeDistrict c ytd next) = written_whole_district c ytd next
 written_record (said.Customer c r) = written_customer c r
 written_record (said.Item c) = written_item c
 written_record (said.Stock c r) = written_stock c r
@@ -86,9 +103,9 @@ written_record (said.NewOrder w d o) = written_new_order w d o
 written_record (said.OrderLine w d o number r) = written_order_line w d o number r
 written_record (said.History number r) = written_history number r
 
--- `eve-tpcc,1`
+-- `eve-tpcc,2`
 unfoldable pub written_first : Fields
-written_first = codes "eve-tpcc" ∷ codes "1" ∷ []
+written_first = codes "eve-tpcc" ∷ codes "2" ∷ []
 
 -- `E,count`
 unfoldable pub written_end : ℕ → Fields

@@ -1,8 +1,10 @@
-//! The keys of the rows that go with no card, in their order: the rows stand on pages, of which each is in order by itself.
+//! The keys of the rows that are said by themselves, in their order: the rows stand on pages, of which each is in order by
+//! itself.
 ghost use Rattle.std.specs.Prelude.{◌≡◌, ◌<◌, ◌^◌, filter_map, IfOk, OnOk};
 ghost use Rattle.std.specs.BTreeSet.{btree_set_len};
 ghost use Rattle.std.specs.FinMap as finmap;
-ghost use Rattle.stored_image.specs.StoredImage.{HasAlsoAlone, row_said, said_at, stands_alone};
+ghost use Rattle.stored_image.specs.StoredImage.{HasAlsoAlone, rows_said, said_at, stands_alone};
+ghost use Rattle.stored_image.specs.declared.stored_record.RowPart.{RowPart};
 
 use leaf_rows::LeafRows;
 use rollback::PointedStore;
@@ -12,7 +14,7 @@ use tpcc_rows::codes::LEAVES;
 use tpcc_rows::key::RowKey;
 use tpcc_rows::memory::Memory;
 
-/// Whether the row of a key goes with no card.
+/// Whether the row of a key is said by itself.
 fn stands_alone(key: &RowKey) -> bool
     ensures { result ≡ stands_alone key.now }
 {
@@ -22,6 +24,8 @@ fn stands_alone(key: &RowKey) -> bool
             | RowKey::NewOrder { .. }
             | RowKey::OrderLine { .. }
             | RowKey::History { .. }
+            | RowKey::DistrictYtd { .. }
+            | RowKey::DistrictNext { .. }
     )
 }
 
@@ -40,8 +44,8 @@ fn add_keys(keys: &mut BTreeSet<RowKey>, page: &LeafRows) -> Result<(), Memory>
 
 /// The keys of all pages.
 pub(crate) fn keys_in_order(alloc: Global, rows: &PointedStore) -> Result<BTreeSet<RowKey>, Memory>
-    ensures said { IfOk result (λ keys. filter_map (said_at rows.now.rows) keys.keys
-        ≡ filter_map row_said (finmap.entries rows.now.rows)) }
+    ensures said { IfOk result (λ keys. (part : RowPart) → filter_map (said_at part rows.now.rows) keys.keys
+        ≡ rows_said part (finmap.entries rows.now.rows)) }
     ensures small { IfOk result (λ keys. btree_set_len keys < 2 ^ 63) }
 {
     let mut keys = BTreeSet::new(alloc);

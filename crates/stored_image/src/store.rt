@@ -8,7 +8,7 @@ ghost use Rattle.stored_image.specs.StoredRecords.{written_record};
 ghost use Rattle.image_records.specs.Databases.{loaded};
 
 use crate::row_keys::keys_in_order;
-use crate::stored_record::{card_record, end_record, first_record, record_at};
+use crate::stored_record::{RowPart, card_record, end_record, first_record, record_at};
 use catalog::Catalog;
 use catalog::card::CardKey;
 use csv::{ByteRecord, Writer};
@@ -19,12 +19,12 @@ use std::collections::BTreeSet;
 use tpcc_rows::key::RowKey;
 use tpcc_rows::memory::Memory;
 
-/// The cards by their place in an image: the items stand before the stocks, where in the order of keys they stand
-/// behind them.
+/// The cards by their place in an image: the rows of the districts stand before the customers, and the items before the
+/// stocks, where in the order of keys they stand behind them.
 #[derive(Clone, Copy)]
 pub enum CardPart {
-    /// The warehouses, the districts and the customers.
-    BeforeItems,
+    WarehousesAndDistricts,
+    Customers,
     Items,
     Stocks,
 }
@@ -32,13 +32,13 @@ pub enum CardPart {
 fn stands_in(part: CardPart, key: &CardKey) -> bool
     ensures { result ≡ stands_in part key.now }
 {
-    match (part, key) {
-        (CardPart::Items, CardKey::Item { .. }) => true,
-        (CardPart::Items, _) => false,
-        (CardPart::Stocks, CardKey::Stock { .. }) => true,
-        (CardPart::Stocks, _) => false,
-        (CardPart::BeforeItems, CardKey::Item { .. } | CardKey::Stock { .. }) => false,
-        (CardPart::BeforeItems, _) => true,
+    match part {
+        CardPart::WarehousesAndDistricts => {
+            matches!(key, CardKey::Warehouse { .. } | CardKey::District { .. })
+        }
+        CardPart::Customers => matches!(key, CardKey::Customer { .. }),
+        CardPart::Items => matches!(key, CardKey::Item { .. }),
+        CardPart::Stocks => matches!(key, CardKey::Stock { .. }),
     }
 }
 
@@ -67,23 +67,24 @@ fn write_cards(
     Ok(count)
 }
 
-/// Writes the records of the rows at keys that go with no card, and counts them.
+/// Writes the records of the rows at keys, those of a part of an image, and counts them.
 fn write_rows(
     writer: &mut Writer<Vec<u8>>,
     fields: &mut ByteRecord,
     rows: &PointedStore,
+    part: RowPart,
     keys: &BTreeSet<RowKey>,
 ) -> Result<u64, Memory>
     requires { IsWriting writer.old }
     ensures writing { OnOk result (IsWriting writer.new) }
     ensures text { OnOk result (written writer.new ≡ written writer.old
-        ++ text_of_records (map written_record (filter_map (said_at rows.now.rows) keys.now.keys))) }
-    ensures count { IfOk result (λ n. n ≡ length (filter_map (said_at rows.now.rows) keys.now.keys)) }
+        ++ text_of_records (map written_record (filter_map (said_at part rows.now.rows) keys.now.keys))) }
+    ensures count { IfOk result (λ n. n ≡ length (filter_map (said_at part rows.now.rows) keys.now.keys)) }
 {
     let mut count = 0;
     let _keys = keys.len();
     for key in keys {
-        if record_at(fields, rows, key)? {
+        if record_at(fields, rows, part, key)? {
             write_record(writer, fields)?;
             count += 1;
         }
@@ -108,11 +109,19 @@ fn write_tables(
 {
     let keys = keys_in_order(alloc, rows)?;
     let _cards = catalog.len();
-    let before = write_cards(writer, fields, catalog, rows, CardPart::BeforeItems)?;
+    let first = write_cards(
+        writer,
+        fields,
+        catalog,
+        rows,
+        CardPart::WarehousesAndDistricts,
+    )?;
+    let districts = write_rows(writer, fields, rows, RowPart::Districts, &keys)?;
+    let customers = write_cards(writer, fields, catalog, rows, CardPart::Customers)?;
     let items = write_cards(writer, fields, catalog, rows, CardPart::Items)?;
     let stocks = write_cards(writer, fields, catalog, rows, CardPart::Stocks)?;
-    let others = write_rows(writer, fields, rows, &keys)?;
-    Ok(before + items + stocks + others)
+    let others = write_rows(writer, fields, rows, RowPart::Others, &keys)?;
+    Ok(first + customers + items + stocks + (districts + others))
 }
 
 /// The image of a database.
@@ -129,9 +138,10 @@ fn whole_text(alloc: Global, catalog: &Catalog, rows: &PointedStore) -> Result<V
     written_text(writer)
 }
 
-/// Writes the image of a database at the end: the first record, then the warehouses, the districts, the customers, the
-/// items, the stocks, the orders, the new orders, the order lines and the history, each in rising key, and the end
-/// record. Of a card without its row nothing is written. A refusal changes nothing.
+/// Writes the image of a database at the end, in version 2: the first record, then the warehouses, the districts, their
+/// sums, their next numbers, the customers, the items, the stocks, the orders, the new orders, the order lines and the
+/// history, each in rising key, and the end record. Of a warehouse's, a customer's or a stock's card without its row
+/// nothing is written. A refusal changes nothing.
 pub fn store_image(
     alloc: Global,
     catalog: &Catalog,

@@ -6,7 +6,8 @@ ghost use Rattle.records.specs.Spelling.{AddsFields};
 ghost use Rattle.tpcc_rows.specs.Limits.{ten};
 ghost use Rattle.tpcc_rows.specs.Rows.{stock_row};
 ghost use Rattle.stored_image.specs.StoredImage.{card_said, row_said, said_at};
-ghost use Rattle.stored_image.specs.StoredRecords.{credit_text, written_customer, written_district, written_end, written_first, written_history, written_item, written_new_order, written_order, written_order_line, written_record, written_stock, written_warehouse};
+ghost use Rattle.stored_image.specs.declared.stored_record.RowPart.TheVariants as row_part;
+ghost use Rattle.stored_image.specs.StoredRecords.{credit_text, written_customer, written_district, written_district_next, written_district_ytd, written_end, written_first, written_history, written_item, written_new_order, written_order, written_order_line, written_record, written_stock, written_warehouse};
 
 use catalog::card::{Card, Credit, CustomerCard, DistrictCard, ItemCard, StockCard, WarehouseCard};
 use csv::ByteRecord;
@@ -16,8 +17,19 @@ use tpcc_rows::id::{DistrictId, ItemId, LineNumber, OrderId, RequestNumber, Ware
 use tpcc_rows::key::RowKey;
 use tpcc_rows::memory::Memory;
 use tpcc_rows::row::{
-    CustomerRow, DistrictRow, HistoryRow, OrderLineRow, OrderRow, Row, StockRow, WarehouseRow,
+    CustomerRow, DistrictNextRow, DistrictYtdRow, HistoryRow, OrderLineRow, OrderRow, Row,
+    StockRow, WarehouseRow,
 };
+
+/// The rows that are said by themselves, by their place in an image: those of the districts stand before the customers,
+/// where in the order of keys they stand behind all others.
+#[derive(Clone, Copy)]
+pub enum RowPart {
+    /// The rows of the districts.
+    Districts,
+    /// The orders, the new orders, the order lines and the history.
+    Others,
+}
 
 /// Begins a record of a kind.
 fn begin(fields: &mut ByteRecord, kind: &[u8]) -> Result<(), Memory>
@@ -44,21 +56,47 @@ fn write_warehouse(
     push_signed(fields, row.ytd.amount())
 }
 
-/// `D,w,d,name,tax,ytd,next`
+/// `D,w,d,name,tax`
 #[tactic(auto, unfolding(crate::specs::StoredRecords::written_district))]
-fn write_district(
-    fields: &mut ByteRecord,
-    card: &DistrictCard,
-    row: &DistrictRow,
-) -> Result<(), Memory>
-    ensures { OnOk result (fields_of fields.new ≡ written_district card.now row.now) }
+fn write_district(fields: &mut ByteRecord, card: &DistrictCard) -> Result<(), Memory>
+    ensures { OnOk result (fields_of fields.new ≡ written_district card.now) }
 {
     begin(fields, b"D")?;
     push_number(fields, u64::from(card.warehouse.number()))?;
     push_number(fields, u64::from(card.district.number()))?;
     push(fields, card.name.as_bytes())?;
-    push_number(fields, u64::from(card.tax.value()))?;
-    push_signed(fields, row.ytd.amount())?;
+    push_number(fields, u64::from(card.tax.value()))
+}
+
+/// `Y,w,d,ytd`
+#[tactic(auto, unfolding(crate::specs::StoredRecords::written_district_ytd))]
+fn write_district_ytd(
+    fields: &mut ByteRecord,
+    warehouse: WarehouseId,
+    district: DistrictId,
+    row: &DistrictYtdRow,
+) -> Result<(), Memory>
+    ensures { OnOk result (fields_of fields.new ≡ written_district_ytd warehouse district row.now) }
+{
+    begin(fields, b"Y")?;
+    push_number(fields, u64::from(warehouse.number()))?;
+    push_number(fields, u64::from(district.number()))?;
+    push_signed(fields, row.ytd.amount())
+}
+
+/// `X,w,d,next`
+#[tactic(auto, unfolding(crate::specs::StoredRecords::written_district_next))]
+fn write_district_next(
+    fields: &mut ByteRecord,
+    warehouse: WarehouseId,
+    district: DistrictId,
+    row: &DistrictNextRow,
+) -> Result<(), Memory>
+    ensures { OnOk result (fields_of fields.new ≡ written_district_next warehouse district row.now) }
+{
+    begin(fields, b"X")?;
+    push_number(fields, u64::from(warehouse.number()))?;
+    push_number(fields, u64::from(district.number()))?;
     push_number(fields, u64::from(row.next_order.number()))
 }
 
@@ -226,7 +264,7 @@ fn stock_row(rows: &PointedStore, warehouse: WarehouseId, item: ItemId) -> Optio
     rows.get(&RowKey::Stock { warehouse, item })?.as_stock()
 }
 
-/// The record of a card and its row. False where the row isn't there.
+/// The record of a card, with its row where it has one of its own. False where that row isn't there.
 pub(crate) fn card_record(
     fields: &mut ByteRecord,
     rows: &PointedStore,
@@ -240,10 +278,7 @@ pub(crate) fn card_record(
             Some(row) => write_warehouse(fields, card, row)?,
             None => return Ok(false),
         },
-        Card::District(card) => match rows.district(card.warehouse, card.district) {
-            Some(row) => write_district(fields, card, row)?,
-            None => return Ok(false),
-        },
+        Card::District(card) => write_district(fields, card)?,
         Card::Customer(card) => {
             match rows.customer(card.warehouse, card.district, card.customer) {
                 Some(row) => write_customer(fields, card, row)?,
@@ -259,9 +294,34 @@ pub(crate) fn card_record(
     Ok(true)
 }
 
-/// The record of a row that goes with no card. False where the row goes with one.
-fn row_record(fields: &mut ByteRecord, key: &RowKey, row: &Row) -> Result<bool, Memory>
-    ensures { IfOk result (λ said. option_map written_record (row_said (key.now, row.now))
+/// The record of a row of the districts. False where the row is another one.
+fn district_row_record(fields: &mut ByteRecord, key: &RowKey, row: &Row) -> Result<bool, Memory>
+    ensures { IfOk result (λ said. option_map written_record (row_said row_part.Districts (key.now, row.now))
+        ≡ (if said then Some (fields_of fields.new) else None)) }
+{
+    match (key, row) {
+        (
+            RowKey::DistrictYtd {
+                warehouse,
+                district,
+            },
+            Row::DistrictYtd(row),
+        ) => write_district_ytd(fields, *warehouse, *district, row)?,
+        (
+            RowKey::DistrictNext {
+                warehouse,
+                district,
+            },
+            Row::DistrictNext(row),
+        ) => write_district_next(fields, *warehouse, *district, row)?,
+        _ => return Ok(false),
+    }
+    Ok(true)
+}
+
+/// The record of an order, a new order, an order line or a row of the history. False where the row is another one.
+fn other_row_record(fields: &mut ByteRecord, key: &RowKey, row: &Row) -> Result<bool, Memory>
+    ensures { IfOk result (λ said. option_map written_record (row_said row_part.Others (key.now, row.now))
         ≡ (if said then Some (fields_of fields.new) else None)) }
 {
     match (key, row) {
@@ -296,28 +356,45 @@ fn row_record(fields: &mut ByteRecord, key: &RowKey, row: &Row) -> Result<bool, 
     Ok(true)
 }
 
-/// The record of the row at a key that goes with no card. False where there is none.
+/// The record of a row of a part of an image. False where the row is in the other one, or is said with its card.
+fn row_record(
+    fields: &mut ByteRecord,
+    part: RowPart,
+    key: &RowKey,
+    row: &Row,
+) -> Result<bool, Memory>
+    ensures { IfOk result (λ said. option_map written_record (row_said part (key.now, row.now))
+        ≡ (if said then Some (fields_of fields.new) else None)) }
+{
+    match part {
+        RowPart::Districts => district_row_record(fields, key, row),
+        RowPart::Others => other_row_record(fields, key, row),
+    }
+}
+
+/// The record of the row at a key, in a part of an image. False where the part has none.
 pub(crate) fn record_at(
     fields: &mut ByteRecord,
     rows: &PointedStore,
+    part: RowPart,
     key: &RowKey,
 ) -> Result<bool, Memory>
-    ensures { IfOk result (λ said. option_map written_record (said_at rows.now.rows key.now)
+    ensures { IfOk result (λ said. option_map written_record (said_at part rows.now.rows key.now)
         ≡ (if said then Some (fields_of fields.new) else None)) }
 {
     match rows.get(key) {
-        Some(row) => row_record(fields, key, row),
+        Some(row) => row_record(fields, part, key, row),
         None => Ok(false),
     }
 }
 
-/// `eve-tpcc,1`
+/// `eve-tpcc,2`
 #[tactic(auto, unfolding(crate::specs::StoredRecords::written_first))]
 pub(crate) fn first_record(fields: &mut ByteRecord) -> Result<(), Memory>
     ensures { OnOk result (fields_of fields.new ≡ written_first) }
 {
     begin(fields, b"eve-tpcc")?;
-    push(fields, b"1")
+    push(fields, b"2")
 }
 
 /// `E,count`

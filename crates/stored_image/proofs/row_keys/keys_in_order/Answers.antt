@@ -9,4 +9,4 @@ loop-leaf-preserved c =
     (subst (λ page. HasAlsoAlone c.loop-leaf.keys page c.add_keys.new.keys) c.page.ensures c.in_ok-add_keys.ensures)
 
 pub returns-clause-said : goal.returns-clause-said
-returns-clause-said c = said-in_order c.args.rows.now.rows c.loop-leaf.keys c.len-count.ensures.ordered (below-all c.args.rows.now.rows c.loop-leaf.leaf c.loop-leaf.keys (omega arith) c.loop-leaf.invariant)
+returns-clause-said c = λ p. said-in_order p c.args.rows.now.rows c.loop-leaf.keys c.len-count.ensures.ordered (below-all c.args.rows.now.rows c.loop-leaf.leaf c.loop-leaf.keys (omega arith) c.loop-leaf.invariant)

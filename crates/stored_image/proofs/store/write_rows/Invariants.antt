@@ -8,7 +8,7 @@ use Rattle.stored_image.proofs.store.write_rows.Given as goal
 -- what is written and what is left
 abbrev pub invariant-loop-key : goal.invariant-loop-key
 invariant-loop-key l = IsWriting l.writer
-    × (written l.writer ++ text_of_records (map written_record (filter_map (said_at l.rows.rows) l.key-iterator))
-    ≡ written l.fn.writer ++ text_of_records (map written_record (filter_map (said_at l.rows.rows) l.keys.keys)))
-    × (l.count + length (filter_map (said_at l.rows.rows) l.key-iterator) ≡ length (filter_map (said_at l.rows.rows) l.keys.keys))
+    × (written l.writer ++ text_of_records (map written_record (filter_map (said_at l.part l.rows.rows) l.key-iterator))
+    ≡ written l.fn.writer ++ text_of_records (map written_record (filter_map (said_at l.part l.rows.rows) l.keys.keys)))
+    × (l.count + length (filter_map (said_at l.part l.rows.rows) l.key-iterator) ≡ length (filter_map (said_at l.part l.rows.rows) l.keys.keys))
     × (l.count + length l.key-iterator < 2 ^ 63)
