@@ -1,7 +1,7 @@
 //! Made databases, and what batches do to them.
 use catalog::Catalog;
+use leaf_rows::LeafRows;
 use made_database::make;
-use merkle::Tree;
 use mixer::{Cut, mix};
 use profiles::declare;
 use requests::reply::Reply;
@@ -10,10 +10,12 @@ use requests::{BatchReader, write_reply};
 use rollback::PointedStore;
 use sha2::{Digest, Sha256};
 use std::alloc::Global;
-use std::thread::Threads;
+use tpcc_rows::codes::LEAVES;
 use tpcc_rows::delta::Delta;
+use tpcc_rows::encoding::encode_row;
 use tpcc_rows::footprint::Footprint;
 use tpcc_rows::id::RequestNumber;
+use tpcc_rows::row_buf::RowBuf;
 use transactions::execute;
 use worker_rows::Whole;
 
@@ -23,6 +25,15 @@ fn batch_of(alloc: Global, requests: &str) -> Option<Batch> {
     let text = format!(in alloc; "B,0,commit,{count}\n{requests}").ok()?;
     let mut reader = BatchReader::new(alloc, text.as_bytes()).ok()?;
     reader.next_batch(alloc).ok()?
+}
+
+/// Hashes the rows of a page.
+fn push_page(page: &LeafRows, hasher: &mut Sha256) {
+    let mut buffer = RowBuf::new();
+    for (key, row) in page.as_slice() {
+        encode_row(key, row, &mut buffer);
+        hasher.update(buffer.as_slice());
+    }
 }
 
 /// A database.
@@ -84,15 +95,16 @@ impl Database {
     }
 
     /// The digest of all rows and replies.
-    pub fn digest<R: Threads + Sync>(&mut self, rt: &R, alloc: Global) -> Option<[u8; 32]> {
-        let root = Tree::build(rt, alloc, &self.store).ok()?.root();
-        self.replies.sort_unstable();
+    pub fn digest(&mut self) -> [u8; 32] {
         let mut hasher = Sha256::new();
-        hasher.update(root.as_slice());
+        for leaf in 0..LEAVES {
+            push_page(self.store.page(leaf), &mut hasher);
+        }
+        self.replies.sort_unstable();
         for reply in &self.replies {
             hasher.update(reply.as_slice());
         }
-        Some(hasher.finalize())
+        hasher.finalize()
     }
 
     /// What a request is declared to touch.

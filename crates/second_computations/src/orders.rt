@@ -2,7 +2,6 @@
 use crate::database::{Scene, scene_of};
 use crate::drawn::{Dice, random_requests};
 use std::alloc::Global;
-use std::thread::Threads;
 
 /// How a batch is executed.
 #[derive(Clone, Copy)]
@@ -77,26 +76,21 @@ fn random_scene(alloc: Global, seed: u64) -> Option<Scene> {
 }
 
 /// What the batch of a seed leaves, as the digest of its rows and replies; none where a place strays.
-fn left_by<R: Threads + Sync>(
-    rt: &R,
-    alloc: Global,
-    seed: u64,
-    way: Way,
-) -> Option<Option<[u8; 32]>> {
+fn left_by(alloc: Global, seed: u64, way: Way) -> Option<Option<[u8; 32]>> {
     let mut scene = random_scene(alloc, seed)?;
     if scene.execute(alloc, way)?.is_empty() {
-        Some(Some(scene.database.digest(rt, alloc)?))
+        Some(Some(scene.database.digest()))
     } else {
         Some(None)
     }
 }
 
 /// In how many ways places of a seed's batch stray, and in how many others it leaves what it leaves one request after the other.
-fn count_ways<R: Threads + Sync>(rt: &R, alloc: Global, seed: u64) -> Option<(u32, u32)> {
-    let wanted = left_by(rt, alloc, seed, Way::InBatch)?;
+fn count_ways(alloc: Global, seed: u64) -> Option<(u32, u32)> {
+    let wanted = left_by(alloc, seed, Way::InBatch)?;
     let (mut straying, mut agreeing) = (0u32, 0u32);
     for way in &LEVEL_WAYS {
-        match left_by(rt, alloc, seed, *way)? {
+        match left_by(alloc, seed, *way)? {
             Some(left) => agreeing = agreeing.saturating_add(u32::from(Some(left) == wanted)),
             None => straying = straying.saturating_add(1),
         }
@@ -105,10 +99,10 @@ fn count_ways<R: Threads + Sync>(rt: &R, alloc: Global, seed: u64) -> Option<(u3
 }
 
 /// Where no place strays, replies and rows are those of batch order. Of the batches some stray, and some don't.
-pub fn show<R: Threads + Sync + Print>(rt: &R, alloc: Global) -> Option<()> {
+pub fn show(rt: &impl Print, alloc: Global) -> Option<()> {
     let (mut straying, mut agreeing) = (0u32, 0u32);
     for seed in 1..65 {
-        let (stray, agree) = count_ways(rt, alloc, seed)?;
+        let (stray, agree) = count_ways(alloc, seed)?;
         straying = straying.saturating_add(stray);
         agreeing = agreeing.saturating_add(agree);
     }

@@ -1,4 +1,6 @@
 //! Roots and tokens computed a second time, from scratch: by recursion from the root down.
+ghost use Rattle.std.specs.Prelude.{◌≤◌};
+
 use crate::format::{Entry, entries};
 use sha2::{Digest, Sha256};
 use std::alloc::Global;
@@ -22,20 +24,55 @@ fn leaf_hash(entries: &[Entry], leaf: u64) -> [u8; 32] {
     hasher.finalize()
 }
 
-fn node(entries: &[Entry], height: u32, number: u64) -> [u8; 32] {
-    if height == 0 {
-        return leaf_hash(entries, number);
-    }
+fn join(left: &[u8; 32], right: &[u8; 32]) -> [u8; 32] {
     let mut hasher = Sha256::new();
     hasher.update([1u8].as_slice());
-    hasher.update(node(entries, height - 1, number << 1).as_slice());
-    hasher.update(node(entries, height - 1, (number << 1) | 1).as_slice());
+    hasher.update(left.as_slice());
+    hasher.update(right.as_slice());
     hasher.finalize()
+}
+
+/// The hashes of nodes without a row below them, of the heights from 0 to 16.
+fn empty_nodes(alloc: Global) -> Option<Vec<[u8; 32]>> {
+    let mut hashes = Vec::new(alloc);
+    let mut hash = leaf_hash(&[], 0);
+    for _ in 0..17 {
+        hashes.push(hash).ok()?;
+        hash = join(&hash, &hash);
+    }
+    Some(hashes)
+}
+
+/// Whether a row stands below a node.
+fn has_row(entries: &[Entry], height: u32, number: u64) -> bool
+    requires { height ≤ 16 }
+{
+    for (code, _) in entries {
+        if leaf_of(*code) >> height == number {
+            return true;
+        }
+    }
+    false
+}
+
+fn node(entries: &[Entry], empty: &[[u8; 32]], height: u32, number: u64) -> Option<[u8; 32]>
+    requires { height ≤ 16 }
+{
+    if !has_row(entries, height, number) {
+        return empty.get(height as usize).copied();
+    }
+    if height == 0 {
+        return Some(leaf_hash(entries, number));
+    }
+    let left = node(entries, empty, height - 1, number << 1)?;
+    let right = node(entries, empty, height - 1, (number << 1) | 1)?;
+    Some(join(&left, &right))
 }
 
 /// The root of the rows, in whichever order they are.
 pub fn second_root(alloc: Global, lines: &[&str]) -> Option<[u8; 32]> {
-    Some(node(&entries(alloc, lines)?, 16, 0))
+    let (entries, empty) = (entries(alloc, lines)?, empty_nodes(alloc)?);
+    node(&entries, &empty, 16, 0)
 }
 
 /// A token, where the catalog's digest is the bytes from 0 to 31, and the replies have these bytes.
