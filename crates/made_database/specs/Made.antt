@@ -20,9 +20,10 @@ made_warehouse w = said.Warehouse
     (record { ytd = pos 30000000 })
 
 unfoldable pub made_district : ℕ → ℕ → ImageRecord
-made_district w d = said.District
+made_district w d = said.WholeDistrict
     (record { warehouse = w; district = d; name = codes "D" ++ decimal d; tax = 500 })
-    (record { ytd = pos 3000000; next_order = 1 })
+    (record { ytd = pos 3000000 })
+    (record { next_order = 1 })
 
 -- 500 letters x
 unfoldable pub long_note : List ℕ

@@ -12,7 +12,7 @@ use std::alloc::Global;
 use tpcc_rows::id::{CustomerId, DistrictId, ItemId, OrderId, WarehouseId};
 use tpcc_rows::memory::Memory;
 use tpcc_rows::number::{Cents, Count, Price, Rate, StockQuantity};
-use tpcc_rows::row::{CustomerRow, DistrictRow, StockRow, WarehouseRow};
+use tpcc_rows::row::{CustomerRow, DistrictNextRow, DistrictYtdRow, StockRow, WarehouseRow};
 use tpcc_rows::text::Text;
 
 /// A word and a number behind it.
@@ -44,7 +44,7 @@ pub(crate) fn made_warehouse(warehouse: WarehouseId) -> ImageRecord
     ImageRecord::Warehouse { card, row }
 }
 
-/// `D,w,d,name,tax,ytd,next`
+/// `D,w,d,name,tax`, `Y,w,d,ytd` and `X,w,d,next`, all in one.
 #[tactic(auto, unfolding(crate::specs::Made::made_district))]
 pub(crate) fn made_district(warehouse: WarehouseId, district: DistrictId) -> ImageRecord
     ensures { result ≡ made_district warehouse district }
@@ -55,11 +55,13 @@ pub(crate) fn made_district(warehouse: WarehouseId, district: DistrictId) -> Ima
         name: numbered(b"D", u32::from(district.number())),
         tax: Rate::new(500).unwrap(),
     };
-    let row = DistrictRow {
+    let ytd = DistrictYtdRow {
         ytd: Cents::new(3_000_000).unwrap(),
+    };
+    let next = DistrictNextRow {
         next_order: OrderId::new(1).unwrap(),
     };
-    ImageRecord::District { card, row }
+    ImageRecord::WholeDistrict { card, ytd, next }
 }
 
 /// C_DATA of a customer of bad credit.
