@@ -1,5 +1,5 @@
 //! Parents and consistency conditions.
-ghost use Rattle.std.specs.Prelude.{◌≡◌, ◌<◌, ◌^◌, ◌+ℤ◌, ℕ, pos, IfErr, IfNone, IfSome, OnOk, Ok, Err, option_and_then, option_copied};
+ghost use Rattle.std.specs.Prelude.{◌≡◌, ◌&&◌, ◌<◌, ◌^◌, ◌+ℤ◌, ℕ, pos, IfErr, IfNone, IfSome, OnOk, Ok, Err, option_and_then, option_copied};
 ghost use Rattle.std.specs.FinMap as map;
 ghost use Rattle.std.specs.List.{list_all};
 ghost use Rattle.catalog.specs.declared.card.CardKey.TheVariants as card_key;
@@ -24,7 +24,7 @@ use tpcc_rows::id::{CustomerId, DistrictId, ItemId, LineNumber, WarehouseId};
 use tpcc_rows::key::RowKey;
 use tpcc_rows::number::Cents;
 use tpcc_rows::plain::RowStore;
-use tpcc_rows::row::Row;
+use tpcc_rows::row::{HistoryRow, Row};
 
 /// A sum for each warehouse, at its number.
 pub(crate) type Sums = [i128; 101];
@@ -140,7 +140,21 @@ fn has_line(order: Option<&Row>, number: LineNumber) -> bool
     }
 }
 
-/// Whether the cards and the order are there that a row goes with, besides the card of its own key. The order is passed, if it is there.
+/// Whether the customer of a payment and the district where it was paid are there.
+fn has_payment(catalog: &Catalog, row: &HistoryRow) -> bool
+    ensures { result ≡ (has_card catalog.now (card_key.Customer row.now.customer_warehouse row.now.customer_district row.now.customer)
+        && has_card catalog.now (card_key.District row.now.warehouse row.now.district)) }
+{
+    has_customer(
+        catalog,
+        row.customer_warehouse,
+        row.customer_district,
+        row.customer,
+    ) && has_district(catalog, row.warehouse, row.district)
+}
+
+/// Whether the cards and the order are there that a row goes with, besides a card that comes in its own record. The order is passed, if
+/// it is there.
 pub(crate) fn row_has_parents(
     catalog: &Catalog,
     order: Option<&Row>,
@@ -165,14 +179,7 @@ pub(crate) fn row_has_parents(
         (RowKey::OrderLine { number, .. }, Row::OrderLine(row)) => {
             has_line(order, *number) && has_stock(catalog, row.supply, row.item)
         }
-        (RowKey::History { .. }, Row::History(row)) => {
-            has_customer(
-                catalog,
-                row.customer_warehouse,
-                row.customer_district,
-                row.customer,
-            ) && has_district(catalog, row.warehouse, row.district)
-        }
+        (RowKey::History { .. }, Row::History(row)) => has_payment(catalog, row),
         (
             RowKey::DistrictYtd {
                 warehouse,

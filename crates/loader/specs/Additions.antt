@@ -4,6 +4,7 @@ use Rattle.std.specs.FinMap as map
 use Rattle.catalog.specs.CardKinds.{card_key}
 use Rattle.image_records.specs.Databases.{has_card, has_row}
 use Rattle.image_records.specs.declared.image_record.ImageRecord.{ImageRecord}
+use Rattle.image_records.specs.declared.image_record.ImageRecord.TheVariants as said
 use Rattle.loader.specs.Tables.{is_taken, with_record}
 use Rattle.loader.specs.declared.addition.Addition.{Addition}
 use Rattle.loader.specs.declared.addition.Addition.TheVariants as variant
@@ -15,27 +16,24 @@ abbrev pub with_addition : Database → Addition → Database
 with_addition db (variant.Card c) = record db { cards = map.insert db.cards (card_key c) c }
 with_addition db (variant.Row k x) = record db { rows = map.insert db.rows k x }
 with_addition db (variant.Both c k x) = record { cards = map.insert db.cards (card_key c) c; rows = map.insert db.rows k x }
-with_addition db (variant.CardAndRows c one other) = record {
-  cards = map.insert db.cards (card_key c) c;
-  rows = map.insert (map.insert db.rows one.0 one.1) other.0 other.1;
-}
+with_addition db (variant.WholeDistrict c ytd next) = with_record db (said.WholeDistrict c ytd next)
 
 -- the key of the card, or of the row that goes with no card, came before
 abbrev pub has_addition : Database → Addition → Bool
 has_addition db (variant.Card c) = has_card db.cards (card_key c)
 has_addition db (variant.Row k x) = has_row db.rows k
 has_addition db (variant.Both c k x) = has_card db.cards (card_key c)
-has_addition db (variant.CardAndRows c one other) = has_card db.cards (card_key c)
+has_addition db (variant.WholeDistrict c ytd next) = is_taken db (said.WholeDistrict c ytd next)
 
--- each row is of its key's kind
+-- the row is of its key's kind
 abbrev pub AdditionFits : Addition → Type 0
 AdditionFits (variant.Card c) = ⊤
 AdditionFits (variant.Row k x) = fits k x ≡ true
 AdditionFits (variant.Both c k x) = fits k x ≡ true
-AdditionFits (variant.CardAndRows c one other) = (fits one.0 one.1 ≡ true) × (fits other.0 other.1 ≡ true)
+AdditionFits (variant.WholeDistrict c ytd next) = ⊤
 
 -- this is what the record adds
-pub record IsSaidBy (said : ImageRecord) (addition : Addition) : Type 0 where
-  pub whole : (db : Database) → with_record db said ≡ with_addition db addition
-  pub taken : (db : Database) → is_taken db said ≡ has_addition db addition
+pub record IsSaidBy (record_said : ImageRecord) (addition : Addition) : Type 0 where
+  pub whole : (db : Database) → with_record db record_said ≡ with_addition db addition
+  pub taken : (db : Database) → is_taken db record_said ≡ has_addition db addition
   pub kinds : AdditionFits addition

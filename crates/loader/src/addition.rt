@@ -14,13 +14,13 @@ use tpcc_rows::row::{
     WarehouseRow,
 };
 
-/// A card, a row, or a card and the row or the two rows that go with it.
+/// A card, a row, a card and the row that goes with it, or a district's card and its two rows.
 #[derive(Drop)]
 pub(crate) enum Addition {
     Card(Card),
     Row(RowKey, Row),
     Both(Card, RowKey, Row),
-    CardAndRows(Card, (RowKey, Row), (RowKey, Row)),
+    WholeDistrict(DistrictCard, DistrictYtdRow, DistrictNextRow),
 }
 
 fn warehouse(card: WarehouseCard, row: WarehouseRow) -> Addition
@@ -50,24 +50,6 @@ fn district_next(warehouse: WarehouseId, district: DistrictId, row: DistrictNext
         district,
     };
     Addition::Row(key, Row::DistrictNext(row))
-}
-
-fn whole_district(card: DistrictCard, ytd: DistrictYtdRow, next: DistrictNextRow) -> Addition
-    ensures { IsSaidBy (says.WholeDistrict card ytd next) result }
-{
-    let ytd_key = RowKey::DistrictYtd {
-        warehouse: card.warehouse,
-        district: card.district,
-    };
-    let next_key = RowKey::DistrictNext {
-        warehouse: card.warehouse,
-        district: card.district,
-    };
-    Addition::CardAndRows(
-        Card::District(card),
-        (ytd_key, Row::DistrictYtd(ytd)),
-        (next_key, Row::DistrictNext(next)),
-    )
 }
 
 fn customer(alloc: Global, card: CustomerCard, row: CustomerRow) -> Result<Addition, Memory>
@@ -149,7 +131,7 @@ pub(crate) fn addition_of(alloc: Global, said: ImageRecord) -> Result<Addition, 
             district,
             row,
         } => district_next(warehouse, district, row),
-        ImageRecord::WholeDistrict { card, ytd, next } => whole_district(card, ytd, next),
+        ImageRecord::WholeDistrict { card, ytd, next } => Addition::WholeDistrict(card, ytd, next),
         ImageRecord::Customer { card, row } => customer(alloc, card, row)?,
         ImageRecord::Item { card } => Addition::Card(Card::Item(card)),
         ImageRecord::Stock { card, row } => stock(card, row),

@@ -3,6 +3,8 @@ ghost use Rattle.std.specs.Prelude.{◌≡◌, IfErr, IfOk, IsSome, None, OnOk, 
 ghost use Rattle.std.specs.FinMap as map;
 ghost use Rattle.catalog.specs.CardKinds.{card_key};
 ghost use Rattle.catalog.specs.declared.builder.CatalogError.TheVariants as catalog_error;
+ghost use Rattle.catalog.specs.declared.card.CardKey.TheVariants as own_key;
+ghost use Rattle.image_records.specs.declared.image_record.ImageRecord.TheVariants as says;
 ghost use Rattle.loader.specs.Gathered.{gathered, gathered_database};
 ghost use Rattle.loader.specs.Tables.{is_taken, no_tables, with_record};
 ghost use Rattle.tpcc_model.specs.Database.{database};
@@ -13,12 +15,12 @@ use crate::gathered::Gathered;
 use crate::unpaged::UnpagedRows;
 use catalog::Catalog;
 use catalog::builder::{CatalogBuilder, CatalogError};
-use catalog::card::Card;
+use catalog::card::{Card, DistrictCard};
 use image_records::image_record::ImageRecord;
 use std::alloc::Global;
 use tpcc_rows::key::RowKey;
 use tpcc_rows::memory::Memory;
-use tpcc_rows::row::Row;
+use tpcc_rows::row::{DistrictNextRow, DistrictYtdRow, Row};
 
 /// The cards and the rows of the records so far. Rows that come in the order of their keys within each kind, as those of
 /// a stored image do, are kept in a list for each kind; from the first late one on, all are in one list, beside a set of their keys.
@@ -67,24 +69,31 @@ impl GatheredTables {
         Ok(())
     }
 
-    /// One card more, and the two rows that go with it.
-    fn add_card_and_rows(
+    /// The card of one district more, and its two rows.
+    fn add_whole_district(
         &mut self,
-        card: Card,
-        one: (RowKey, Row),
-        other: (RowKey, Row),
+        card: DistrictCard,
+        ytd: DistrictYtdRow,
+        next: DistrictNextRow,
     ) -> Result<(), CatalogError>
-        requires one { fits one.0 one.1 ≡ true }
-        requires other { fits other.0 other.1 ≡ true }
-        ensures cards { OnOk result (self.new.cards ≡ map.insert self.old.cards (card_key card) card) }
-        ensures rows { OnOk result (gathered self.new.rows ≡ map.insert (map.insert (gathered self.old.rows) one.0 one.1) other.0 other.1) }
-        ensures fresh { OnOk result (map.get self.old.cards (card_key card) ≡ None) }
+        ensures ok { OnOk result (gathered_database self.new ≡ with_record (gathered_database self.old) (says.WholeDistrict card ytd next)) }
+        ensures fresh { OnOk result (map.get self.old.cards (own_key.District card.warehouse card.district) ≡ None) }
         ensures twice { IfErr result (λ e. e ≡ catalog_error.Twice
-            → IsSome (map.get self.old.cards (card_key card))) }
+            → IsSome (map.get self.old.cards (own_key.District card.warehouse card.district))) }
     {
-        self.cards.add(card)?;
-        self.put_row(one.0, one.1)?;
-        self.put_row(other.0, other.1)?;
+        let warehouse = card.warehouse;
+        let district = card.district;
+        let ytd_key = RowKey::DistrictYtd {
+            warehouse,
+            district,
+        };
+        let next_key = RowKey::DistrictNext {
+            warehouse,
+            district,
+        };
+        self.cards.add(Card::District(card))?;
+        self.put_row(ytd_key, Row::DistrictYtd(ytd))?;
+        self.put_row(next_key, Row::DistrictNext(next))?;
         Ok(())
     }
 
@@ -117,7 +126,7 @@ impl GatheredTables {
             Addition::Card(card) => self.cards.add(card),
             Addition::Row(key, row) => self.add_row(key, row),
             Addition::Both(card, key, row) => self.add_both(card, key, row),
-            Addition::CardAndRows(card, one, other) => self.add_card_and_rows(card, one, other),
+            Addition::WholeDistrict(card, ytd, next) => self.add_whole_district(card, ytd, next),
         }
     }
 
