@@ -21,8 +21,8 @@ use Rattle.tpcc_rows.specs.declared.row.Row.{Row}
 use Rattle.tpcc_rows.specs.declared.row.Row.TheVariants as row
 use Rattle.tpcc_rows.proofs.Keys.{exact_keys, row_key_cmp_total}
 use Rattle.tpcc_rows.proofs.Singles.{all-pass}
-use Rattle.image_checks.specs.Checks.{card_has_parents, parents_there, row_has_parents, ytd_agrees, ytds_agree}
-use Rattle.image_records.specs.Databases.{has_card}
+use Rattle.image_checks.specs.Checks.{card_has_parents, has_own_rows, parents_there, row_has_parents, ytd_agrees, ytds_agree}
+use Rattle.image_records.specs.Databases.{has_card, has_row}
 
 both : (a b : Bool) → a ≡ true → b ≡ true → (a && b) ≡ true
 both a b x y = ap₂ (λ c d. c && d) x y
@@ -51,12 +51,19 @@ module _ (db : Database) (sound : IsSound db) where
       one : (d : ℕ) → IsBetween 1 10 d → has_card db.cards (card_key.District w d) ≡ true
       one d within = kind-there as_district (get db.cards (card_key.District w d)) (sound.cards.ten_districts w d some within)
 
-  card-parents : (k : CardKey) (c : Card) → get db.cards k ≡ Some c → card_has_parents db.cards (k, c) ≡ true
+  -- a district has both its rows
+  own-rows : (w d : ℕ) → IsSome (option_and_then as_district (get db.cards (card_key.District w d))) → has_own_rows db.rows (card_key.District w d) ≡ true
+  own-rows w d some = both (has_row db.rows (key.DistrictYtd w d)) (has_row db.rows (key.DistrictNext w d)) (sound.there (key.DistrictYtd w d) some) (sound.there (key.DistrictNext w d) some)
+
+  card-parents : (k : CardKey) (c : Card) → get db.cards k ≡ Some c → card_has_parents db (k, c) ≡ true
   card-parents k c there = by k c there (sound.cards.keyed k c there)
     where
-      by : (k : CardKey) (c : Card) → get db.cards k ≡ Some c → own_key c ≡ k → card_has_parents db.cards (k, c) ≡ true
+      by : (k : CardKey) (c : Card) → get db.cards k ≡ Some c → own_key c ≡ k → card_has_parents db (k, c) ≡ true
       by (card_key.Warehouse w) (card.Warehouse c) there own = ten-there w (rw there refl)
-      by (card_key.District w d) (card.District c) there own = kind-there as_warehouse (get db.cards (card_key.Warehouse w)) (sound.cards.warehouse_of_district w d (rw there refl))
+      by (card_key.District w d) (card.District c) there own =
+          both (has_card db.cards (card_key.Warehouse w)) (has_own_rows db.rows (card_key.District w d))
+          (kind-there as_warehouse (get db.cards (card_key.Warehouse w)) (sound.cards.warehouse_of_district w d (rw there refl)))
+          (own-rows w d (rw there refl))
       by (card_key.Customer w d n) (card.Customer c) there own = kind-there as_district (get db.cards (card_key.District w d)) (sound.cards.district_of_customer w d n (rw there refl))
       by (card_key.Stock w i) (card.Stock c) there own =
           both (has_card db.cards (card_key.Warehouse w)) (has_card db.cards (card_key.Item i))
@@ -67,7 +74,6 @@ module _ (db : Database) (sound : IsSound db) where
 
   row-parents : (k : RowKey) (x : Row) → IsEntry db.cards db.rows k x → row_has_parents db (k, x) ≡ true
   row-parents (key.Warehouse w) (row.Warehouse r) h = refl
-  row-parents (key.District w d) (row.District r) h = refl
   row-parents (key.Customer w d n) (row.Customer r) h = refl
   row-parents (key.Stock w i) (row.Stock r) h = refl
   row-parents (key.Order w d o) (row.Order r) h =
@@ -83,13 +89,15 @@ module _ (db : Database) (sound : IsSound db) where
       both (has_card db.cards (card_key.Customer r.customer_warehouse r.customer_district r.customer)) (has_card db.cards (card_key.District r.warehouse r.district))
       (kind-there as_customer (get db.cards (card_key.Customer r.customer_warehouse r.customer_district r.customer)) h.customer)
       (kind-there as_district (get db.cards (card_key.District r.warehouse r.district)) h.district)
+  row-parents (key.DistrictYtd w d) (row.DistrictYtd r) h = kind-there as_district (get db.cards (card_key.District w d)) h.0
+  row-parents (key.DistrictNext w d) (row.DistrictNext r) h = kind-there as_district (get db.cards (card_key.District w d)) h.0
   row-parents _ _ h = absurd h
 
   pub parents-pass : parents_there db ≡ true
   unfolding parents_there
   parents-pass =
-      both (list_all (card_has_parents db.cards) (entries db.cards)) (list_all (row_has_parents db) (entries db.rows))
-      (all-pass card_key_cmp_total exact_cards (card_has_parents db.cards) db.cards card-parents)
+      both (list_all (card_has_parents db) (entries db.cards)) (list_all (row_has_parents db) (entries db.rows))
+      (all-pass card_key_cmp_total exact_cards (card_has_parents db) db.cards card-parents)
       (all-pass row_key_cmp_total exact_keys (row_has_parents db) db.rows (λ k x there. row-parents k x (sound.entries k x there)))
 
   -- ---- condition 1

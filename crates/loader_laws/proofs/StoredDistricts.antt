@@ -63,17 +63,17 @@ module _ (rows : Rows) (w d next : ℕ) (h : IsConsistent rows w d next) where
 
 module _ (db : Database) (sound : IsSound db) where
   next-order-passes : (k : RowKey) (x : Row) → get db.rows k ≡ Some x → next_order_agrees db.rows (k, x) ≡ true
-  next-order-passes (key.District w d) (row.District r) there =
+  next-order-passes (key.DistrictNext w d) (row.DistrictNext r) there =
       let h = sound.districts w d r there in
       ap₂ (λ a b. a && b) (last-order-agrees db.rows w d r.next_order h) (last-new_order-agrees db.rows w d r.next_order h)
   next-order-passes _ _ there = refl
 
   span-passes : (k : RowKey) (x : Row) → get db.rows k ≡ Some x → span_agrees db.rows (k, x) ≡ true
-  span-passes (key.District w d) (row.District r) there = gap-agrees db.rows w d r.next_order (sound.districts w d r there)
+  span-passes (key.DistrictNext w d) (row.DistrictNext r) there = gap-agrees db.rows w d r.next_order (sound.districts w d r there)
   span-passes _ _ there = refl
 
   line-count-passes : (k : RowKey) (x : Row) → get db.rows k ≡ Some x → line_count_agrees db.rows (k, x) ≡ true
-  line-count-passes (key.District w d) (row.District r) there =
+  line-count-passes (key.DistrictNext w d) (row.DistrictNext r) there =
       (Decides-int_eq (total (promised_share w d) db.rows) (total (line_share w d) db.rows)).1 (sound.districts w d r there).lines
   line-count-passes _ _ there = refl
 

@@ -8,6 +8,7 @@ use Rattle.std.specs.FinMap.Entries.{below_all, find-where_key, where_key}
 use Rattle.std.specs.Ordering.{eq_by_cmp}
 use Rattle.std.specs.declared.cmp.Ordering.{Ordering}
 use Rattle.std.proofs.lemmas.Bool.{cases_Bool}
+use Rattle.std.proofs.lemmas.List.{map-append}
 use Rattle.tpcc_rows.proofs.Singles.{apart, here, not_found, same_key, second, first, tied, ties_itself}
 
 -- ---- lists
@@ -53,16 +54,30 @@ module _ {K X : Type 0} {R : K → K → Ordering} (total : IsTotalOrder R) (exa
   Occurs q (None ∷ os) = Occurs q os
   Occurs q (Some e ∷ os) = (q ≡ e.0) ⊎ Occurs q os
 
-  pub occurs-left : (q : K) (os ps : List (Option (K × X))) → Occurs q os → Occurs q (os ++ ps)
+  occurs-left : (q : K) (os ps : List (Option (K × X))) → Occurs q os → Occurs q (os ++ ps)
   occurs-left q [] ps h = absurd h
   occurs-left q (None ∷ os) ps h = occurs-left q os ps h
   occurs-left q (Some e ∷ os) ps (inl is) = inl is
   occurs-left q (Some e ∷ os) ps (inr h) = inr (occurs-left q os ps h)
 
-  pub occurs-right : (q : K) (os ps : List (Option (K × X))) → Occurs q ps → Occurs q (os ++ ps)
+  occurs-right : (q : K) (os ps : List (Option (K × X))) → Occurs q ps → Occurs q (os ++ ps)
   occurs-right q [] ps h = h
   occurs-right q (None ∷ os) ps h = occurs-right q os ps h
   occurs-right q (Some e ∷ os) ps h = inr (occurs-right q os ps h)
+
+  -- an entry that is made of one of the first things, or of one of those behind them
+  pub occurs-first : {S : Type 0} (g : S → Option (K × X)) (ss ts : List S) (q : K) → Occurs q (map g ss) → Occurs q (map g (ss ++ ts))
+  occurs-first g ss ts q h = subst (Occurs q) (sym (map-append g ss ts)) (occurs-left q (map g ss) (map g ts) h)
+
+  pub occurs-behind : {S : Type 0} (g : S → Option (K × X)) (ss ts : List S) (q : K) → Occurs q (map g ts) → Occurs q (map g (ss ++ ts))
+  occurs-behind g ss ts q h = subst (Occurs q) (sym (map-append g ss ts)) (occurs-right q (map g ss) (map g ts) h)
+
+  -- a key that isn't as all keys of the entries are is none of them
+  pub not-among : (P : K → Type 0) (os : List (Option (K × X))) (q : K) → AllByRecursion (λ o. (e : K × X) → o ≡ Some e → P e.0) os → (P q → ⊥) → Occurs q os → ⊥
+  not-among P [] q all other h = h
+  not-among P (None ∷ os) q all other h = not-among P os q all.1 other h
+  not-among P (Some e ∷ os) q all other (inl is) = other (subst P (sym is) (all.0 e refl))
+  not-among P (Some e ∷ os) q all other (inr h) = not-among P os q all.1 other h
 
   -- entries of another map, put in turn, agree with it where one has the key, and where the map agreed before
   puts-at : (os : List (Option (K × X))) (m t : FinMap R X) (q : K) → AllByRecursion (IsOf t) os → (get m q ≡ get t q) ⊎ Occurs q os → get (puts os m) q ≡ get t q
@@ -111,13 +126,10 @@ module _ {K X : Type 0} {R : K → K → Ordering} (total : IsTotalOrder R) (exa
     | inr other ↦ ap (λ b. cond b (Some e.1) (find R q es)) other ∙ there
   ]
 
-  -- what is found in a list is the map's
-  abbrev pub AreFoundIn : FinMap R X → List (K × X) → Type 0
-  AreFoundIn m es = (q : K) (x : X) → find R q es ≡ Some x → get m q ≡ Some x
-
-  pub are-own : (m : FinMap R X) (es : List (K × X)) → AreApart es → AreFoundIn m es → AllByRecursion (λ e. get m e.0 ≡ Some e.1) es
-  are-own m [] alone found = tt
-  are-own m (e ∷ es) alone found = (found e.0 e.1 (found-head e es), are-own m es alone.1 (λ q x there. found q x (found-behind e es q x alone.0 there)))
+  -- what holds of each entry that is found
+  pub all-found : (P : K → X → Type 0) (es : List (K × X)) → AreApart es → ((q : K) (x : X) → find R q es ≡ Some x → P q x) → AllByRecursion (λ e. P e.0 e.1) es
+  all-found P [] alone found = tt
+  all-found P (e ∷ es) alone found = (found e.0 e.1 (found-head e es), all-found P es alone.1 (λ q x there. found q x (found-behind e es q x alone.0 there)))
 
   pub found-left : (xs ys : List (K × X)) (q : K) (x : X) → find R q xs ≡ Some x → find R q (xs ++ ys) ≡ Some x
   found-left [] ys q x there = cc

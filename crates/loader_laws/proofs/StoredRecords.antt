@@ -26,17 +26,19 @@ use Rattle.tpcc_model.specs.Soundness.{IsCard, IsCustomerRow, IsStockRow}
 use Rattle.tpcc_rows.specs.Limits.{IsBetween, IsCents, IsStockQuantity, ten}
 use Rattle.tpcc_rows.specs.Texts.{ArePrintable, IsPrintable, IsText, is_printable, is_text}
 use Rattle.tpcc_rows.specs.declared.row.CustomerRow.{CustomerRow}
-use Rattle.tpcc_rows.specs.declared.row.DistrictRow.{DistrictRow}
+use Rattle.tpcc_rows.specs.declared.row.DistrictNextRow.{DistrictNextRow}
+use Rattle.tpcc_rows.specs.declared.row.DistrictYtdRow.{DistrictYtdRow}
 use Rattle.tpcc_rows.specs.declared.row.HistoryRow.{HistoryRow}
 use Rattle.tpcc_rows.specs.declared.row.OrderLineRow.{OrderLineRow}
 use Rattle.tpcc_rows.specs.declared.row.OrderRow.{OrderRow}
 use Rattle.tpcc_rows.specs.declared.row.StockRow.{StockRow}
 use Rattle.tpcc_rows.specs.declared.row.WarehouseRow.{WarehouseRow}
 use Rattle.image_records.specs.Columns.{credit_of, texts_at}
-use Rattle.image_records.specs.ImageRecords.{customer_fields, district_fields, history_fields, item_fields, new_order_fields, order_fields, order_line_fields, record_at, stock_fields, warehouse_fields}
-use Rattle.stored_image.specs.StoredRecords.{credit_text, written_customer, written_district, written_history, written_item, written_new_order, written_order, written_order_line, written_record, written_stock, written_warehouse}
+use Rattle.image_records.specs.ImageRecords.{customer_fields, district_fields, district_next_fields, district_ytd_fields, history_fields, item_fields, new_order_fields, order_fields, order_line_fields, record_at, stock_fields, warehouse_fields}
+use Rattle.stored_image.specs.StoredRecords.{credit_text, written_customer, written_district, written_district_next, written_district_ytd, written_history, written_item, written_new_order, written_order, written_order_line, written_record, written_stock, written_warehouse}
 use Rattle.image_records.specs.declared.image_record.ImageRecord.{ImageRecord}
 use Rattle.image_records.specs.declared.image_record.ImageRecord.TheVariants as said
+use Rattle.image_records.specs.declared.version.Version.TheVariants as version
 use Rattle.loader.proofs.Filled.{IsHistoryRow, IsLineRow, IsOrderKey, IsOrderRow}
 
 -- ---- fields
@@ -112,9 +114,13 @@ pub record IsStoredHistory (n : ℕ) (r : HistoryRow) : Type 0 where
   pub warehouse : IsBetween 1 100 r.warehouse
   pub row : IsHistoryRow n r
 
+-- a whole district is a record of version 1 alone
 abbrev pub IsStored : ImageRecord → Type 0
 IsStored (said.Warehouse c r) = IsCard (card.Warehouse c) × IsCents r.ytd
-IsStored (said.District c r) = IsCard (card.District c) × IsCents r.ytd × IsBetween 1 9999999 r.next_order
+IsStored (said.District c) = IsCard (card.District c)
+IsStored (said.DistrictYtd w d r) = IsBetween 1 100 w × IsBetween 1 10 d × IsCents r.ytd
+IsStored (said.DistrictNext w d r) = IsBetween 1 100 w × IsBetween 1 10 d × IsBetween 1 9999999 r.next_order
+IsStored (said.WholeDistrict c ytd next) = ⊥
 IsStored (said.Customer c r) = IsCard (card.Customer c) × IsCustomerRow r
 IsStored (said.Item c) = IsCard (card.Item c)
 IsStored (said.Stock c r) = IsCard (card.Stock c) × IsStockRow r
@@ -124,7 +130,7 @@ IsStored (said.OrderLine w d o n r) = IsStoredLine w d o n r
 IsStored (said.History n r) = IsStoredHistory n r
 
 -- ---- the kinds
-warehouse-read : (c : WarehouseCard) (r : WarehouseRow) → IsStored (said.Warehouse c r) → record_at (written_warehouse c r) ≡ Ok (said.Warehouse c r)
+warehouse-read : (c : WarehouseCard) (r : WarehouseRow) → IsStored (said.Warehouse c r) → record_at version.Two (written_warehouse c r) ≡ Ok (said.Warehouse c r)
 unfolding field_at warehouse_fields written_warehouse
 warehouse-read c r h = rw (
   number 1 100 c.warehouse h.0.0 (omega arith),
@@ -133,18 +139,28 @@ warehouse-read c r h = rw (
   cents r.ytd h.1,
 ) refl
 
-district-read : (c : DistrictCard) (r : DistrictRow) → IsStored (said.District c r) → record_at (written_district c r) ≡ Ok (said.District c r)
+district-read : (c : DistrictCard) → IsStored (said.District c) → record_at version.Two (written_district c) ≡ Ok (said.District c)
 unfolding field_at district_fields written_district
-district-read c r h = rw (
-  number 1 100 c.warehouse h.0.0 (omega arith),
-  number 1 10 c.district h.0.1 (omega arith),
-  text 10 c.name h.0.2,
-  number 0 9999 c.tax h.0.3 (omega arith),
-  cents r.ytd h.1,
+district-read c h = rw (
+  number 1 100 c.warehouse h.0 (omega arith),
+  number 1 10 c.district h.1 (omega arith),
+  text 10 c.name h.2,
+  number 0 9999 c.tax h.3 (omega arith),
+) refl
+
+district_ytd-read : (w d : ℕ) (r : DistrictYtdRow) → IsStored (said.DistrictYtd w d r) → record_at version.Two (written_district_ytd w d r) ≡ Ok (said.DistrictYtd w d r)
+unfolding field_at district_ytd_fields written_district_ytd
+district_ytd-read w d r h = rw (number 1 100 w h.0 (omega arith), number 1 10 d h.1 (omega arith), cents r.ytd h.2) refl
+
+district_next-read : (w d : ℕ) (r : DistrictNextRow) → IsStored (said.DistrictNext w d r) → record_at version.Two (written_district_next w d r) ≡ Ok (said.DistrictNext w d r)
+unfolding field_at district_next_fields written_district_next
+district_next-read w d r h = rw (
+  number 1 100 w h.0 (omega arith),
+  number 1 10 d h.1 (omega arith),
   number 1 9999999 r.next_order h.2 (omega arith),
 ) refl
 
-customer-read : (c : CustomerCard) (r : CustomerRow) → IsStored (said.Customer c r) → record_at (written_customer c r) ≡ Ok (said.Customer c r)
+customer-read : (c : CustomerCard) (r : CustomerRow) → IsStored (said.Customer c r) → record_at version.Two (written_customer c r) ≡ Ok (said.Customer c r)
 unfolding field_at customer_fields written_customer
 customer-read c r h = rw (
   number 1 100 c.warehouse h.0.warehouse (omega arith),
@@ -162,7 +178,7 @@ customer-read c r h = rw (
   text 500 r.data h.1.text,
 ) refl
 
-item-read : (c : ItemCard) → IsStored (said.Item c) → record_at (written_item c) ≡ Ok (said.Item c)
+item-read : (c : ItemCard) → IsStored (said.Item c) → record_at version.Two (written_item c) ≡ Ok (said.Item c)
 unfolding field_at item_fields written_item
 item-read c h = rw (
   number 1 100000 c.item h.0 (omega arith),
@@ -171,7 +187,7 @@ item-read c h = rw (
   text 50 c.data h.3,
 ) refl
 
-order-read : (w d o : ℕ) (r : OrderRow) → IsStored (said.Order w d o r) → record_at (written_order w d o r) ≡ Ok (said.Order w d o r)
+order-read : (w d o : ℕ) (r : OrderRow) → IsStored (said.Order w d o r) → record_at version.Two (written_order w d o r) ≡ Ok (said.Order w d o r)
 unfolding field_at order_fields written_order
 order-read w d o r h = rw (
   number 1 100 w h.key.warehouse (omega arith),
@@ -185,7 +201,7 @@ order-read w d o r h = rw (
   flag-is r.all_local,
 ) refl
 
-new_order-read : (w d o : ℕ) → IsStored (said.NewOrder w d o) → record_at (written_new_order w d o) ≡ Ok (said.NewOrder w d o)
+new_order-read : (w d o : ℕ) → IsStored (said.NewOrder w d o) → record_at version.Two (written_new_order w d o) ≡ Ok (said.NewOrder w d o)
 unfolding field_at new_order_fields written_new_order
 new_order-read w d o h = rw (
   number 1 100 w h.warehouse (omega arith),
@@ -193,7 +209,7 @@ new_order-read w d o h = rw (
   number 1 9999998 o h.order (omega arith),
 ) refl
 
-order_line-read : (w d o n : ℕ) (r : OrderLineRow) → IsStored (said.OrderLine w d o n r) → record_at (written_order_line w d o n r) ≡ Ok (said.OrderLine w d o n r)
+order_line-read : (w d o n : ℕ) (r : OrderLineRow) → IsStored (said.OrderLine w d o n r) → record_at version.Two (written_order_line w d o n r) ≡ Ok (said.OrderLine w d o n r)
 unfolding field_at order_line_fields written_order_line
 order_line-read w d o n r h = rw (
   number 1 100 w h.key.warehouse (omega arith),
@@ -208,7 +224,7 @@ order_line-read w d o n r h = rw (
   text 24 r.district_info h.row.district_info,
 ) refl
 
-history-read : (n : ℕ) (r : HistoryRow) → IsStored (said.History n r) → record_at (written_history n r) ≡ Ok (said.History n r)
+history-read : (n : ℕ) (r : HistoryRow) → IsStored (said.History n r) → record_at version.Two (written_history n r) ≡ Ok (said.History n r)
 unfolding field_at history_fields written_history
 history-read n r h = rw (
   number 1 999999999999999 n h.row.number (omega arith),
@@ -232,7 +248,7 @@ ten_texts : (xs : List (List ℕ)) → length xs ≡ 10 → map (λ d. slice_ind
 ten_texts (a ∷ b ∷ c ∷ d ∷ e ∷ f ∷ g ∷ h ∷ i ∷ j ∷ []) is = refl
 ten_texts _ is = cc
 
-stock-read : (c : StockCard) (r : StockRow) → IsStored (said.Stock c r) → record_at (written_stock c r) ≡ Ok (said.Stock c r)
+stock-read : (c : StockCard) (r : StockRow) → IsStored (said.Stock c r) → record_at version.Two (written_stock c r) ≡ Ok (said.Stock c r)
 unfolding field_at stock_fields texts_at written_stock
 stock-read c r h =
     let infos = h.0.district_infos in
@@ -258,9 +274,12 @@ stock-read c r h =
     ) (ap (λ (xs : List (List ℕ)). let s : ImageRecord = said.Stock (record c { district_infos = xs }) r in let ok : Result ImageRecord Slip = Ok s in ok) (ten_texts c.district_infos all))
 
 -- a record is read as what it says
-pub record_at-written : (s : ImageRecord) → IsStored s → record_at (written_record s) ≡ Ok s
+pub record_at-written : (s : ImageRecord) → IsStored s → record_at version.Two (written_record s) ≡ Ok s
 record_at-written (said.Warehouse c r) h = warehouse-read c r h
-record_at-written (said.District c r) h = district-read c r h
+record_at-written (said.District c) h = district-read c h
+record_at-written (said.DistrictYtd w d r) h = district_ytd-read w d r h
+record_at-written (said.DistrictNext w d r) h = district_next-read w d r h
+record_at-written (said.WholeDistrict c ytd next) h = absurd h
 record_at-written (said.Customer c r) h = customer-read c r h
 record_at-written (said.Item c) h = item-read c h
 record_at-written (said.Stock c r) h = stock-read c r h

@@ -1,5 +1,5 @@
 -- What an image says of the cards and the rows of a sound database.
-use Rattle.std.proofs.Common.{◌≡◌, ℕ, Option, Some, None, IsSome, refl, sym, ap, subst, arith, inl, inr, ◌⊎◌}
+use Rattle.std.proofs.Common.{◌≡◌, ◌∙◌, ℕ, Option, Some, None, IsSome, refl, sym, ap, subst, arith, inl, inr, ◌⊎◌}
 use Rattle.std.specs.Prelude.{option_and_then}
 use Rattle.std.specs.FinMap.{get}
 use Rattle.catalog.specs.CardKinds.{as_customer, as_district, as_stock, as_warehouse, card_key as own_key}
@@ -16,15 +16,18 @@ use Rattle.tpcc_rows.specs.declared.row.OrderRow.{OrderRow}
 use Rattle.tpcc_rows.specs.declared.row.Row.{Row}
 use Rattle.tpcc_rows.specs.declared.row.Row.TheVariants as row
 use Rattle.stored_image.specs.StoredImage.{card_said, row_said}
+use Rattle.stored_image.specs.declared.stored_record.RowPart.{RowPart}
+use Rattle.stored_image.specs.declared.stored_record.RowPart.TheVariants as row_part
 use Rattle.image_records.specs.declared.image_record.ImageRecord.{ImageRecord}
 use Rattle.image_records.specs.declared.image_record.ImageRecord.TheVariants as said
 use Rattle.loader.proofs.Filled.{IsOrderKey, card_key_of, row_key_of}
 use Rattle.loader_laws.proofs.StoredRecords.{IsStored}
 
--- the card and the row that a record adds
+-- the card and the row that a stored record adds
 abbrev pub card_of : ImageRecord → Option (CardKey × Card)
 card_of (said.Warehouse c r) = Some (card_key.Warehouse c.warehouse, card.Warehouse c)
-card_of (said.District c r) = Some (card_key.District c.warehouse c.district, card.District c)
+card_of (said.District c) = Some (card_key.District c.warehouse c.district, card.District c)
+card_of (said.WholeDistrict c ytd next) = Some (card_key.District c.warehouse c.district, card.District c)
 card_of (said.Customer c r) = Some (card_key.Customer c.warehouse c.district c.customer, card.Customer c)
 card_of (said.Item c) = Some (card_key.Item c.item, card.Item c)
 card_of (said.Stock c r) = Some (card_key.Stock c.warehouse c.item, card.Stock c)
@@ -32,7 +35,10 @@ card_of _ = None
 
 abbrev pub row_of : ImageRecord → Option (RowKey × Row)
 row_of (said.Warehouse c r) = Some (key.Warehouse c.warehouse, row.Warehouse r)
-row_of (said.District c r) = Some (key.District c.warehouse c.district, row.District r)
+row_of (said.District c) = None
+row_of (said.DistrictYtd w d r) = Some (key.DistrictYtd w d, row.DistrictYtd r)
+row_of (said.DistrictNext w d r) = Some (key.DistrictNext w d, row.DistrictNext r)
+row_of (said.WholeDistrict c ytd next) = None
 row_of (said.Customer c r) = Some (key.Customer c.warehouse c.district c.customer, row.Customer r)
 row_of (said.Item c) = None
 row_of (said.Stock c r) = Some (key.Stock c.warehouse c.item, row.Stock r)
@@ -40,6 +46,18 @@ row_of (said.Order w d o r) = Some (key.Order w d o, row.Order r)
 row_of (said.NewOrder w d o) = Some (key.NewOrder w d o, row.NewOrder)
 row_of (said.OrderLine w d o n r) = Some (key.OrderLine w d o n, row.OrderLine r)
 row_of (said.History n r) = Some (key.History n, row.History r)
+
+-- the part of an image in which the row of a key is said by itself
+abbrev pub row_part_of : RowKey → Option RowPart
+row_part_of (key.Warehouse w) = None
+row_part_of (key.Customer w d c) = None
+row_part_of (key.Stock w i) = None
+row_part_of (key.Order w d o) = Some row_part.Others
+row_part_of (key.NewOrder w d o) = Some row_part.Others
+row_part_of (key.OrderLine w d o n) = Some row_part.Others
+row_part_of (key.History n) = Some row_part.Others
+row_part_of (key.DistrictYtd w d) = Some row_part.Districts
+row_part_of (key.DistrictNext w d) = Some row_part.Districts
 
 -- what is said of a card
 pub record CardSaid (db : Database) (k : CardKey) (c : Card) : Type 0 where
@@ -51,26 +69,44 @@ pub record CardSaid (db : Database) (k : CardKey) (c : Card) : Type 0 where
   pub only : (y : RowKey × Row) → row_of says ≡ Some y → (card_key_of y.0 ≡ Some k) × (get db.rows y.0 ≡ Some y.1)
   pub stored : IsStored says
 
--- what is said of a row that goes with no card
-pub record RowSaid (k : RowKey) (x : Row) : Type 0 where
-  pub alone : card_key_of k ≡ None
+-- what is said of a row by itself, in this part of an image
+pub record RowSaid (p : RowPart) (k : RowKey) (x : Row) : Type 0 where
+  pub at : row_part_of k ≡ Some p
   pub says : ImageRecord
-  pub is : row_said (k, x) ≡ Some says
+  pub is : row_said p (k, x) ≡ Some says
   pub no_card : card_of says ≡ None
   pub row : row_of says ≡ Some (k, x)
   pub stored : IsStored says
 
 -- a row that is said with its card
 pub record RowBeside (db : Database) (k : RowKey) (x : Row) : Type 0 where
-  pub none : row_said (k, x) ≡ None
+  pub none : row_part_of k ≡ None
   pub card_key : CardKey
   pub goes : row_key_of card_key ≡ Some k
   pub card : Card
   pub there : get db.cards card_key ≡ Some card
 
 -- what holds of the one thing in an option
-of-some : {A : Type 0} (P : A → Type 0) (x y : A) → Some x ≡ Some y → P x → P y
+pub of-some : {A : Type 0} (P : A → Type 0) (x y : A) → Some x ≡ Some y → P x → P y
 of-some P x y e h = let same : x ≡ y = cc in subst P same h
+
+-- a row that is said with its card is said in no part by itself
+pub beside-part : (k : RowKey) (q : CardKey) → card_key_of k ≡ Some q → row_part_of k ≡ None
+beside-part (key.Warehouse w) q is = refl
+beside-part (key.Customer w d n) q is = refl
+beside-part (key.Stock w i) q is = refl
+beside-part _ q is = cc
+
+-- nothing is said of a row but in its part
+not-in : (p : RowPart) (k : RowKey) (x : Row) → (row_part_of k ≡ Some p → ⊥) → row_said p (k, x) ≡ None
+not-in row_part.Districts (key.DistrictYtd w d) x elsewhere = absurd (elsewhere refl)
+not-in row_part.Districts (key.DistrictNext w d) x elsewhere = absurd (elsewhere refl)
+not-in row_part.Others (key.Order w d o) x elsewhere = absurd (elsewhere refl)
+not-in row_part.Others (key.NewOrder w d o) x elsewhere = absurd (elsewhere refl)
+not-in row_part.Others (key.OrderLine w d o n) x elsewhere = absurd (elsewhere refl)
+not-in row_part.Others (key.History n) x elsewhere = absurd (elsewhere refl)
+not-in row_part.Districts _ x elsewhere = refl
+not-in row_part.Others _ x elsewhere = refl
 
 -- a card of a kind is a card
 card-there : {X : Type 0} (f : Card → Option X) (o : Option Card) → IsSome (option_and_then f o) → (c : Card) × (o ≡ Some c)
@@ -131,21 +167,14 @@ module _ (db : Database) (sound : IsSound db) where
         stored = (sound.cards.limits (card_key.Warehouse c.warehouse) (card.Warehouse c) there, (sound.entries (key.Warehouse c.warehouse) (row.Warehouse r) e).1);
       }
       at (Some x) e h = absurd (sound.entries (key.Warehouse c.warehouse) x e)
-  said-of (card.District c) there = at (get db.rows (key.District c.warehouse c.district)) refl (sound.there (key.District c.warehouse c.district) (rw there refl))
-    where
-      at : (o : Option Row) → get db.rows (key.District c.warehouse c.district) ≡ o → IsSome o → CardSaid db (card_key.District c.warehouse c.district) (card.District c)
-      at None e h = let bad : ⊥ = cc in absurd bad
-      at (Some (row.District r)) e h = record {
-        says = said.District c r;
-        is = rw e refl;
-        card = refl;
-        beside = λ q is. (row.District r, ap (λ (k : RowKey). Some (k, row.District r)) (let same : key.District c.warehouse c.district ≡ q = cc in same));
-        only = λ y is. of-some (λ z. (card_key_of z.0 ≡ Some (card_key.District c.warehouse c.district)) × (get db.rows z.0 ≡ Some z.1)) (key.District c.warehouse c.district, row.District r) y is (refl, e);
-        stored =
-            let entry = sound.entries (key.District c.warehouse c.district) (row.District r) e in
-            (sound.cards.limits (card_key.District c.warehouse c.district) (card.District c) there, entry.1, entry.2);
-      }
-      at (Some x) e h = absurd (sound.entries (key.District c.warehouse c.district) x e)
+  said-of (card.District c) there = record {
+    says = said.District c;
+    is = refl;
+    card = refl;
+    beside = λ q is. let bad : ⊥ = cc in absurd bad;
+    only = λ y is. let bad : ⊥ = cc in absurd bad;
+    stored = sound.cards.limits (card_key.District c.warehouse c.district) (card.District c) there;
+  }
   said-of (card.Customer c) there = at (get db.rows (key.Customer c.warehouse c.district c.customer)) refl (sound.there (key.Customer c.warehouse c.district c.customer) (rw there refl))
     where
       at : (o : Option Row) → get db.rows (key.Customer c.warehouse c.district c.customer) ≡ o → IsSome o → CardSaid db (card_key.Customer c.warehouse c.district c.customer) (card.Customer c)
@@ -190,13 +219,10 @@ module _ (db : Database) (sound : IsSound db) where
   order-key : (w d o : ℕ) (r : OrderRow) → IsOrder db.cards w d o r → IsOrderKey w d o
   order-key w d o r h = let (warehouse, district) = district-limits w d h.district in record { warehouse = warehouse; district = district; order = h.number }
 
-  pub row-said : (k : RowKey) (x : Row) → IsEntry db.cards db.rows k x → RowBeside db k x ⊎ RowSaid k x
+  pub row-said : (k : RowKey) (x : Row) → IsEntry db.cards db.rows k x → RowBeside db k x ⊎ ((p : RowPart) × RowSaid p k x)
   row-said (key.Warehouse w) (row.Warehouse r) h =
       let (c, there) = card-there as_warehouse (get db.cards (card_key.Warehouse w)) h.0 in
       inl (record { none = refl; card_key = card_key.Warehouse w; goes = refl; card = c; there = there })
-  row-said (key.District w d) (row.District r) h =
-      let (c, there) = card-there as_district (get db.cards (card_key.District w d)) h.0 in
-      inl (record { none = refl; card_key = card_key.District w d; goes = refl; card = c; there = there })
   row-said (key.Customer w d n) (row.Customer r) h =
       let (c, there) = card-there as_customer (get db.cards (card_key.Customer w d n)) h.0 in
       inl (record { none = refl; card_key = card_key.Customer w d n; goes = refl; card = c; there = there })
@@ -205,67 +231,120 @@ module _ (db : Database) (sound : IsSound db) where
       inl (record { none = refl; card_key = card_key.Stock w i; goes = refl; card = c; there = there })
   row-said (key.Order w d o) (row.Order r) h =
       let (warehouse, district, customer) = customer-limits w d r.customer h.customer in
-      inr (record {
-        alone = refl;
-        says = said.Order w d o r;
-        is = refl;
-        no_card = refl;
-        row = refl;
-        stored = record {
-          key = order-key w d o r h;
-          customer = customer;
-          row = record { entry = h.entry; carrier = h.carrier; line_count = h.line_count };
-        };
-      })
+      inr (
+        row_part.Others,
+        record {
+          at = refl;
+          says = said.Order w d o r;
+          is = refl;
+          no_card = refl;
+          row = refl;
+          stored = record {
+            key = order-key w d o r h;
+            customer = customer;
+            row = record { entry = h.entry; carrier = h.carrier; line_count = h.line_count };
+          };
+        },
+      )
   row-said (key.NewOrder w d o) row.NewOrder h =
-      inr (record {
-        alone = refl;
-        says = said.NewOrder w d o;
-        is = refl;
-        no_card = refl;
-        row = refl;
-        stored = order-key w d o h.0 (sound.entries (key.Order w d o) (row.Order h.0) h.1);
-      })
+      inr (
+        row_part.Others,
+        record {
+          at = refl;
+          says = said.NewOrder w d o;
+          is = refl;
+          no_card = refl;
+          row = refl;
+          stored = order-key w d o h.0 (sound.entries (key.Order w d o) (row.Order h.0) h.1);
+        },
+      )
   row-said (key.OrderLine w d o n) (row.OrderLine r) h =
       let order = sound.entries (key.Order w d o) (row.Order h.order) h.has_order in
       let (supply, item) = stock-limits r.supply r.item h.stock in
       let most = order.line_count.1 in
       let below = h.number.1 in
-      inr (record {
-        alone = refl;
-        says = said.OrderLine w d o n r;
-        is = refl;
-        no_card = refl;
-        row = refl;
-        stored = record {
-          key = order-key w d o h.order order;
-          item = item;
-          supply = supply;
-          row = record {
-            number = (h.number.0, omega (arith, most, below));
-            delivery = h.delivery;
-            quantity = h.quantity;
-            amount = h.amount;
-            district_info = h.district_info;
+      inr (
+        row_part.Others,
+        record {
+          at = refl;
+          says = said.OrderLine w d o n r;
+          is = refl;
+          no_card = refl;
+          row = refl;
+          stored = record {
+            key = order-key w d o h.order order;
+            item = item;
+            supply = supply;
+            row = record {
+              number = (h.number.0, omega (arith, most, below));
+              delivery = h.delivery;
+              quantity = h.quantity;
+              amount = h.amount;
+              district_info = h.district_info;
+            };
           };
-        };
-      })
+        },
+      )
   row-said (key.History n) (row.History r) h =
       let (customer_warehouse, customer_district, customer) = customer-limits r.customer_warehouse r.customer_district r.customer h.customer in
       let (warehouse, district) = district-limits r.warehouse r.district h.district in
-      inr (record {
-        alone = refl;
-        says = said.History n r;
-        is = refl;
-        no_card = refl;
-        row = refl;
-        stored = record {
-          customer = customer;
-          customer_district = customer_district;
-          customer_warehouse = customer_warehouse;
-          district = district;
-          warehouse = warehouse;
-          row = record { number = h.number; date = h.date; amount = h.amount; text = h.text };
-        };
-      })
+      inr (
+        row_part.Others,
+        record {
+          at = refl;
+          says = said.History n r;
+          is = refl;
+          no_card = refl;
+          row = refl;
+          stored = record {
+            customer = customer;
+            customer_district = customer_district;
+            customer_warehouse = customer_warehouse;
+            district = district;
+            warehouse = warehouse;
+            row = record { number = h.number; date = h.date; amount = h.amount; text = h.text };
+          };
+        },
+      )
+  row-said (key.DistrictYtd w d) (row.DistrictYtd r) h =
+      let (warehouse, district) = district-limits w d h.0 in
+      inr (
+        row_part.Districts,
+        record {
+          at = refl;
+          says = said.DistrictYtd w d r;
+          is = refl;
+          no_card = refl;
+          row = refl;
+          stored = (warehouse, district, h.1);
+        },
+      )
+  row-said (key.DistrictNext w d) (row.DistrictNext r) h =
+      let (warehouse, district) = district-limits w d h.0 in
+      inr (
+        row_part.Districts,
+        record {
+          at = refl;
+          says = said.DistrictNext w d r;
+          is = refl;
+          no_card = refl;
+          row = refl;
+          stored = (warehouse, district, h.1);
+        },
+      )
   row-said _ _ h = absurd h
+
+  -- what is said of a row in one part of an image
+  pub row-said-in : (p : RowPart) (k : RowKey) (x : Row) → IsEntry db.cards db.rows k x → (row_said p (k, x) ≡ None) ⊎ RowSaid p k x
+  row-said-in p k x h = elim (row-said k x h) [
+    | inl beside ↦
+        let none = beside.none in
+        inl (not-in p k x (λ at. let no : None ≡ Some p = sym none ∙ at in let bad : ⊥ = cc in bad))
+    | inr other ↦ by p other.0 other.1
+  ]
+    where
+      by : (p q : RowPart) → RowSaid q k x → (row_said p (k, x) ≡ None) ⊎ RowSaid p k x
+      by row_part.Districts row_part.Districts s = inr s
+      by row_part.Others row_part.Others s = inr s
+      by row_part.Districts row_part.Others s = inl (not-in row_part.Districts k x (λ at. let no : Some row_part.Districts ≡ Some row_part.Others = sym at ∙ s.at in let bad : ⊥ = cc in bad))
+      by row_part.Others row_part.Districts s = inl (not-in row_part.Others k x (λ at. let no : Some row_part.Others ≡ Some row_part.Districts = sym at ∙ s.at in let bad : ⊥ = cc in bad))
