@@ -55,7 +55,7 @@ def with_orders(image, districts, count, records):
     """The image, in which no district has an order, with records of so many orders in each of the first districts."""
     lines = image.splitlines()
     for place, line in enumerate(lines):
-        if line.startswith('D,1,') and int(line.split(',')[2]) <= districts:
+        if line.startswith('X,1,') and int(line.split(',')[2]) <= districts:
             lines[place] = line.rsplit(',', 1)[0] + f',{count + 1}'
     return with_records('\n'.join(lines), records)
 
