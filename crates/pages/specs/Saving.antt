@@ -108,11 +108,10 @@ is_touched pages olds n = has_leaf pages n || list_any (λ old. eqb n (leaf old.
 abbrev pub has_of_leaf : Before → ℕ → Bool
 has_of_leaf before n = is_touched before.pages before.olds n
 
--- the leaves whose pages are saved, the places whose parts of indexes are, and the leaves of which anything is: a bit each
-pub record AreMarks (pages : List LeafPage) (olds : List OldRow) (indexes : List IndexPart) (leaves places touched : List ℕ) : Type 0 where
+-- the leaves whose pages are saved, and the places whose parts of indexes are: a bit each
+pub record AreMarks (pages : List LeafPage) (indexes : List IndexPart) (leaves places : List ℕ) : Type 0 where
   pub leaf_marks : (n : ℕ) → has_bit leaves n ≡ has_leaf pages n
   pub place_marks : (n : ℕ) → has_bit places n ≡ has_place indexes n
-  pub touched_marks : (n : ℕ) → has_bit touched n ≡ is_touched pages olds n
 
 -- what changes where the key's number was the one owner's and is the other's is saved: the part of the index that has it, or
 -- each number that only one of them has, as one that was added

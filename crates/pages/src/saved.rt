@@ -1,11 +1,12 @@
 //! Rows as they were, to which a store can go back.
-ghost use Rattle.std.specs.Prelude.{◌≡◌, ◌<◌, ◌++◌, ◌∷◌, [], OnOk, OnErr};
+ghost use Rattle.std.specs.Prelude.{◌≡◌, ◌<◌, ◌++◌, ◌∷◌, ◌||◌, [], ℕ, OnOk, OnErr};
 ghost use Rattle.indexes.specs.declared.place.TheConstants.{PLACES};
 ghost use Rattle.tpcc_rows.specs.declared.codes.TheConstants.{LEAVES};
 ghost use Rattle.pages.specs.Saving.{AreMarks, has_leaf, has_place};
 
-use crate::bits::{Bits, WORD_BITS};
+use crate::bits::{Bits, LEAF_WORDS, WORD_BITS};
 use crate::kept::{AddedNumber, IndexPart, LeafPage, OldRow};
+use crate::leaf_set::LeafSet;
 use indexes::Owner;
 use indexes::place::PLACES;
 use std::alloc::Global;
@@ -13,9 +14,6 @@ use std::default::MadeWith;
 use tpcc_rows::codes::{LEAVES, leaf};
 use tpcc_rows::key::RowKey;
 use tpcc_rows::memory::Memory;
-
-/// A bit for each leaf.
-const LEAF_WORDS: usize = LEAVES / WORD_BITS;
 
 /// A bit for each place.
 const PLACE_WORDS: usize = PLACES / WORD_BITS + 1;
@@ -30,13 +28,13 @@ pub struct Saved {
     olds: Vec<OldRow>,
     indexes: Vec<IndexPart>,
     added: Vec<AddedNumber>,
-    leaves: Bits<LEAF_WORDS>,
+    leaves: LeafSet,
     places: Bits<PLACE_WORDS>,
-    touched: Bits<LEAF_WORDS>,
-    ghost marked: { AreMarks pages.items olds.items indexes.items leaves.words places.words touched.words },
+    ghost marked: { AreMarks pages.items indexes.items leaves.words.items places.words },
 }
 
 impl Saved {
+    ghost use Rattle.pages.specs.BitSets.{has_bit};
     ghost use Rattle.pages.specs.Points.{before_of};
     ghost use Rattle.pages.specs.Saving.{has_of_leaf};
 
@@ -52,9 +50,8 @@ impl Saved {
             olds: Vec::new(alloc),
             indexes: Vec::new(alloc),
             added: Vec::new(alloc),
-            leaves: Bits::new(),
+            leaves: LeafSet::new(alloc),
             places: Bits::new(),
-            touched: Bits::new(),
         }
     }
 
@@ -74,12 +71,16 @@ impl Saved {
         self.places.has(place)
     }
 
-    /// Whether the page of the leaf or a row of it is here.
-    pub fn has_of_leaf(&self, leaf: usize) -> bool
-        requires { leaf < LEAVES }
-        ensures { result ≡ has_of_leaf (before_of self.now) leaf }
+    /// The leaves of which the page or a row is here are in the set too from now on.
+    pub fn add_leaves(&self, leaves: &mut Bits<LEAF_WORDS>)
+        ensures { (n : ℕ) → has_bit leaves.new.words n ≡ (has_of_leaf (before_of self.now) n || has_bit leaves.old.words n) }
     {
-        self.touched.has(leaf)
+        for page in &self.pages {
+            leaves.add(page.leaf);
+        }
+        for old in &self.olds {
+            leaves.add(leaf(&old.key));
+        }
     }
 
     /// This page too is here from now on.
@@ -91,9 +92,9 @@ impl Saved {
         ensures added { self.new.added.items ≡ self.old.added.items }
     {
         let leaf = page.leaf;
+        self.leaves.widen()?;
         self.pages.push(page)?;
         self.leaves.add(leaf);
-        self.touched.add(leaf);
         Ok(())
     }
 
@@ -105,9 +106,7 @@ impl Saved {
         ensures indexes { self.new.indexes.items ≡ self.old.indexes.items }
         ensures added { self.new.added.items ≡ self.old.added.items }
     {
-        let leaf = leaf(&old.key);
         self.olds.push(old)?;
-        self.touched.add(leaf);
         Ok(())
     }
 

@@ -1,7 +1,6 @@
 -- What a change of rows leaves on the other leaves.
-use Rattle.std.proofs.Common.{◌≡◌, ℕ, Bool, true, false, cond, ◌||◌, eqb, List, [], ◌∷◌, ◌++◌, get_or, Option, None, refl, sym, ap, ◌∙◌, ◌<◌, ◌≤◌, ◌⊎◌, inl, inr, replicate, nat_lt, arith}
-use Rattle.std.proofs.lemmas.Bool.{eqb-true, ltb-false}
-use Rattle.std.proofs.lemmas.List.{get_or-replicate, get_or_past, length-replicate}
+use Rattle.std.proofs.Common.{◌≡◌, ℕ, Bool, true, false, cond, ◌||◌, eqb, List, [], ◌∷◌, ◌++◌, Option, None, refl, sym, ap, ◌∙◌}
+use Rattle.std.proofs.lemmas.Bool.{eqb-true}
 use Rattle.std.specs.List.{list_any}
 use Rattle.std.specs.FinMap.{get, same_map}
 use Rattle.serializability.specs.Changes.{changed}
@@ -11,18 +10,9 @@ use Rattle.tpcc_rows.specs.declared.row.Row.{Row}
 use Rattle.tpcc_rows.specs.RowMap.{Rows}
 use Rattle.tpcc_rows.specs.Leaves.{leaf, page_rows}
 use Rattle.tpcc_rows.proofs.Keys.{row_key_cmp_total, exact_keys}
-use Rattle.tpcc_rows.proofs.LeafPicks.{leaf-small}
 use Rattle.pages.proofs.Paging.{get-page_rows, other_leaf}
 use Rattle.rollback.specs.Marks.{is_dirty, HasAlso}
 use Rattle.rollback.specs.Pointed.{Pointed, KeepsCleanLeaves}
-
-pub no-marks : (m n : ℕ) → get_or (replicate m false) n false ≡ false
-no-marks m n =
-    let cases : (n < m) ⊎ (m ≤ n) = grind arith in
-    elim cases [
-      | inl small ↦ get_or-replicate m n false false small
-      | inr large ↦ get_or_past (replicate m false) n false (rw (length-replicate m false) large)
-    ]
 
 pub or-left : (a b : Bool) → (a || b) ≡ false → a ≡ false
 or-left true b h = h
@@ -49,19 +39,6 @@ keeps-changed before old new k m c view place rows marks n clean =
       ap (λ (p : Pointed). is_dirty p.dirty n) (sym view) ∙ or-right (eqb n m) (is_dirty before.dirty n) both,
       ap (λ (r : Rows). page_rows r n) rows ∙ page-changed before.rows k c n apart ∙ ap (λ (p : Pointed). page_rows p.rows n) view,
     )
-
--- no row is on a leaf past the last one
-past-leaves : (n : ℕ) → nat_lt n 65536 ≡ false → (q : RowKey) → eqb (leaf q) n ≡ false
-past-leaves n past q = elim (eqb (leaf q) n) as (λ b. eqb (leaf q) n ≡ b → b ≡ false) [
-  | true ↦ λ t. absurd (omega (arith, eqb-true (leaf q) n t, leaf-small q, ltb-false n 65536 past))
-  | false ↦ λ t. refl
-] refl
-
-get-past : (rows : Rows) (n : ℕ) → nat_lt n 65536 ≡ false → (q : RowKey) → get (page_rows rows n) q ≡ None
-get-past rows n past q = get-page_rows rows n q ∙ ap (λ t. cond t (get rows q) None) (past-leaves n past q)
-
-pub page-past : (a b : Rows) (n : ℕ) → nat_lt n 65536 ≡ false → page_rows a n ≡ page_rows b n
-page-past a b n past = same_map row_key_cmp_total exact_keys _ _ (λ q. get-past a n past q ∙ sym (get-past b n past q))
 
 pub keeps-more : (a b c : Pointed) → KeepsCleanLeaves a b → KeepsCleanLeaves b c → KeepsCleanLeaves a c
 keeps-more a b c first second n clean =

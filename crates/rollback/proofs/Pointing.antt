@@ -1,7 +1,6 @@
 -- What points stand for after a change, and after going back.
-use Rattle.std.proofs.Common.{◌≡◌, ℕ, zero, suc, ◌<◌, ◌≤◌, ◌+◌, Bool, true, false, ◌&&◌, ◌||◌, eqb, nat_lt, List, [], ◌∷◌, ◌++◌, length, get_or, set, take, drop, Option, Some, Result, Ok, Err, inl, inr, refl, sym, ap, ap₂, cond, subst, ◌∙◌, arith}
-use Rattle.std.proofs.lemmas.Bool.{cases_Bool, eqb-true, eq-eqb, lt-ltb, le-ltb, ltb-true, ltb-false}
-use Rattle.std.proofs.lemmas.List.{get_or-set_same, get_or-set_other, take-append-le, take_all}
+use Rattle.std.proofs.Common.{◌≡◌, ℕ, zero, suc, ◌<◌, ◌≤◌, ◌+◌, false, ◌||◌, List, [], ◌∷◌, ◌++◌, length, get_or, set, take, drop, Option, Some, Result, Ok, Err, refl, sym, ap, ap₂, cond, subst, ◌∙◌, arith}
+use Rattle.std.proofs.lemmas.List.{take-append-le, take_all}
 use Rattle.std.specs.List.{refill, slice_get}
 use Rattle.std.specs.Result.{OnOk, OnErr}
 use Rattle.serializability.specs.Changes.{changed}
@@ -15,7 +14,7 @@ use Rattle.pages.specs.Saving.{Before, AreThere, HasBefore, has_of_leaf, is_adde
 use Rattle.pages.proofs.Restoring.{restored-changed, restored-page, saved-changed}
 use Rattle.rollback.specs.Marks.{is_dirty, HasAlsoSaved}
 use Rattle.rollback.specs.Pointed.{AreSaved, first_or, NewestHas, points_of}
-use Rattle.rollback.proofs.Marking.{or-left, or-right, page-past}
+use Rattle.rollback.proofs.Marking.{or-left, or-right}
 
 -- ---- a change at a key for which the newest point has all
 pub points-changed : (ss : List Saved) (rows : Rows) (k : RowKey) (c : Option Row) → NewestHas ss rows k c → points_of ss (changed rows k c) ≡ points_of ss rows
@@ -168,53 +167,16 @@ pub rewound : (n : ℕ) (old new : List Rows) (p : Rows) → slice_get old n ≡
 rewound n old new p at e = e ∙ take-next n (n + 1) old p refl at
 
 -- ---- the leaves that come back
-pub record KeepsClean (before after : List Bool) (old new : Rows) : Type 0 where
+pub record KeepsClean (before after : List ℕ) (old new : Rows) : Type 0 where
   pub kept : (n : ℕ) → is_dirty after n ≡ false → (is_dirty before n ≡ false) × (page_rows new n ≡ page_rows old n)
 
-not-saved : (s : Saved) (n : ℕ) → (nat_lt n 65536 && has_of_leaf (before_of s) n) ≡ false → (rows : Rows) → page_rows (restored (before_of s) rows) n ≡ page_rows rows n
-not-saved s n h rows = elim (cases_Bool (nat_lt n 65536)) [
-  | inl t ↦ restored-page (before_of s) rows n (sym (ap (λ b. b && has_of_leaf (before_of s) n) t) ∙ h)
-  | inr f ↦ page-past (restored (before_of s) rows) rows n f
-]
-
-pub clean-back : (first before after : List Bool) (old rows : Rows) (s : Saved) → HasAlsoSaved before s after → KeepsClean first before old rows → KeepsClean first after old (restored (before_of s) rows)
+pub clean-back : (first before after : List ℕ) (old rows : Rows) (s : Saved) → HasAlsoSaved before s after → KeepsClean first before old rows → KeepsClean first after old (restored (before_of s) rows)
 clean-back first before after old rows s marks h = record {
   kept = λ n clean.
-      let both : ((nat_lt n 65536 && has_of_leaf (before_of s) n) || is_dirty before n) ≡ false = sym (marks n) ∙ clean in
-      let earlier = h.kept n (or-right (nat_lt n 65536 && has_of_leaf (before_of s) n) (is_dirty before n) both) in
-      (earlier.0, not-saved s n (or-left (nat_lt n 65536 && has_of_leaf (before_of s) n) (is_dirty before n) both) rows ∙ earlier.1);
+      let both : (has_of_leaf (before_of s) n || is_dirty before n) ≡ false = sym (marks n) ∙ clean in
+      let earlier = h.kept n (or-right (has_of_leaf (before_of s) n) (is_dirty before n) both) in
+      (earlier.0, restored-page (before_of s) rows n (or-left (has_of_leaf (before_of s) n) (is_dirty before n) both) ∙ earlier.1);
 }
-
--- marks joined with those of saved leaves, one more
-pub joined-more : (marks : List Bool) (i : ℕ) (b : Bool) (has old : ℕ → Bool) → i < length marks → b ≡ (get_or marks i false || has i) → ((n : ℕ) → get_or marks n false ≡ ((nat_lt n i && has n) || old n)) → (n : ℕ) → get_or (set marks i b) n false ≡ ((nat_lt n (i + 1) && has n) || old n)
-joined-more marks i b has old small e h n = elim (cases_Bool (eqb n i)) [
-  | inl t ↦
-      let same : n ≡ i = eqb-true n i t in
-      ap (λ m. get_or (set marks i b) m false) same ∙ get_or-set_same marks i b false small ∙ e ∙ ap (λ x. x || has i) (h i ∙ ap (λ x. (x && has i) || old i) (le-ltb i i (omega arith)))
-      ∙ swap (old i) (has i) ∙ sym (ap (λ m. (nat_lt m (i + 1) && has m) || old m) same ∙ ap (λ x. (x && has i) || old i) (lt-ltb i (i + 1) (omega arith)))
-  | inr f ↦ get_or-set_other marks i n b false (differ f) ∙ h n ∙ ap (λ x. (x && has n) || old n) (next f)
-]
-  where
-    swap : (o x : Bool) → (o || x) ≡ (x || o)
-    swap true true = refl
-    swap true false = refl
-    swap false true = refl
-    swap false false = refl
-
-    differ : eqb n i ≡ false → n ≡ i → ⊥
-    differ f s = let bad : true ≡ false = sym (eq-eqb n i s) ∙ f in cc
-
-    next : eqb n i ≡ false → nat_lt n i ≡ nat_lt n (i + 1)
-    next f = elim (cases_Bool (nat_lt n i)) [
-      | inl t ↦ let less : n < i = ltb-true n i t in t ∙ sym (lt-ltb n (i + 1) (omega arith))
-      | inr g ↦ elim (cases_Bool (nat_lt n (i + 1))) [
-        | inl t ↦
-            let less : n < i + 1 = ltb-true n (i + 1) t in
-            let more : i ≤ n = ltb-false n i g in
-            absurd (differ f (omega arith))
-        | inr g2 ↦ g ∙ sym g2
-      ]
-    ]
 
 pub refill_whole : (xs ws : List Saved) → length ws ≡ length xs → refill (length xs) xs ws ≡ ws
 refill_whole xs ws e = take-append-le (length xs) ws (drop (length ws) xs) (omega arith) ∙ take_all (length xs) ws (omega arith)

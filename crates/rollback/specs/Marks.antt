@@ -1,33 +1,33 @@
--- Sets of leaves, as a mark a leaf.
-use Rattle.std.specs.Prelude.{◌≡◌, ℕ, Bool, false, ◌&&◌, ◌||◌, eqb, nat_lt, List, get_or}
+-- Sets of leaves, a bit each.
+use Rattle.std.specs.Prelude.{◌≡◌, ℕ, Bool, false, ◌||◌, eqb, List}
 use Rattle.std.specs.List.{list_any}
 use Rattle.std.specs.FinMap as map
 use Rattle.tpcc_rows.specs.Leaves.{leaf}
-use Rattle.tpcc_rows.specs.declared.codes.TheConstants.{LEAVES}
 use Rattle.tpcc_rows.specs.RowMap.{Changes}
+use Rattle.pages.specs.BitSets.{has_bit}
 use Rattle.pages.specs.declared.saved.Saved.{Saved}
 use Rattle.pages.specs.Points.{before_of}
 use Rattle.pages.specs.Saving.{has_of_leaf}
 
 -- whether the leaf is one of them
-abbrev pub is_dirty : List Bool → ℕ → Bool
-is_dirty marks n = get_or marks n false
+abbrev pub is_dirty : List ℕ → ℕ → Bool
+is_dirty leaves n = has_bit leaves n
 
-abbrev pub AreClean : List Bool → Type 0
-AreClean marks = (n : ℕ) → is_dirty marks n ≡ false
+abbrev pub AreClean : List ℕ → Type 0
+AreClean leaves = (n : ℕ) → is_dirty leaves n ≡ false
 
 -- the new leaves are the old ones and this one
-abbrev pub HasAlso : List Bool → ℕ → List Bool → Type 0
+abbrev pub HasAlso : List ℕ → ℕ → List ℕ → Type 0
 HasAlso old leaf new = (n : ℕ) → is_dirty new n ≡ (eqb n leaf || is_dirty old n)
 
 -- the new leaves are the old ones and those of which something is saved
-abbrev pub HasAlsoSaved : List Bool → Saved → List Bool → Type 0
-HasAlsoSaved old saved new = (n : ℕ) → is_dirty new n ≡ ((nat_lt n LEAVES && has_of_leaf (before_of saved) n) || is_dirty old n)
+abbrev pub HasAlsoSaved : List ℕ → Saved → List ℕ → Type 0
+HasAlsoSaved old saved new = (n : ℕ) → is_dirty new n ≡ (has_of_leaf (before_of saved) n || is_dirty old n)
 
 -- whether one of the changes is on the leaf
 abbrev pub changes_leaf : Changes → ℕ → Bool
 changes_leaf changes n = list_any (λ change. eqb n (leaf change.0)) (map.entries changes)
 
 -- the new leaves are the old ones and those of the changes
-abbrev pub HasAlsoThose : List Bool → Changes → List Bool → Type 0
+abbrev pub HasAlsoThose : List ℕ → Changes → List ℕ → Type 0
 HasAlsoThose old changes new = (n : ℕ) → is_dirty new n ≡ (changes_leaf changes n || is_dirty old n)

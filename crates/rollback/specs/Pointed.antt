@@ -1,6 +1,6 @@
 -- Rows, the points to which they can go back, and the leaves on which they have changed.
-use Rattle.std.specs.Prelude.{◌≡◌, ℕ, Bool, false, List, [], ◌∷◌, Option, ⊤, refl}
-use Rattle.std.specs.Coded.{Coded, code_by, coded×, coded_list, coded_bool}
+use Rattle.std.specs.Prelude.{◌≡◌, ℕ, false, List, [], ◌∷◌, Option, ⊤, refl}
+use Rattle.std.specs.Coded.{Coded, code_by, coded×, coded_list, coded_ℕ}
 use Rattle.tpcc_rows.specs.declared.key.RowKey.{RowKey}
 use Rattle.tpcc_rows.specs.declared.row.Row.{Row}
 use Rattle.tpcc_rows.specs.Leaves.{page_rows}
@@ -10,14 +10,14 @@ use Rattle.pages.specs.Points.{before_of}
 use Rattle.pages.specs.Saving.{HasBefore, IsSavedOf, restored}
 use Rattle.rollback.specs.Marks.{is_dirty}
 
--- the present rows, the rows as they were at each point, the oldest first, and a mark for each leaf
+-- the present rows, the rows as they were at each point, the oldest first, and the leaves on which they have changed
 pub record Pointed : Type 0 where
   pub rows : Rows
   pub points : List Rows
-  pub dirty : List Bool
+  pub dirty : List ℕ
 
 abbrev pub pointed_code : Coded Pointed
-pointed_code = code_by (Rows × (List Rows × List Bool)) (coded× rows_code (coded× (coded_list rows_code) (coded_list coded_bool))) (λ p. (p.rows, (p.points, p.dirty))) (λ p. record { rows = p.0; points = p.1.0; dirty = p.1.1 }) (λ _. refl)
+pointed_code = code_by (Rows × (List Rows × List ℕ)) (coded× rows_code (coded× (coded_list rows_code) (coded_list coded_ℕ))) (λ p. (p.rows, (p.points, p.dirty))) (λ p. record { rows = p.0; points = p.1.0; dirty = p.1.1 }) (λ _. refl)
 
 -- each leaf whose rows change is dirty afterwards, and so is each that was: a clean one was clean, and has the rows that it had
 abbrev pub KeepsCleanLeaves : Pointed → Pointed → Type 0

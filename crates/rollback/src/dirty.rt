@@ -1,24 +1,26 @@
 //! Sets of leaves.
-ghost use Rattle.std.specs.Prelude.{count_by, ◌≡◌, ◌<◌};
+ghost use Rattle.std.specs.Prelude.{◌≡◌, ◌<◌, ◌≤◌, ℕ, IfSome, None, false};
+ghost use Rattle.pages.specs.BitSets.{IsFirstFrom};
 ghost use Rattle.rollback.specs.Marks.{AreClean, HasAlso, HasAlsoSaved, is_dirty};
 
 use pages::Saved;
+use pages::bits::{Bits, LEAF_WORDS};
 use std::marker::Model;
 use std::mem;
 use tpcc_rows::codes::LEAVES;
 
-/// A set of leaves.
+/// A set of leaves, a bit each.
 #[derive(Drop)]
 pub struct Dirty {
-    marks: [bool; LEAVES],
+    leaves: Bits<LEAF_WORDS>,
 }
 
 impl Model for Dirty {
-    ghost use Rattle.std.specs.Prelude.{List, Bool};
+    ghost use Rattle.std.specs.Prelude.{List, ℕ};
 
-    ghost Value = { List Bool };
+    ghost Value = { List ℕ };
 
-    ghost view = { λ s. s.marks };
+    ghost view = { λ s. s.leaves.words };
 }
 
 impl Dirty {
@@ -27,7 +29,7 @@ impl Dirty {
         ensures { AreClean result }
     {
         Dirty {
-            marks: [false; LEAVES],
+            leaves: Bits::new(),
         }
     }
 
@@ -36,39 +38,29 @@ impl Dirty {
         requires { leaf < LEAVES }
         ensures { result ≡ is_dirty self.now leaf }
     {
-        self.marks[leaf]
+        self.leaves.has(leaf)
     }
 
-    /// A mark for each leaf: whether it is in the set.
-    pub fn marks(&self) -> &[bool; LEAVES]
-        ensures { result.now ≡ self.now }
+    /// The least leaf of the set from this one on.
+    pub fn first_from(&self, from: usize) -> Option<usize>
+        ensures some { IfSome result (λ n. (n < LEAVES) × IsFirstFrom self.now from n) }
+        ensures none { result ≡ None → (n : ℕ) → from ≤ n → n < LEAVES → is_dirty self.now n ≡ false }
     {
-        &self.marks
-    }
-
-    /// How many leaves are in the set.
-    pub fn count(&self) -> usize
-        ensures { result ≡ count_by (λ mark. mark) self.now }
-    {
-        self.marks.iter().filter(|mark| **mark).count()
+        self.leaves.first_from(from)
     }
 
     pub(crate) fn add(&mut self, leaf: usize)
         requires { leaf < LEAVES }
         ensures { HasAlso self.old leaf self.new }
     {
-        self.marks[leaf] = true;
+        self.leaves.add(leaf);
     }
 
     /// The leaves of which something is saved are in the set too from now on.
     pub(crate) fn add_saved(&mut self, saved: &Saved)
         ensures { HasAlsoSaved self.old saved.now self.new }
     {
-        for leaf in 0..LEAVES {
-            let is_saved = saved.has_of_leaf(leaf);
-            let is_dirty = self.marks[leaf];
-            self.marks[leaf] = is_dirty || is_saved;
-        }
+        saved.add_leaves(&mut self.leaves);
     }
 
     /// The set as it was; it is empty from now on.
