@@ -1,11 +1,10 @@
 -- Joins in a list of nodes, and the node that each place holds.
-use Rattle.std.proofs.Common.{◌≡◌, inl, inr, ℕ, zero, suc, ◌+◌, ◌-◌, ◌*◌, ◌<◌, ◌≤◌, ◌||◌, Bool, true, false, cond, List, [], ◌∷◌, ◌++◌, All, length, get_or, drop, replicate, refl, sym, ap, ◌∙◌, arith}
-use Rattle.std.proofs.lemmas.List.{get_or-append_right, get_or-replicate}
+use Rattle.std.proofs.Common.{◌≡◌, ◌≢◌, inl, inr, ℕ, zero, suc, ◌+◌, ◌-◌, ◌*◌, ◌<◌, ◌≤◌, ◌||◌, Bool, true, false, cond, List, [], ◌∷◌, ◌++◌, All, length, get_or, drop, refl, sym, ap, ◌∙◌, arith}
+use Rattle.std.proofs.lemmas.List.{get_or-append_right}
 use Rattle.std.proofs.lemmas.Bool.{cases_Bool, cases_lt, cond-true, cond-false, false_from_ne_true, or_parts}
 use Rattle.std.proofs.lemmas.Bool.Decides.{leb_tells}
-use Rattle.rollback.specs.Marks.{is_dirty}
 use Rattle.merkle.specs.Jobs.{has_place}
-use Rattle.merkle.specs.Nodes.{at, join_at, rehashed, IsJoin, IsJoinedFrom, IsNearlyTree, IsTree, IsOf}
+use Rattle.merkle.specs.Nodes.{at, join_at, IsJoin, IsJoinedFrom, IsNearlyTree, IsTree, IsOf, IsWidth}
 use Rattle.merkle.specs.declared.jobs.Job.{Job}
 use Rattle.merkle.proofs.Placing.{of-place}
 use Rattle.tpcc_model.specs.Roots.{joined, leaf_hash, node, root}
@@ -13,10 +12,10 @@ use Rattle.tpcc_rows.specs.RowMap.{Rows}
 use Rattle.tpcc_rows.specs.declared.codes.TheConstants.{LEAVES}
 
 -- ---- a level joined again
-module _ (nodes new : List (List ℕ)) (marks after : List Bool) (jobs : List Job) (low high : ℕ) (positive : 1 ≤ low) (apart : high ≤ 2 * low) (below : low ≤ high) (inside : high ≤ LEAVES)
+module _ (nodes new : List (List ℕ)) (marks after : ℕ → Bool) (jobs : List Job) (low high : ℕ) (positive : 1 ≤ low) (apart : high ≤ 2 * low) (below : low ≤ high) (inside : high ≤ LEAVES)
     (range : All (λ job. (low ≤ job.place) × (job.place < high)) jobs)
-    (above : (i : ℕ) → low ≤ i → i < high → has_place jobs i ≡ (is_dirty marks (2 * i) || is_dirty marks (2 * i + 1)))
-    (marked : (i : ℕ) → is_dirty after i ≡ (has_place jobs i || is_dirty marks i))
+    (above : (i : ℕ) → low ≤ i → i < high → has_place jobs i ≡ (marks (2 * i) || marks (2 * i + 1)))
+    (marked : (i : ℕ) → after i ≡ (has_place jobs i || marks i))
     (put : (i : ℕ) → at new i ≡ cond (has_place jobs i) (join_at nodes i) (at nodes i)) (from : IsJoinedFrom high nodes marks) where
   outside : (i : ℕ) → ((low ≤ i) → (i < high) → ⊥) → has_place jobs i ≡ false
   outside i out = false_from_ne_true (has_place jobs i) (λ e. let r = of-place (λ n. (low ≤ n) × (n < high)) jobs range i e in out r.0 r.1)
@@ -39,10 +38,9 @@ module _ (nodes new : List (List ℕ)) (marks after : List Bool) (jobs : List Jo
         | inr e ↦ let none = or_parts _ _ (sym (above i l h) ∙ e) in kept i e a b (from.left i (omega arith) h none.0 none.1)
       ]
 
-  pub level-joined : length new ≡ 2 * LEAVES → length after ≡ 2 * LEAVES → IsJoinedFrom low new after
-  level-joined full wide = record {
+  pub level-joined : length new ≡ 2 * LEAVES → IsJoinedFrom low new after
+  level-joined full = record {
     full = full;
-    wide = wide;
     done = λ i l small. elim (cases_lt i high) [
       | inl h ↦ in-level i l h
       | inr h ↦ kept i (outside i (λ x y. omega arith)) (outside (2 * i) (λ x y. omega arith)) (outside (2 * i + 1) (λ x y. omega arith)) (from.done i h small)
@@ -57,14 +55,14 @@ module _ (nodes new : List (List ℕ)) (marks after : List Bool) (jobs : List Jo
   leaves-same i h = same i (outside i (λ x y. omega arith))
 
 -- ---- heights
--- a level of b nodes at this height has LEAVES leaves below
-abbrev pub IsWidth : ℕ → ℕ → Type 0
-IsWidth zero b = b ≡ LEAVES
-IsWidth (suc height) b = IsWidth height (2 * b)
-
-width_le : (height b : ℕ) → IsWidth height b → b ≤ LEAVES
+pub width_le : (height b : ℕ) → IsWidth height b → b ≤ LEAVES
 width_le zero b e = omega arith
 width_le (suc height) b e = let k = width_le height (2 * b) e in omega arith
+
+-- twice as many nodes are no more than the leaves, but at their own height
+pub wide : (height b : ℕ) → height ≢ 0 → IsWidth height b → 2 * b ≤ LEAVES
+wide zero b ne e = absurd (ne refl)
+wide (suc height) b ne e = width_le height (2 * b) e
 
 -- the place b + n holds the node of this height and number n
 at-node : (nodes : List (List ℕ)) → IsTree nodes → (height b : ℕ) → IsWidth height b → (n : ℕ) → n < b → at nodes (b + n) ≡ node (λ m. at nodes (LEAVES + m)) height n
@@ -115,22 +113,21 @@ at-front d (x ∷ f) l (suc i) h = at-front d f l i (omega arith)
 pub at-back : {A : Type 0} (d : A) (f l : List A) (n i : ℕ) → length f ≡ n → get_or (f ++ l) (n + i) d ≡ get_or l i d
 at-back d f l n i e = get_or-append_right f l n (n + i) d e (omega arith) ∙ (let k : n + i - n ≡ i = omega arith in ap (λ j. get_or l j d) k)
 
--- leaves that were hashed again where they are dirty
-pub record AreRehashed (dirty : List Bool) (rows : Rows) (old new : List (List ℕ)) : Type 0 where
-  pub each : (k : ℕ) → k < LEAVES → at new k ≡ rehashed dirty rows (at old k) k
+-- leaves that were hashed again where they are marked
+pub record AreRehashed (marked : ℕ → Bool) (rows : Rows) (old new : List (List ℕ)) : Type 0 where
+  pub each : (k : ℕ) → k < LEAVES → at new k ≡ cond (marked (LEAVES + k)) (leaf_hash rows k) (at old k)
 
-module _ (front old new : List (List ℕ)) (before dirty : List Bool) (rows : Rows) (f : length front ≡ LEAVES) (g : length before ≡ LEAVES) (h : AreRehashed dirty rows old new) where
-  unchanged : (j : ℕ) → j < 2 * LEAVES → is_dirty (before ++ dirty) j ≡ false → at (front ++ new) j ≡ at (front ++ old) j
+module _ (front old new : List (List ℕ)) (marked : ℕ → Bool) (rows : Rows) (f : length front ≡ LEAVES) (h : AreRehashed marked rows old new) where
+  unchanged : (j : ℕ) → j < 2 * LEAVES → marked j ≡ false → at (front ++ new) j ≡ at (front ++ old) j
   unchanged j small e = elim (leb_tells LEAVES j) [
     | inr t ↦ at-front [] front new j (omega arith) ∙ sym (at-front [] front old j (omega arith))
     | inl t ↦
         let k : ℕ = j - LEAVES in
         let is : LEAVES + k ≡ j = omega arith in
-        let clean : is_dirty dirty k ≡ false = sym (at-back false before dirty LEAVES k g) ∙ ap (is_dirty (before ++ dirty)) is ∙ e in
-        ap (at (front ++ new)) (sym is) ∙ at-back [] front new LEAVES k f ∙ h.each k (omega arith) ∙ ap (λ b. cond b (leaf_hash rows k) (at old k)) clean ∙ sym (at-back [] front old LEAVES k f) ∙ ap (at (front ++ old)) is
+        ap (at (front ++ new)) (sym is) ∙ at-back [] front new LEAVES k f ∙ h.each k (omega arith) ∙ ap (λ b. cond b (leaf_hash rows k) (at old k)) (ap marked is ∙ e) ∙ sym (at-back [] front old LEAVES k f) ∙ ap (at (front ++ old)) is
   ]
 
-  pub nearly : IsTree (front ++ old) → IsNearlyTree (front ++ new) (before ++ dirty)
+  pub nearly : IsTree (front ++ old) → IsNearlyTree (front ++ new) marked
   nearly tree = record {
     joins = λ i low high a b. record {
       join = at-front [] front new i (omega arith) ∙ sym (at-front [] front old i (omega arith)) ∙ (tree.joins i low high).join
@@ -139,9 +136,22 @@ module _ (front old new : List (List ℕ)) (before dirty : List Bool) (rows : Ro
     };
   }
 
-  pub rehashed-leaf : (n : ℕ) → n < LEAVES → at (front ++ new) (LEAVES + n) ≡ rehashed dirty rows (at (front ++ old) (LEAVES + n)) n
-  rehashed-leaf n small = at-back [] front new LEAVES n f ∙ h.each n small ∙ ap (λ old. rehashed dirty rows old n) (sym (at-back [] front old LEAVES n f))
+  pub rehashed-leaf : (n : ℕ) → n < LEAVES → at (front ++ new) (LEAVES + n) ≡ cond (marked (LEAVES + n)) (leaf_hash rows n) (at (front ++ old) (LEAVES + n))
+  rehashed-leaf n small = at-back [] front new LEAVES n f ∙ h.each n small ∙ ap (cond (marked (LEAVES + n)) (leaf_hash rows n)) (sym (at-back [] front old LEAVES n f))
 
--- where all are marked, no node need be joined
-pub all-nearly : (nodes : List (List ℕ)) → IsNearlyTree nodes (replicate (2 * LEAVES) true)
-all-nearly nodes = record { joins = λ i low high a b. let t = get_or-replicate (2 * LEAVES) (2 * i) true false (omega arith) in cc }
+-- ---- leaves that are all alike
+-- a level of one hash is put above another one
+pub level-above : (old new : List (List ℕ)) (low : ℕ) (below hash : List ℕ) → hash ≡ joined below below
+    → ((i : ℕ) → 2 * low ≤ i → i < 2 * (2 * low) → at old i ≡ below) → ((i : ℕ) → 2 * low ≤ i → i < LEAVES → IsJoin old i)
+    → ((i : ℕ) → low ≤ i → i < 2 * low → at new i ≡ hash) → ((i : ℕ) → 2 * low ≤ i → at new i ≡ at old i)
+    → (i : ℕ) → low ≤ i → i < LEAVES → IsJoin new i
+level-above old new low below hash is level joins inside above i l h = elim (cases_lt i (2 * low)) [
+  | inl s ↦
+      let left : at new (2 * i) ≡ below = above (2 * i) (omega arith) ∙ level (2 * i) (omega arith) (omega arith) in
+      let right : at new (2 * i + 1) ≡ below = above (2 * i + 1) (omega arith) ∙ level (2 * i + 1) (omega arith) (omega arith) in
+      record { join = inside i l s ∙ is ∙ sym (ap (λ y. joined y (at new (2 * i + 1))) left ∙ ap (joined below) right) }
+  | inr b ↦ record {
+    join = above i b ∙ (joins i b h).join ∙ ap (λ y. joined y (at old (2 * i + 1))) (sym (above (2 * i) (omega arith)))
+        ∙ ap (joined (at new (2 * i))) (sym (above (2 * i + 1) (omega arith)));
+  }
+]

@@ -1,15 +1,15 @@
 -- Jobs at the same places, and hashes put at their places.
-use Rattle.std.proofs.Common.{◌≡◌, ◌≢◌, ℕ, zero, suc, ◌+◌, ◌-◌, ◌*◌, ◌<◌, ◌≤◌, Bool, true, false, cond, eqb, ◌||◌, List, [], ◌∷◌, ◌++◌, All, length, get_or, set, take, drop, inl, inr, refl, sym, ap, subst, ◌∙◌, arith, length-append}
+use Rattle.std.proofs.Common.{◌≡◌, ◌≢◌, ℕ, zero, suc, ◌+◌, ◌-◌, ◌*◌, ◌<◌, ◌≤◌, Bool, true, false, cond, eqb, ◌||◌, ◌==◌, List, [], ◌∷◌, ◌++◌, All, length, get_or, set, take, drop, inl, inr, refl, sym, ap, subst, ◌∙◌, arith, length-append}
 use Rattle.std.specs.List.{list_any}
 use Rattle.std.specs.List.Sorted.{IsPermutation}
-use Rattle.std.proofs.lemmas.List.{get_or-drop, get_or-set_same, get_or-set_other, get_or-take, length-set, length-take, length-take-le, length-drop, take_all, take_at, take_more_set}
+use Rattle.std.proofs.lemmas.List.{get_or-drop, get_or-set_same, get_or-set_other, get_or-take, length-set, length-take, length-take-le, length-drop, take_all, take_more_set}
 use Rattle.std.proofs.lemmas.List.Folds.{list_any-append, list_any_at, Any-from_list_any}
 use Rattle.std.proofs.lemmas.List.Sorted.{list_any-IsPermutation}
 use Rattle.std.proofs.lemmas.Slice.{take-put_mid}
-use Rattle.std.proofs.lemmas.Bool.{cases_eq, eqb-true, eq-eqb, false_from_ne_true}
+use Rattle.std.proofs.lemmas.Bool.{cases_lt, eqb-true, eq-eqb, ne_eqb, false_from_ne_true}
 use Rattle.std.proofs.lemmas.Bool.Decides.{eqb_tells}
-use Rattle.rollback.specs.Marks.{is_dirty}
 use Rattle.merkle.specs.Jobs.{has_place, AreHashed, IsDone}
+use Rattle.merkle.specs.Marking.{IsNext}
 use Rattle.merkle.specs.Nodes.{at}
 use Rattle.merkle.specs.declared.jobs.Job.{Job}
 use borrow.Rule.Slice.PartMut.{put_mid, mid_of, post_of, put_same, same_len_mid}
@@ -142,77 +142,83 @@ or-nothing : (b : Bool) → (b || false) ≡ b
 or-nothing true = refl
 or-nothing false = refl
 
-pub has_place-more : (jobs : List Job) (count : ℕ) (job : Job) → count < length jobs → (k : ℕ) → has_place (take (count + 1) (set jobs count job)) k ≡ (has_place (take count jobs) k || eqb job.place k)
-has_place-more jobs count job small k =
-    ap (λ l. has_place l k) (take_more_set jobs count job small) ∙ list_any-append (λ j. eqb j.place k) (take count jobs) (job ∷ []) ∙ ap (λ b. has_place (take count jobs) k || b) (or-nothing (eqb job.place k))
+or-all : (b : Bool) → (b || true) ≡ true
+or-all true = refl
+or-all false = refl
 
--- the first jobs are at the places from low to before n that pass the test
-pub record IsGathered (test : ℕ → Bool) (low n count : ℕ) (jobs : List Job) : Type 0 where
-  pub few : count + low ≤ n
-  pub range : All (λ job. (low ≤ job.place) × (job.place < n)) (take count jobs)
-  pub found : (k : ℕ) → low ≤ k → k < n → has_place (take count jobs) k ≡ test k
+has_place-more : (jobs : List Job) (job : Job) (k : ℕ) → has_place (jobs ++ job ∷ []) k ≡ (has_place jobs k || eqb job.place k)
+has_place-more jobs job k = list_any-append (λ j. eqb j.place k) jobs (job ∷ []) ∙ ap (λ b. has_place jobs k || b) (or-nothing (eqb job.place k))
 
-pub gathered-past : (test : ℕ → Bool) (low n count : ℕ) (jobs : List Job) → IsGathered test low n count jobs → (k : ℕ) → n ≤ k → has_place (take count jobs) k ≡ false
-gathered-past test low n count jobs g k h = false_from_ne_true (has_place (take count jobs) k) (λ e. let r = of-place (λ p. (low ≤ p) × (p < n)) (take count jobs) g.range k e in omega (arith, r.1))
+-- the jobs are at the places from low to before n that pass the test
+pub record IsGathered (test : ℕ → Bool) (low n : ℕ) (jobs : List Job) : Type 0 where
+  pub few : length jobs + low ≤ n
+  pub range : All (λ job. (low ≤ job.place) × (job.place < n)) jobs
+  pub found : (k : ℕ) → low ≤ k → k < n → has_place jobs k ≡ test k
 
-pub gathered-zero : (test : ℕ → Bool) (low : ℕ) (jobs : List Job) → IsGathered test low low 0 jobs
-gathered-zero test low jobs = record { few = omega arith; range = λ k d h. absurd (omega arith); found = λ k l h. absurd (omega arith) }
+pub gathered-past : (test : ℕ → Bool) (low n : ℕ) (jobs : List Job) → IsGathered test low n jobs → (k : ℕ) → n ≤ k → has_place jobs k ≡ false
+gathered-past test low n jobs g k h = false_from_ne_true (has_place jobs k) (λ e. let r = of-place (λ p. (low ≤ p) × (p < n)) jobs g.range k e in omega (arith, r.1))
 
-pub gathered-one : (test : ℕ → Bool) (low n count : ℕ) (jobs : List Job) (job : Job) → count < length jobs → job.place ≡ n → test n ≡ true → IsGathered test low n count jobs → IsGathered test low (n + 1) (count + 1) (set jobs count job)
-gathered-one test low n count jobs job small is passes g = record {
-  few = omega (arith, g.few);
-  range = subst (All (λ job. (low ≤ job.place) × (job.place < n + 1))) (sym (take_more_set jobs count job small))
-      (all-append (λ job. (low ≤ job.place) × (job.place < n + 1)) (take count jobs) (job ∷ []) (λ k d h. let r = g.range k d h in (r.0, omega (arith, r.1))) (only (omega (arith, is, g.few), omega (arith, is))));
-  found = λ k l h. has_place-more jobs count job small k ∙ elim (eqb_tells job.place k) [
-    | inl t ↦ ap (λ b. has_place (take count jobs) k || b) t.0 ∙ or-true (has_place (take count jobs) k) ∙ sym (ap test (sym t.1 ∙ is) ∙ passes)
-    | inr t ↦ let ne : n ≢ k = λ e. t.1 (is ∙ e) in ap (λ b. has_place (take count jobs) k || b) t.0 ∙ or-nothing (has_place (take count jobs) k) ∙ g.found k l (omega arith)
-  ];
-} where
-  only : (low ≤ job.place) × (job.place < n + 1) → All (λ job. (low ≤ job.place) × (job.place < n + 1)) (job ∷ [])
-  only r zero d h = r
-  only r (suc k) d h = absurd (omega arith)
+pub gathered-zero : (test : ℕ → Bool) (low : ℕ) → IsGathered test low low []
+gathered-zero test low = record { few = omega arith; range = λ k d h. absurd (omega arith); found = λ k l h. absurd (omega arith) }
 
-  or-true : (b : Bool) → (b || true) ≡ true
-  or-true true = refl
-  or-true false = refl
-
-pub gathered-none : (test : ℕ → Bool) (low n count : ℕ) (jobs : List Job) → test n ≡ false → IsGathered test low n count jobs → IsGathered test low (n + 1) count jobs
-gathered-none test low n count jobs fails g = record {
-  few = omega (arith, g.few);
-  range = λ k d h. let r = g.range k d h in (r.0, omega (arith, r.1));
-  found = λ k l h. elim (cases_eq k n) [
-    | inl e ↦ gathered-past test low n count jobs g k (omega arith) ∙ sym (ap test e ∙ fails)
-    | inr ne ↦ g.found k l (omega arith)
+-- no place of these passes the test
+pub gathered-to : (test : ℕ → Bool) (low n m : ℕ) (jobs : List Job) → n ≤ m → ((k : ℕ) → n ≤ k → k < m → test k ≡ false) → IsGathered test low n jobs → IsGathered test low m jobs
+gathered-to test low n m jobs more none g = record {
+  few = omega (arith, g.few, more);
+  range = λ k d h. let r = g.range k d h in (r.0, omega (arith, r.1, more));
+  found = λ k l h. elim (cases_lt k n) [
+    | inl s ↦ g.found k l s
+    | inr b ↦ gathered-past test low n jobs g k b ∙ sym (none k b h)
   ];
 }
 
+-- the next place that passes the test
+pub gathered-next : (test : ℕ → Bool) (low n m : ℕ) (jobs after : List Job) (job : Job) → job.place ≡ m → after ≡ jobs ++ job ∷ [] → IsNext test n m → IsGathered test low n jobs → IsGathered test low (m + 1) after
+gathered-next test low n m jobs after job is more next before = subst (IsGathered test low (m + 1)) (sym more) gathered where
+  g : IsGathered test low m jobs
+  g = gathered-to test low n m jobs next.low next.before before
+
+  only : (low ≤ job.place) × (job.place < m + 1) → All (λ job. (low ≤ job.place) × (job.place < m + 1)) (job ∷ [])
+  only r zero d h = r
+  only r (suc k) d h = absurd (omega arith)
+
+  gathered : IsGathered test low (m + 1) (jobs ++ job ∷ [])
+  gathered = record {
+    few = omega (arith, g.few, length-append jobs (job ∷ []));
+    range = all-append (λ job. (low ≤ job.place) × (job.place < m + 1)) jobs (job ∷ []) (λ k d h. let r = g.range k d h in (r.0, omega (arith, r.1))) (only (omega (arith, is, g.few), omega (arith, is)));
+    found = λ k l h. has_place-more jobs job k ∙ elim (eqb_tells job.place k) [
+      | inl t ↦ ap (λ b. has_place jobs k || b) t.0 ∙ or-all (has_place jobs k) ∙ sym (ap test (sym t.1 ∙ is) ∙ next.here)
+      | inr t ↦ let ne : m ≢ k = λ e. t.1 (is ∙ e) in ap (λ b. has_place jobs k || b) t.0 ∙ or-nothing (has_place jobs k) ∙ g.found k l (omega arith)
+    ];
+  }
+
 -- marks of what was gathered
-pub marked-one : (marks first : List Bool) (jobs : List Job) (count n : ℕ) (job : Job) → count < length jobs → n < length marks → job.place ≡ n → ((k : ℕ) → is_dirty marks k ≡ (has_place (take count jobs) k || is_dirty first k))
-    → (k : ℕ) → is_dirty (set marks n true) k ≡ (has_place (take (count + 1) (set jobs count job)) k || is_dirty first k)
-marked-one marks first jobs count n job small inside is marked k = elim (eqb_tells job.place k) [
-  | inl t ↦ ap (is_dirty (set marks n true)) (sym t.1 ∙ is) ∙ get_or-set_same marks n true false inside ∙ sym (ap (λ b. b || is_dirty first k) (has_place-more jobs count job small k ∙ ap (λ b. has_place (take count jobs) k || b) t.0) ∙ two (has_place (take count jobs) k) (is_dirty first k))
-  | inr t ↦ let ne : k ≢ n = λ e. t.1 (is ∙ sym e) in get_or-set_other marks n k true false ne ∙ marked k ∙ sym (ap (λ b. b || is_dirty first k) (has_place-more jobs count job small k ∙ ap (λ b. has_place (take count jobs) k || b) t.0 ∙ or-nothing (has_place (take count jobs) k)))
-] where
-  two : (a b : Bool) → ((a || true) || b) ≡ true
-  two true b = refl
-  two false b = refl
+pub marked-next : (first marks after : ℕ → Bool) (jobs more : List Job) (job : Job) (m : ℕ) → job.place ≡ m → more ≡ jobs ++ job ∷ [] → ((k : ℕ) → after k ≡ ((k == m) || marks k)) → ((k : ℕ) → marks k ≡ (has_place jobs k || first k))
+    → (k : ℕ) → after k ≡ (has_place more k || first k)
+marked-next first marks after jobs more job m is whole added marked k = added k ∙ both ∙ sym (ap (λ jobs. has_place jobs k || first k) whole) where
+  both : ((k == m) || marks k) ≡ (has_place (jobs ++ job ∷ []) k || first k)
+  both = elim (eqb_tells job.place k) [
+    | inl t ↦ ap (λ b. b || marks k) (eq-eqb k m (sym t.1 ∙ is)) ∙ sym (ap (λ b. b || first k) (has_place-more jobs job k ∙ ap (λ b. has_place jobs k || b) t.0 ∙ or-all (has_place jobs k)))
+    | inr t ↦
+        ap (λ b. b || marks k) (ne_eqb k m (λ e. t.1 (is ∙ sym e))) ∙ marked k
+        ∙ sym (ap (λ b. b || first k) (has_place-more jobs job k ∙ ap (λ b. has_place jobs k || b) t.0 ∙ or-nothing (has_place jobs k)))
+  ]
 
 -- marks of children are as they were
-pub same-above : (test : ℕ → Bool) (marks first : List Bool) (jobs : List Job) (low n count : ℕ) → IsGathered test low n count jobs → ((k : ℕ) → is_dirty marks k ≡ (has_place (take count jobs) k || is_dirty first k))
-    → (is_dirty marks (2 * n) || is_dirty marks (2 * n + 1)) ≡ (is_dirty first (2 * n) || is_dirty first (2 * n + 1))
-same-above test marks first jobs low n count g marked = ap (λ b. b || is_dirty marks (2 * n + 1)) (same (2 * n) (omega arith)) ∙ ap (λ b. is_dirty first (2 * n) || b) (same (2 * n + 1) (omega arith)) where
-  same : (k : ℕ) → n ≤ k → is_dirty marks k ≡ is_dirty first k
-  same k h = marked k ∙ ap (λ b. b || is_dirty first k) (gathered-past test low n count jobs g k h)
+pub same-above : (test marks first : ℕ → Bool) (jobs : List Job) (low n : ℕ) → IsGathered test low n jobs → ((k : ℕ) → marks k ≡ (has_place jobs k || first k))
+    → (i : ℕ) → n ≤ i → (marks (2 * i) || marks (2 * i + 1)) ≡ (first (2 * i) || first (2 * i + 1))
+same-above test marks first jobs low n g marked i h = ap (λ b. b || marks (2 * i + 1)) (same (2 * i) (omega arith)) ∙ ap (λ b. first (2 * i) || b) (same (2 * i + 1) (omega arith)) where
+  same : (k : ℕ) → n ≤ k → marks k ≡ first k
+  same k l = marked k ∙ ap (λ b. b || first k) (gathered-past test low n jobs g k l)
 
--- ---- the first jobs of a list, done and put at their places
-module _ (value : ℕ → List ℕ) (count : ℕ) (gathered first rest : List Job) (few : count ≤ length gathered) (done : IsDone value (take count gathered) first) where
-  first-is : take count (first ++ rest) ≡ first
-  first-is = take_at first rest count (done.len ∙ length-take-le count gathered few)
+-- ---- jobs done and put at their places
+module _ (value : ℕ → List ℕ) (gathered taken done shown : List Job) (front : taken ≡ gathered) (is : IsDone value taken done) (back : shown ≡ done) where
+  -- what holds of their places holds when they are done
+  pub done-there : (P : ℕ → Type 0) → All (λ job. P job.place) gathered → All (λ job. P job.place) shown
+  done-there P all = subst (All (λ job. P job.place)) (sym back) (all-kept P taken done is.places (subst (All (λ job. P job.place)) (sym front) all))
 
-  pub first-below : (bound : ℕ) → All (λ job. job.place < bound) (take count gathered) → All (λ job. job.place < bound) (take count (first ++ rest))
-  first-below bound all = subst (All (λ job. job.place < bound)) (sym first-is) (all-kept (λ n. n < bound) (take count gathered) first done.places all)
-
-  pub first-put : (old new : List (List ℕ)) → (AreHashed value (take count (first ++ rest)) → (i : ℕ) → at new i ≡ cond (has_place (take count (first ++ rest)) i) (value i) (at old i))
-      → (i : ℕ) → at new i ≡ cond (has_place (take count gathered) i) (value i) (at old i)
-  first-put old new put i =
-      put (subst (AreHashed value) (sym first-is) done.hashed) i ∙ ap (λ b. cond b (value i) (at old i)) (ap (λ jobs. has_place jobs i) first-is ∙ done.places i)
+  pub done-put : (old new : List (List ℕ)) → (AreHashed value shown → (i : ℕ) → at new i ≡ cond (has_place shown i) (value i) (at old i))
+      → (i : ℕ) → at new i ≡ cond (has_place gathered i) (value i) (at old i)
+  done-put old new put i =
+      put (subst (AreHashed value) (sym back) is.hashed) i
+      ∙ ap (λ b. cond b (value i) (at old i)) (ap (λ jobs. has_place jobs i) back ∙ is.places i ∙ ap (λ jobs. has_place jobs i) front)

@@ -1,8 +1,9 @@
 -- A tree that is right on the clean leaves, and one whose dirty leaves were hashed again.
-use Rattle.std.proofs.Common.{◌≡◌, ℕ, ◌<◌, Bool, true, false, cond, List, ◌∷◌, refl, sym, ap, ◌∙◌}
+use Rattle.std.proofs.Common.{◌≡◌, ℕ, ◌<◌, Bool, true, false, cond, List, [], ◌∷◌, refl, sym, ap, ◌∙◌}
 use Rattle.sha2.specs.Sha256.{sha256}
 use Rattle.std.specs.FinMap as map
 use Rattle.tpcc_rows.specs.Encodings.{rows_bytes}
+use Rattle.tpcc_rows.specs.Leaves.{page_rows}
 use Rattle.tpcc_rows.specs.RowMap.{Rows}
 use Rattle.tpcc_model.specs.Roots.{leaf_hash}
 use Rattle.rollback.specs.Marks.{is_dirty}
@@ -23,3 +24,13 @@ of-all old new dirty rows each of_old = record { each = λ n small. each n small
   by-mark : (n : ℕ) → n < LEAVES → (b : Bool) → is_dirty dirty n ≡ b → cond b (leaf_hash rows n) (at old n) ≡ leaf_hash rows n
   by-mark n small true e = refl
   by-mark n small false e = of_old.each n small e
+
+-- the hash of a leaf that has no rows
+pub no-rows : (rows : Rows) (n : ℕ) → map.entries (page_rows rows n) ≡ [] → leaf_hash rows n ≡ sha256 (0 ∷ [])
+unfolding leaf_hash
+no-rows rows n none = ap (λ entries. sha256 (0 ∷ rows_bytes entries)) none
+
+-- a leaf that was as without rows, and is hashed again if it has some
+pub filled-leaf : (rows : Rows) (n : ℕ) (marked : Bool) (old : List ℕ) → old ≡ sha256 (0 ∷ []) → (marked ≡ false → leaf_hash rows n ≡ sha256 (0 ∷ [])) → cond marked (leaf_hash rows n) old ≡ leaf_hash rows n
+filled-leaf rows n true old was empty = refl
+filled-leaf rows n false old was empty = was ∙ sym (empty refl)

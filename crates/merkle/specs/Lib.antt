@@ -1,3 +1,4 @@
 pub mod Nodes
 pub mod Hashing
 pub mod Jobs
+pub mod Marking

@@ -1,5 +1,5 @@
 -- All nodes of a tree in one list, in heap order: the root at 1, the children of i at 2 i and 2 i + 1, leaf n at LEAVES + n.
-use Rattle.std.specs.Prelude.{◌≡◌, ℕ, ◌+◌, ◌*◌, ◌<◌, ◌≤◌, Bool, false, cond, List, [], length, get_or}
+use Rattle.std.specs.Prelude.{◌≡◌, ℕ, ◌+◌, ◌*◌, ◌<◌, ◌≤◌, zero, suc, Bool, false, cond, List, [], length, get_or}
 use Rattle.rollback.specs.Marks.{is_dirty}
 use Rattle.tpcc_model.specs.Roots.{joined, leaf_hash}
 use Rattle.tpcc_rows.specs.RowMap.{Rows}
@@ -35,12 +35,16 @@ pub record IsOfClean (leaves : List (List ℕ)) (dirty : List Bool) (rows : Rows
   pub each : (n : ℕ) → n < LEAVES → is_dirty dirty n ≡ false → at leaves n ≡ leaf_hash rows n
 
 -- each inner node of whose children none is marked is their hash
-pub record IsNearlyTree (nodes : List (List ℕ)) (marks : List Bool) : Type 0 where
-  pub joins : (i : ℕ) → 1 ≤ i → i < LEAVES → is_dirty marks (2 * i) ≡ false → is_dirty marks (2 * i + 1) ≡ false → IsJoin nodes i
+pub record IsNearlyTree (nodes : List (List ℕ)) (marked : ℕ → Bool) : Type 0 where
+  pub joins : (i : ℕ) → 1 ≤ i → i < LEAVES → marked (2 * i) ≡ false → marked (2 * i + 1) ≡ false → IsJoin nodes i
 
 -- each inner node from high on is the hash of its children, and so is each before it of whose children none is marked
-pub record IsJoinedFrom (high : ℕ) (nodes : List (List ℕ)) (marks : List Bool) : Type 0 where
+pub record IsJoinedFrom (high : ℕ) (nodes : List (List ℕ)) (marked : ℕ → Bool) : Type 0 where
   pub full : length nodes ≡ 2 * LEAVES
-  pub wide : length marks ≡ 2 * LEAVES
   pub done : (i : ℕ) → high ≤ i → i < LEAVES → IsJoin nodes i
-  pub left : (i : ℕ) → 1 ≤ i → i < high → is_dirty marks (2 * i) ≡ false → is_dirty marks (2 * i + 1) ≡ false → IsJoin nodes i
+  pub left : (i : ℕ) → 1 ≤ i → i < high → marked (2 * i) ≡ false → marked (2 * i + 1) ≡ false → IsJoin nodes i
+
+-- a level of b nodes at this height has LEAVES leaves below
+abbrev pub IsWidth : ℕ → ℕ → Type 0
+IsWidth zero b = b ≡ LEAVES
+IsWidth (suc height) b = IsWidth height (2 * b)

@@ -119,6 +119,15 @@ pub fn hash_leaf(page: &LeafRows) -> [u8; 32]
     gathered.finish()
 }
 
+/// The hash of a leaf that has no rows.
+pub(crate) fn hash_no_rows() -> [u8; 32]
+    ensures { result ≡ sha256 (0 ∷ []) }
+{
+    let mut hasher = Sha256::new();
+    hasher.update([LEAF].as_slice());
+    hasher.finalize()
+}
+
 /// Fills the buffer anew with what the hash of a leaf is of. Where there is no room for all of it, the answer is false, and
 /// the buffer is empty.
 pub(crate) fn encode_leaf(page: &LeafRows, text: &mut ByteBuf<LEAF_BYTES>) -> bool

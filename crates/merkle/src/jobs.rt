@@ -1,10 +1,12 @@
 //! Jobs: the places of a tree that are to be hashed, and their hashes.
-ghost use Rattle.std.specs.Prelude.{◌≡◌, ◌<◌, ◌≤◌, ◌+◌, ◌*◌, ◌||◌, ℕ, List, All, cond, length, slice_index_or, take};
+ghost use Rattle.std.specs.Prelude.{◌≡◌, ◌<◌, ◌≤◌, ◌+◌, ◌||◌, ℕ, List, All, cond, length, slice_index_or, vec_capacity};
+ghost use Rattle.pages.specs.BitSets.{has_bit};
 ghost use Rattle.merkle.specs.Jobs.{AreHashed, IsDone, has_place};
+ghost use Rattle.merkle.specs.Marking.{is_above};
 ghost use Rattle.merkle.specs.Nodes.{at};
 ghost use Rattle.merkle.specs.declared.jobs.Job.{Job};
-ghost use Rattle.rollback.specs.Marks.{is_dirty};
 
+use crate::marks::{Marks, next_above};
 use tpcc_rows::codes::LEAVES;
 
 /// How many bytes of a place will likely be hashed, and how many all of it has. The first tell which of two measures is the
@@ -34,68 +36,50 @@ pub(crate) struct Job {
 }
 
 impl Job {
-    pub(crate) const NONE: Job = Job {
-        place: 0,
-        measure: Measure {
-            likely: 0,
-            whole: 0,
-        },
-        hash: [0; 32],
-    };
-}
-
-/// The dirty leaves, in their order, as the first jobs; the answer is how many they are.
-pub(crate) fn gather_leaves(jobs: &mut [Job], dirty: &[bool]) -> usize
-    requires room { length jobs.old ≡ LEAVES }
-    requires marks { length dirty.now ≡ LEAVES }
-    ensures room { length jobs.new ≡ LEAVES }
-    ensures count { result ≤ LEAVES }
-    ensures leaves { All (λ job. job.place < LEAVES) (take result jobs.new) }
-    ensures dirty { (n : ℕ) → n < LEAVES → has_place (take result jobs.new) n ≡ is_dirty dirty.now n }
-{
-    let mut count = 0;
-    for n in 0..LEAVES {
-        if dirty[n] {
-            jobs[count].place = n;
-            count += 1;
+    fn at(place: usize) -> Job
+        ensures { result.place ≡ place }
+    {
+        Job {
+            place,
+            measure: Measure::of_whole(0),
+            hash: [0; 32],
         }
     }
-    count
 }
 
-/// Whether a child of the node is marked.
-fn is_above(marks: &[bool], i: usize) -> bool
-    requires { 2 * i + 1 < length marks.now }
-    ensures { result ≡ (is_dirty marks.now (2 * i) || is_dirty marks.now (2 * i + 1)) }
+/// The marked leaves, in their order, as jobs.
+pub(crate) fn gather_leaves(jobs: &mut Vec<Job>, marks: &Marks)
+    requires room { LEAVES ≤ vec_capacity jobs.old }
+    ensures room { LEAVES ≤ vec_capacity jobs.new }
+    ensures leaves { All (λ job. job.place < LEAVES) jobs.new.items }
+    ensures marked { (n : ℕ) → n < LEAVES → has_place jobs.new.items n ≡ has_bit marks.now.words (LEAVES + n) }
 {
-    marks[2 * i] || marks[2 * i + 1]
+    jobs.clear();
+    let mut next = 0;
+    while let Some(place) = marks.first_from(LEAVES + next) {
+        let n = place - LEAVES;
+        jobs.push_reserved(Job::at(n));
+        next = n + 1;
+    }
 }
 
-/// The nodes from `low` to before `high` above a mark, in their order, as the first jobs, and marks them; the answer is how
-/// many they are.
-pub(crate) fn gather_nodes(jobs: &mut [Job], marks: &mut [bool], low: usize, high: usize) -> usize
-    requires room { length jobs.old ≡ LEAVES }
-    requires marks { length marks.old ≡ 2 * LEAVES }
-    requires low { 1 ≤ low }
+/// The nodes from `low` to before `high` above a mark, in their order, as jobs, and marks them.
+pub(crate) fn gather_nodes(jobs: &mut Vec<Job>, marks: &mut Marks, low: usize, high: usize)
+    requires room { LEAVES ≤ vec_capacity jobs.old }
     requires below { low ≤ high }
     requires high { high ≤ LEAVES }
-    ensures room { length jobs.new ≡ LEAVES }
-    ensures count { result ≤ LEAVES }
-    ensures inside { All (λ job. (low ≤ job.place) × (job.place < high)) (take result jobs.new) }
-    ensures above { (i : ℕ) → low ≤ i → i < high
-        → has_place (take result jobs.new) i ≡ (is_dirty marks.old (2 * i) || is_dirty marks.old (2 * i + 1)) }
-    ensures marks { (i : ℕ) → is_dirty marks.new i ≡ (has_place (take result jobs.new) i || is_dirty marks.old i) }
-    ensures marked { length marks.new ≡ 2 * LEAVES }
+    ensures room { LEAVES ≤ vec_capacity jobs.new }
+    ensures inside { All (λ job. (low ≤ job.place) × (job.place < high)) jobs.new.items }
+    ensures above { (i : ℕ) → low ≤ i → i < high → has_place jobs.new.items i ≡ is_above marks.old.words i }
+    ensures marks { (i : ℕ) → has_bit marks.new.words i ≡ (has_place jobs.new.items i || has_bit marks.old.words i) }
 {
-    let mut count = 0;
-    for i in low..high {
-        if is_above(marks, i) {
-            jobs[count].place = i;
-            count += 1;
-            marks[i] = true;
-        }
+    jobs.clear();
+    let mut next = low;
+    while let Some(i) = next_above(marks, next, high) {
+        jobs.push_reserved(Job::at(i));
+        marks.add(i);
+        next = i + 1;
     }
-    count
 }
 
 /// Puts the hash of each job at its place.

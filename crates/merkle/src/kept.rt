@@ -25,7 +25,13 @@ pub(crate) const CHUNK_BYTES: usize = 256;
 const PART_BYTES: usize = 512;
 
 /// How many parts a page has, as many as the longest text of which something is kept. The last has all that is left.
-const PARTS: usize = 40;
+const PARTS: usize = 10;
+
+/// How many chunks the text of a leaf has at least that is kept: to look for fewer takes about as long as to hash them.
+const FEWEST_CHUNKS: usize = 4;
+
+/// How many neighbouring leaves have their shelves together.
+const GROUP: usize = 64;
 
 /// Some bytes of a text, the start before them, and the one behind them.
 #[derive(Clone, Copy)]
@@ -186,10 +192,9 @@ fn room_for(page: &LeafRows) -> usize {
     bytes / CHUNK_BYTES
 }
 
-/// A shelf with room for the text of a page. There is none where there is to be no room, or no memory for it.
-fn shelf_for(alloc: Global, page: &LeafRows, blank: &Chunk) -> Option<Box<Mutex<Kept>>> {
-    let room = room_for(page);
-    if room == 0 {
+/// A shelf with room for so many chunks. There is none where these are too few, or where there is no memory for it.
+fn shelf_with(alloc: Global, room: usize, blank: &Chunk) -> Option<Box<Mutex<Kept>>> {
+    if room < FEWEST_CHUNKS {
         return None;
     }
     let Ok(chunks) = vec![in alloc; *blank; room] else {
@@ -202,16 +207,47 @@ fn shelf_for(alloc: Global, page: &LeafRows, blank: &Chunk) -> Option<Box<Mutex<
     Box::new(alloc, Mutex::new(kept)).ok()
 }
 
+/// The shelves of neighbouring leaves: none, and no room for any, where no leaf of them has one.
+pub(crate) type Group = Vec<Option<Box<Mutex<Kept>>>>;
+
+/// The shelves of the leaves from one on.
+fn group_from(alloc: Global, store: &PointedStore, start: usize, blank: &Chunk) -> Group
+    requires { start + GROUP ≤ LEAVES }
+{
+    let mut rooms = [0; GROUP];
+    for k in 0..GROUP {
+        rooms[k] = room_for(store.page(start + k));
+    }
+    if rooms.iter().all(|room| *room < FEWEST_CHUNKS) {
+        return Vec::new(alloc);
+    }
+    let Ok(mut group) = Vec::with_capacity(alloc, GROUP) else {
+        return Vec::new(alloc);
+    };
+    for room in rooms {
+        let _ = group.push(shelf_with(alloc, room, blank));
+    }
+    group
+}
+
 /// The shelves of all leaves, with nothing on them so far. Later nothing there takes memory.
-pub(crate) fn shelves(alloc: Global, store: &PointedStore) -> Vec<Option<Box<Mutex<Kept>>>> {
-    let Ok(mut shelves) = Vec::with_capacity(alloc, LEAVES) else {
+pub(crate) fn shelves(alloc: Global, store: &PointedStore) -> Vec<Group> {
+    let Ok(mut groups) = Vec::with_capacity(alloc, LEAVES / GROUP) else {
         return Vec::new(alloc);
     };
     let blank = Chunk::zeros();
-    for n in 0..LEAVES {
-        let _ = shelves.push(shelf_for(alloc, store.page(n), &blank));
+    for k in 0..LEAVES / GROUP {
+        let _ = groups.push(group_from(alloc, store, GROUP * k, &blank));
     }
-    shelves
+    groups
+}
+
+/// The shelf of a leaf, if it has one.
+pub(crate) fn shelf_of(groups: &[Group], n: usize) -> Shelf<'_> {
+    match groups.get(n / GROUP)?.get(n % GROUP) {
+        Some(Some(shelf)) => Some(shelf),
+        _ => None,
+    }
 }
 
 /// Where a leaf's text is kept, if it is. Whoever finds it in another's use does without.

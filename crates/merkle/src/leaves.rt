@@ -1,18 +1,19 @@
 //! The hashes of leaves.
-ghost use Rattle.std.specs.Prelude.{◌≡◌, ◌<◌, ◌∷◌, [], ℕ, All, length};
+ghost use Rattle.std.specs.Prelude.{◌≡◌, ◌<◌, ◌≤◌, ◌+◌, ◌∷◌, [], ℕ, All, cond, length, vec_capacity};
+ghost use Rattle.pages.specs.BitSets.{has_bit};
 ghost use Rattle.merkle.specs.Jobs.{IsDone};
-ghost use Rattle.merkle.specs.Nodes.{at, rehashed};
+ghost use Rattle.merkle.specs.Nodes.{at};
 ghost use Rattle.tpcc_model.specs.Roots.{leaf_hash};
 ghost use Rattle.tpcc_rows.specs.Leaves.{page_rows};
 
 use crate::hashing::{LEAF_BYTES, Leaf, TwoTexts, encode_leaf, hash_four_leaves, hash_leaf};
 use crate::helped::{Encodes, Helped};
 use crate::jobs::{Job, Measure, gather_leaves, put_hashes};
-use crate::kept::{Kept, Shelf, measure};
+use crate::kept::{Group, Shelf, measure, shelf_of};
+use crate::marks::Marks;
 use crate::places::Places;
 use crate::shares::{Crew, do_jobs_on};
 use rollback::PointedStore;
-use std::sync::Mutex;
 use std::thread::Threads;
 use tpcc_rows::codes::LEAVES;
 use tpcc_rows::row_buf::ByteBuf;
@@ -24,15 +25,12 @@ const ROWS_AT_ONCE: usize = 4096;
 #[derive(Clone, Copy)]
 pub(crate) struct Leaves<'a> {
     pub(crate) store: &'a PointedStore,
-    pub(crate) shelves: &'a [Option<Box<Mutex<Kept>>>],
+    pub(crate) shelves: &'a [Group],
 }
 
 impl<'a> Leaves<'a> {
     fn shelf(&self, n: usize) -> Shelf<'a> {
-        match self.shelves.get(n) {
-            Some(Some(shelf)) => Some(shelf),
-            _ => None,
-        }
+        shelf_of(self.shelves, n)
     }
 
     fn leaf(&self, n: usize) -> Leaf<'a>
@@ -98,12 +96,15 @@ impl Encodes<LEAF_BYTES> for Leaves<'_> {
     }
 }
 
-/// How many rows some leaves have.
-fn rows_of(jobs: &[Job], store: &PointedStore) -> usize
+/// How many rows some leaves have, or about so many where they have more.
+fn rows_of(jobs: &[Job], store: &PointedStore, most: usize) -> usize
     requires { All (λ job. job.place < LEAVES) jobs.now }
 {
     let mut rows = 0usize;
     for k in 0..jobs.len() {
+        if rows >= most {
+            break;
+        }
         rows = rows.saturating_add(store.page(jobs[k].place).len());
     }
     rows
@@ -119,7 +120,8 @@ fn hash_leaves<R: Threads + Sync>(
     requires { All (λ job. job.place < LEAVES) jobs.old }
     ensures { IsDone (leaf_hash places.now.store.now.rows) jobs.old jobs.new }
 {
-    let paying = rows_of(jobs, places.store) / ROWS_AT_ONCE;
+    let most = crew.threads.saturating_mul(ROWS_AT_ONCE);
+    let paying = rows_of(jobs, places.store, most) / ROWS_AT_ONCE;
     if paying > 1 {
         do_jobs_on(crew, jobs, places, paying);
     } else {
@@ -127,22 +129,22 @@ fn hash_leaves<R: Threads + Sync>(
     }
 }
 
-/// Hashes again each dirty leaf.
+/// Hashes again each marked leaf.
 pub(crate) fn rehash<R: Threads + Sync>(
     crew: &Crew<'_, R>,
     leaves: &mut [[u8; 32]],
-    jobs: &mut [Job],
+    jobs: &mut Vec<Job>,
     helped: &mut Helped,
     places: &Leaves<'_>,
-    dirty: &[bool],
+    marks: &Marks,
 )
     requires full { length leaves.old ≡ LEAVES }
-    requires room { length jobs.old ≡ LEAVES }
-    requires marks { length dirty.now ≡ LEAVES }
-    ensures each { (k : ℕ) → k < LEAVES → at leaves.new k ≡ rehashed dirty.now places.now.store.now.rows (at leaves.old k) k }
-    ensures room { length jobs.new ≡ LEAVES }
+    requires room { LEAVES ≤ vec_capacity jobs.old }
+    ensures each { (k : ℕ) → k < LEAVES → at leaves.new k
+        ≡ cond (has_bit marks.now.words (LEAVES + k)) (leaf_hash places.now.store.now.rows k) (at leaves.old k) }
+    ensures room { LEAVES ≤ vec_capacity jobs.new }
 {
-    let count = gather_leaves(jobs, dirty);
-    hash_leaves(crew, &mut jobs[..count], helped, places);
-    put_hashes(leaves, &jobs[..count]);
+    gather_leaves(jobs, marks);
+    hash_leaves(crew, jobs.as_mut_slice(), helped, places);
+    put_hashes(leaves, jobs.as_slice());
 }

@@ -1,5 +1,6 @@
 //! The hashes of inner nodes.
-ghost use Rattle.std.specs.Prelude.{◌≡◌, ◌<◌, ◌≤◌, ◌+◌, ◌*◌, ℕ, All, length};
+ghost use Rattle.std.specs.Prelude.{◌≡◌, ◌<◌, ◌≤◌, ◌+◌, ◌*◌, ℕ, All, length, vec_capacity};
+ghost use Rattle.pages.specs.BitSets.{has_bit};
 ghost use Rattle.sha2.specs.Sha256.{sha256};
 ghost use Rattle.merkle.specs.Jobs.{IsDone};
 ghost use Rattle.merkle.specs.Nodes.{IsJoinedFrom, IsNearlyTree, IsTree, at, join_at};
@@ -7,6 +8,7 @@ ghost use Rattle.merkle.specs.Nodes.{IsJoinedFrom, IsNearlyTree, IsTree, at, joi
 use crate::hashing::{NODE_BYTES, encode_node, join};
 use crate::helped::{Encodes, Helped};
 use crate::jobs::{Job, Measure, gather_nodes, put_hashes};
+use crate::marks::Marks;
 use crate::places::Places;
 use crate::shares::{Crew, do_jobs_on};
 use sha2_lanes::digests_of_four;
@@ -99,42 +101,41 @@ fn join_nodes<R: Threads + Sync>(
 fn rejoin_level<R: Threads + Sync>(
     crew: &Crew<'_, R>,
     nodes: &mut [[u8; 32]],
-    marks: &mut [bool],
-    jobs: &mut [Job],
+    marks: &mut Marks,
+    jobs: &mut Vec<Job>,
     helped: &mut Helped,
     low: usize,
     high: usize,
 )
-    requires room { length jobs.old ≡ LEAVES }
+    requires room { LEAVES ≤ vec_capacity jobs.old }
     requires low { 1 ≤ low }
     requires apart { high ≤ 2 * low }
     requires below { low ≤ high }
     requires high { high ≤ LEAVES }
-    requires from { IsJoinedFrom high nodes.old marks.old }
-    ensures from { IsJoinedFrom low nodes.new marks.new }
+    requires from { IsJoinedFrom high nodes.old (has_bit marks.old.words) }
+    ensures from { IsJoinedFrom low nodes.new (has_bit marks.new.words) }
     ensures leaves { (i : ℕ) → LEAVES ≤ i → at nodes.new i ≡ at nodes.old i }
-    ensures room { length jobs.new ≡ LEAVES }
+    ensures room { LEAVES ≤ vec_capacity jobs.new }
 {
-    let count = gather_nodes(jobs, marks, low, high);
-    join_nodes(crew, &mut jobs[..count], helped, nodes);
-    put_hashes(nodes, &jobs[..count]);
+    gather_nodes(jobs, marks, low, high);
+    join_nodes(crew, jobs.as_mut_slice(), helped, nodes);
+    put_hashes(nodes, jobs.as_slice());
 }
 
 /// Joins again each inner node above a mark, level by level from the lowest up.
 pub(crate) fn rejoin<R: Threads + Sync>(
     crew: &Crew<'_, R>,
     nodes: &mut [[u8; 32]],
-    marks: &mut [bool],
-    jobs: &mut [Job],
+    marks: &mut Marks,
+    jobs: &mut Vec<Job>,
     helped: &mut Helped,
 )
     requires full { length nodes.old ≡ 2 * LEAVES }
-    requires marks { length marks.old ≡ 2 * LEAVES }
-    requires room { length jobs.old ≡ LEAVES }
-    requires nearly { IsNearlyTree nodes.old marks.old }
+    requires room { LEAVES ≤ vec_capacity jobs.old }
+    requires nearly { IsNearlyTree nodes.old (has_bit marks.old.words) }
     ensures tree { IsTree nodes.new }
     ensures leaves { (i : ℕ) → LEAVES ≤ i → at nodes.new i ≡ at nodes.old i }
-    ensures room { length jobs.new ≡ LEAVES }
+    ensures room { LEAVES ≤ vec_capacity jobs.new }
 {
     let mut high = LEAVES;
     while high > 1 {

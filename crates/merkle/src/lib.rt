@@ -1,12 +1,14 @@
 //! The tree of hashes over the rows: the hash of each leaf and of each node above, and the root.
 #![tactic(auto)]
 
+mod alike;
 pub mod hashing;
 mod helped;
 mod jobs;
 mod kept;
 mod leaves;
 mod levels;
+mod marks;
 mod places;
 mod shares;
 pub mod tree;

@@ -1,66 +1,46 @@
 //! All nodes of the tree.
-ghost use Rattle.std.specs.Prelude.{◌≡◌, ◌<◌, ◌≤◌, ◌+◌, ◌*◌, ℕ, drop, length, IfOk};
+ghost use Rattle.std.specs.Prelude.{◌≡◌, ◌<◌, ◌≤◌, ◌+◌, ℕ, IfOk, cond, drop, vec_capacity};
+ghost use Rattle.pages.specs.BitSets.{has_bit};
 ghost use Rattle.merkle.specs.Nodes.{IsOf, IsOfClean, IsTree, at, rehashed};
 ghost use Rattle.tpcc_model.specs.Roots.{leaf_hash, root};
 ghost use Rattle.tpcc_rows.specs.RowMap.{Rows};
 
+use crate::alike::empty_nodes;
 use crate::helped::Helped;
 use crate::jobs::Job;
-use crate::kept::{Kept, shelves};
+use crate::kept::{Group, shelves};
 use crate::leaves::{Leaves, rehash};
 use crate::levels::rejoin;
+use crate::marks::{Marks, mark_dirty, mark_filled};
 use crate::shares::Crew;
 use hashers::Host;
 use rollback::{Dirty, PointedStore};
 use std::alloc::Global;
 use std::marker::Model;
 use std::num::NonZeroUsize;
-use std::sync::Mutex;
 use std::thread::{self, Threads};
 use tpcc_rows::codes::LEAVES;
 use tpcc_rows::memory::Memory;
 
-/// Hashes all leaves, and each node above them.
-fn build_nodes<R: Threads + Sync>(
-    crew: &Crew<'_, R>,
-    nodes: &mut [[u8; 32]],
-    jobs: &mut [Job],
-    helped: &mut Helped,
-    places: &Leaves<'_>,
-)
-    requires full { length nodes.old ≡ 2 * LEAVES }
-    requires room { length jobs.old ≡ LEAVES }
-    ensures tree { IsTree nodes.new }
-    ensures leaves { (n : ℕ) → n < LEAVES → at nodes.new (LEAVES + n) ≡ leaf_hash places.now.store.now.rows n }
-    ensures room { length jobs.new ≡ LEAVES }
-{
-    let (_, leaves) = nodes.split_at_mut(LEAVES);
-    rehash(crew, leaves, jobs, helped, places, &[true; LEAVES]);
-    rejoin(crew, nodes, &mut [true; 2 * LEAVES], jobs, helped);
-}
-
-/// Hashes the dirty leaves again, and each node above one.
+/// Hashes again each marked leaf, and each node above one.
 fn refresh_nodes<R: Threads + Sync>(
     crew: &Crew<'_, R>,
     nodes: &mut [[u8; 32]],
-    jobs: &mut [Job],
+    jobs: &mut Vec<Job>,
     helped: &mut Helped,
     places: &Leaves<'_>,
-    dirty: &[bool],
+    marks: &mut Marks,
 )
-    requires marks { length dirty.now ≡ LEAVES }
     requires tree { IsTree nodes.old }
-    requires room { length jobs.old ≡ LEAVES }
+    requires room { LEAVES ≤ vec_capacity jobs.old }
     ensures tree { IsTree nodes.new }
-    ensures leaves { (n : ℕ) → n < LEAVES → at nodes.new (LEAVES + n) ≡ rehashed dirty.now places.now.store.now.rows (at nodes.old (LEAVES + n)) n }
-    ensures room { length jobs.new ≡ LEAVES }
+    ensures leaves { (n : ℕ) → n < LEAVES → at nodes.new (LEAVES + n)
+        ≡ cond (has_bit marks.old.words (LEAVES + n)) (leaf_hash places.now.store.now.rows n) (at nodes.old (LEAVES + n)) }
+    ensures room { LEAVES ≤ vec_capacity jobs.new }
 {
     let (_, leaves) = nodes.split_at_mut(LEAVES);
-    rehash(crew, leaves, jobs, helped, places, dirty);
-    let mut marks = [false; 2 * LEAVES];
-    let (_, below) = marks.split_at_mut(LEAVES);
-    below.copy_from_slice(dirty);
-    rejoin(crew, nodes, &mut marks, jobs, helped);
+    rehash(crew, leaves, jobs, helped, places, marks);
+    rejoin(crew, nodes, marks, jobs, helped);
 }
 
 /// The hashes of all leaves and of all nodes above them, in heap order: the root at 1, the children of the node at i
@@ -72,11 +52,11 @@ pub struct Tree {
     jobs: Vec<Job>,
     helped: Helped,
     // What is kept of the text of each leaf, where it has a shelf. No shelf grows.
-    shelves: Vec<Option<Box<Mutex<Kept>>>>,
+    shelves: Vec<Group>,
 }
 
 impl Model for Tree {
-    ghost use Rattle.std.specs.Prelude.{ℕ, ◌≡◌, List, drop, length};
+    ghost use Rattle.std.specs.Prelude.{ℕ, ◌≤◌, List, drop, vec_capacity};
     ghost use Rattle.merkle.specs.Nodes.{IsTree};
     ghost use Rattle.tpcc_rows.specs.declared.codes.TheConstants.{LEAVES};
 
@@ -84,7 +64,7 @@ impl Model for Tree {
 
     ghost view = { λ t. drop LEAVES t.nodes.items };
 
-    ghost invariant = { λ t. IsTree t.nodes.items × (length t.jobs.items ≡ LEAVES) };
+    ghost invariant = { λ t. IsTree t.nodes.items × (LEAVES ≤ vec_capacity t.jobs) };
 }
 
 impl Tree {
@@ -103,12 +83,14 @@ impl Tree {
     ) -> Result<Tree, Memory>
         ensures { IfOk result (λ tree. IsOf tree store.now.rows) }
     {
-        let mut nodes = vec![in alloc; [0u8; 32]; 2 * LEAVES]?;
-        let mut jobs = vec![in alloc; Job::NONE; LEAVES]?;
+        let mut nodes = empty_nodes(alloc)?;
+        let mut jobs = Vec::with_capacity(alloc, LEAVES)?;
         let threads = thread::available_parallelism(rt).map_or(1, NonZeroUsize::get);
         let mut helped = Helped::alone(alloc);
         let shelves = shelves(alloc, store);
-        build_nodes(
+        let mut marks = Marks::new();
+        mark_filled(&mut marks, store);
+        refresh_nodes(
             &Crew { rt, threads },
             &mut nodes,
             &mut jobs,
@@ -117,6 +99,7 @@ impl Tree {
                 store,
                 shelves: shelves.as_slice(),
             },
+            &mut marks,
         );
         Ok(Tree {
             nodes,
@@ -148,9 +131,10 @@ impl Tree {
         ensures leaves { (n : ℕ) → n < LEAVES → at self.new n ≡ rehashed dirty.now store.now.rows (at self.old n) n }
         ensures rows { IsOfClean self.old dirty.now store.now.rows → IsOf self.new store.now.rows }
     {
-        let crew = Crew { rt, threads };
+        let mut marks = Marks::new();
+        mark_dirty(&mut marks, dirty);
         refresh_nodes(
-            &crew,
+            &Crew { rt, threads },
             &mut self.nodes,
             &mut self.jobs,
             &mut self.helped,
@@ -158,7 +142,7 @@ impl Tree {
                 store,
                 shelves: self.shelves.as_slice(),
             },
-            dirty.marks(),
+            &mut marks,
         );
     }
 }

@@ -1,12 +1,16 @@
-use Rattle.std.proofs.Common.{◌≡◌, length}
-use Rattle.rollback.specs.Marks.{is_dirty}
+use Rattle.std.proofs.Common.{◌≤◌, ◌+◌, ◌-◌, vec_capacity}
+use Rattle.tpcc_rows.specs.declared.codes.TheConstants.{LEAVES}
+use Rattle.pages.specs.BitSets.{has_bit}
 use Rattle.merkle.proofs.Placing.{IsGathered}
 use Rattle.merkle.proofs.jobs.gather_leaves.Given as goal
-use Rattle.tpcc_rows.specs.declared.codes.TheConstants.{LEAVES}
 
--- the first jobs are at the dirty leaves before this one
-abbrev pub invariant-loop-n : goal.invariant-loop-n
-invariant-loop-n l = record {
-  room : length l.jobs ≡ LEAVES;
-  gathered : IsGathered (is_dirty l.dirty) 0 l.n l.count l.jobs;
+-- the jobs are at the marked leaves before the next one
+abbrev pub invariant-loop-place : goal.invariant-loop-place
+invariant-loop-place l = record {
+  within : l.next ≤ LEAVES;
+  room : LEAVES ≤ vec_capacity l.jobs;
+  gathered : IsGathered (λ n. has_bit l.fn.marks.words (LEAVES + n)) 0 l.next l.jobs.items;
 }
+
+abbrev pub decreases-loop-place : goal.decreases-loop-place
+decreases-loop-place l = LEAVES - l.next

@@ -6,7 +6,7 @@ loop-high-init g c = record {
   low = omega arith;
   inside = omega arith;
   room = c.requires.room;
-  joined = record { full = c.requires.full; wide = c.requires.marks; done = λ i l h. absurd (omega arith); left = λ i l h a b. c.requires.nearly.joins i l h a b };
+  joined = record { full = c.requires.full; done = λ i l h. absurd (omega arith); left = λ i l h a b. c.requires.nearly.joins i l h a b };
   leaves = λ i h. refl;
 }
 

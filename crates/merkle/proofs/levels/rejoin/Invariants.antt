@@ -1,15 +1,16 @@
-use Rattle.std.proofs.Common.{◌≡◌, ℕ, ◌≤◌, length}
+use Rattle.std.proofs.Common.{◌≡◌, ℕ, ◌≤◌, vec_capacity}
+use Rattle.tpcc_rows.specs.declared.codes.TheConstants.{LEAVES}
+use Rattle.pages.specs.BitSets.{has_bit}
 use Rattle.merkle.specs.Nodes.{IsJoinedFrom, at}
 use Rattle.merkle.proofs.levels.rejoin.Given as goal
-use Rattle.tpcc_rows.specs.declared.codes.TheConstants.{LEAVES}
 
 -- the levels from high on are joined
 abbrev pub invariant-loop-high : goal.invariant-loop-high
 invariant-loop-high g l = record {
   low : 1 ≤ l.high;
   inside : l.high ≤ LEAVES;
-  room : length l.jobs ≡ LEAVES;
-  joined : IsJoinedFrom l.high l.nodes l.marks;
+  room : LEAVES ≤ vec_capacity l.jobs;
+  joined : IsJoinedFrom l.high l.nodes (has_bit l.marks.words);
   leaves : (i : ℕ) → LEAVES ≤ i → at l.nodes i ≡ at l.fn.nodes i;
 }
 

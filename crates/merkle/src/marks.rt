@@ -1,0 +1,66 @@
+//! Marks of the places of a tree that are to be hashed anew.
+ghost use Rattle.std.specs.Prelude.{◌≡◌, ◌<◌, ◌≤◌, ◌+◌, ◌∷◌, [], ℕ, IfSome, None, false};
+ghost use Rattle.std.specs.FinMap as map;
+ghost use Rattle.sha2.specs.Sha256.{sha256};
+ghost use Rattle.pages.specs.BitSets.{has_bit};
+ghost use Rattle.merkle.specs.Marking.{IsNext, is_above};
+ghost use Rattle.rollback.specs.Marks.{is_dirty};
+ghost use Rattle.tpcc_model.specs.Roots.{leaf_hash};
+
+use pages::bits::{Bits, WORD_BITS};
+use leaf_rows::LeafRows;
+use rollback::{Dirty, PointedStore};
+use tpcc_rows::codes::LEAVES;
+
+/// A bit for each place in heap order: node i at i, leaf n at `LEAVES` + n.
+const MARK_WORDS: usize = 2 * LEAVES / WORD_BITS;
+
+/// A set of places.
+pub(crate) type Marks = Bits<MARK_WORDS>;
+
+/// Marks the leaves of a set.
+pub(crate) fn mark_dirty(marks: &mut Marks, dirty: &Dirty)
+    requires { (i : ℕ) → has_bit marks.old.words i ≡ false }
+    ensures { (n : ℕ) → n < LEAVES → has_bit marks.new.words (LEAVES + n) ≡ is_dirty dirty.now n }
+{
+    for n in 0..LEAVES {
+        if dirty.has(n) {
+            marks.add(LEAVES + n);
+        }
+    }
+}
+
+/// Marks the leaf if its page has rows.
+fn mark_if_filled(marks: &mut Marks, page: &LeafRows, n: usize)
+    requires { n < LEAVES }
+    ensures kept { (i : ℕ) → has_bit marks.new.words i ≡ false → has_bit marks.old.words i ≡ false }
+    ensures empty { has_bit marks.new.words (LEAVES + n) ≡ false → map.entries page.now ≡ [] }
+{
+    if !page.as_slice().is_empty() {
+        marks.add(LEAVES + n);
+    }
+}
+
+/// Marks the leaves that have rows.
+pub(crate) fn mark_filled(marks: &mut Marks, store: &PointedStore)
+    ensures { (n : ℕ) → n < LEAVES → has_bit marks.new.words (LEAVES + n) ≡ false → leaf_hash store.now.rows n ≡ sha256 (0 ∷ []) }
+{
+    for n in 0..LEAVES {
+        mark_if_filled(marks, store.page(n), n);
+    }
+}
+
+/// The first node from one on before `high` of which a child is marked.
+pub(crate) fn next_above(marks: &Marks, from: usize, high: usize) -> Option<usize>
+    requires from { from ≤ LEAVES }
+    requires high { high ≤ LEAVES }
+    ensures some { IfSome result (λ i. (i < high) × IsNext (is_above marks.now.words) from i) }
+    ensures none { result ≡ None → (i : ℕ) → from ≤ i → i < high → is_above marks.now.words i ≡ false }
+{
+    let child = marks.first_from(2 * from)?;
+    if child < 2 * high {
+        Some(child / 2)
+    } else {
+        None
+    }
+}
