@@ -2,3 +2,4 @@ pub mod Joins
 pub mod Placing
 pub mod Refreshing
 pub mod Texts
+pub mod Marking

@@ -19,7 +19,7 @@ kept-clean leaves old new keeps of_old = record {
 }
 
 -- where it was right on the clean leaves, it is right on all
-pub of-all : (old new : List (List ℕ)) (dirty : List Bool) (rows : Rows) → ((n : ℕ) → n < LEAVES → at new n ≡ rehashed dirty rows (at old n) n) → IsOfClean old dirty rows → IsOf new rows
+pub of-all : (old new : List (List ℕ)) (dirty : List ℕ) (rows : Rows) → ((n : ℕ) → n < LEAVES → at new n ≡ rehashed dirty rows (at old n) n) → IsOfClean old dirty rows → IsOf new rows
 of-all old new dirty rows each of_old = record { each = λ n small. each n small ∙ by-mark n small (is_dirty dirty n) refl } where
   by-mark : (n : ℕ) → n < LEAVES → (b : Bool) → is_dirty dirty n ≡ b → cond b (leaf_hash rows n) (at old n) ≡ leaf_hash rows n
   by-mark n small true e = refl

@@ -27,11 +27,11 @@ pub record IsOf (leaves : List (List ℕ)) (rows : Rows) : Type 0 where
   pub each : (n : ℕ) → n < LEAVES → at leaves n ≡ leaf_hash rows n
 
 -- the hash of a leaf anew where it is dirty, and else as it was
-abbrev pub rehashed : List Bool → Rows → List ℕ → ℕ → List ℕ
+abbrev pub rehashed : List ℕ → Rows → List ℕ → ℕ → List ℕ
 rehashed dirty rows old n = cond (is_dirty dirty n) (leaf_hash rows n) old
 
 -- the hash of each clean leaf is that of the rows
-pub record IsOfClean (leaves : List (List ℕ)) (dirty : List Bool) (rows : Rows) : Type 0 where
+pub record IsOfClean (leaves : List (List ℕ)) (dirty : List ℕ) (rows : Rows) : Type 0 where
   pub each : (n : ℕ) → n < LEAVES → is_dirty dirty n ≡ false → at leaves n ≡ leaf_hash rows n
 
 -- each inner node of whose children none is marked is their hash

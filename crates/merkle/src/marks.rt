@@ -7,8 +7,8 @@ ghost use Rattle.merkle.specs.Marking.{IsNext, is_above};
 ghost use Rattle.rollback.specs.Marks.{is_dirty};
 ghost use Rattle.tpcc_model.specs.Roots.{leaf_hash};
 
-use pages::bits::{Bits, WORD_BITS};
 use leaf_rows::LeafRows;
+use pages::bits::{Bits, WORD_BITS};
 use rollback::{Dirty, PointedStore};
 use tpcc_rows::codes::LEAVES;
 
@@ -23,10 +23,10 @@ pub(crate) fn mark_dirty(marks: &mut Marks, dirty: &Dirty)
     requires { (i : ℕ) → has_bit marks.old.words i ≡ false }
     ensures { (n : ℕ) → n < LEAVES → has_bit marks.new.words (LEAVES + n) ≡ is_dirty dirty.now n }
 {
-    for n in 0..LEAVES {
-        if dirty.has(n) {
-            marks.add(LEAVES + n);
-        }
+    let mut next = 0;
+    while let Some(n) = dirty.first_from(next) {
+        marks.add(LEAVES + n);
+        next = n + 1;
     }
 }
 

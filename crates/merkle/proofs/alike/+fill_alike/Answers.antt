@@ -1,4 +1,4 @@
-use Rattle.std.proofs.Common.{◌+◌, ◌*◌, ◌≤◌, arith, inl, inr, ◌∙◌}
+use Rattle.std.proofs.Common.{◌+◌, ◌*◌, ◌≤◌, arith, ◌∙◌}
 use Rattle.tpcc_rows.specs.declared.codes.TheConstants.{LEAVES}
 use Rattle.merkle.proofs.Joins.{width_le, wide}
 use Rattle.merkle.proofs.alike.+fill_alike.Goals as goal

@@ -1,4 +1,4 @@
-use Rattle.std.proofs.Common.{◌<◌, ◌+◌, ◌*◌, arith, length, ◌∙◌}
+use Rattle.std.proofs.Common.{◌<◌, arith, length, ◌∙◌}
 use Rattle.std.proofs.lemmas.List.{with_items_is}
 use Rattle.pages.specs.BitSets.{has_bit}
 use Rattle.merkle.specs.Nodes.{join_at}
