@@ -11,9 +11,9 @@ use std::alloc::{AllocError, Global};
 use std::thread::yield_now;
 
 /// How many bytes a long text has at most, and how many long texts a parcel.
-pub const LONG_BYTES: usize = 20_000;
+pub const LONG_BYTES: usize = 5_000;
 
-pub const LONG_TEXTS: usize = 4;
+pub const LONG_TEXTS: usize = 16;
 
 /// How many bytes a short text has at most.
 pub const SHORT_BYTES: usize = 65;

@@ -22,10 +22,13 @@ use tpcc_rows::row_buf::ByteBuf;
 pub(crate) const MOST_HELPERS: usize = 7;
 
 /// How many leaves are encoded at most before their hashes are waited for.
-const ROUND: usize = 32;
+const ROUND: usize = 128;
 
 /// How many groups a round has at most: of leaves as many as helpers take, of nodes one for each helper.
 const MOST_GROUPS: usize = 8;
+
+/// How many leaves there are at least where helpers pay.
+const FEWEST_LEAVES: usize = 64;
 
 /// How many nodes a level has at least where helpers pay.
 const FEWEST_NODES: usize = 32;
@@ -319,7 +322,7 @@ impl Helped {
         ensures { IsDone (leaf_hash places.now.store.now.rows) jobs.old jobs.new }
     {
         let most = self.most(threads);
-        if most == 0 || self.leaves.len() < ROUND {
+        if most == 0 || jobs.len() < FEWEST_LEAVES || self.leaves.len() < ROUND {
             do_jobs(jobs, places);
             return;
         }
