@@ -1,6 +1,4 @@
 //! Roots and tokens computed a second time, from scratch: by recursion from the root down.
-ghost use Rattle.std.specs.Prelude.{◌≤◌};
-
 use crate::format::{Entry, entries};
 use sha2::{Digest, Sha256};
 use std::alloc::Global;
@@ -43,36 +41,41 @@ fn empty_nodes(alloc: Global) -> Option<Vec<[u8; 32]>> {
     Some(hashes)
 }
 
-/// Whether a row stands below a node.
-fn has_row(entries: &[Entry], height: u32, number: u64) -> bool
-    requires { height ≤ 16 }
-{
+/// Whether a row stands on a leaf from the first one on, before the one behind the last.
+fn has_row(entries: &[Entry], first: u64, behind: u64) -> bool {
     for (code, _) in entries {
-        if leaf_of(*code) >> height == number {
+        let leaf = leaf_of(*code);
+        if first <= leaf && leaf < behind {
             return true;
         }
     }
     false
 }
 
-fn node(entries: &[Entry], empty: &[[u8; 32]], height: u32, number: u64) -> Option<[u8; 32]>
-    requires { height ≤ 16 }
-{
-    if !has_row(entries, height, number) {
+/// The node of a height over the leaves from the first one on, before the one behind the last.
+fn node(
+    entries: &[Entry],
+    empty: &[[u8; 32]],
+    height: u32,
+    first: u64,
+    behind: u64,
+) -> Option<[u8; 32]> {
+    if !has_row(entries, first, behind) {
         return empty.get(height as usize).copied();
     }
     if height == 0 {
-        return Some(leaf_hash(entries, number));
+        return Some(leaf_hash(entries, first));
     }
-    let left = node(entries, empty, height - 1, number << 1)?;
-    let right = node(entries, empty, height - 1, (number << 1) | 1)?;
+    let middle = (first / 2).wrapping_add(behind / 2);
+    let left = node(entries, empty, height - 1, first, middle)?;
+    let right = node(entries, empty, height - 1, middle, behind)?;
     Some(join(&left, &right))
 }
 
 /// The root of the rows, in whichever order they are.
 pub fn second_root(alloc: Global, lines: &[&str]) -> Option<[u8; 32]> {
     let (entries, empty) = (entries(alloc, lines)?, empty_nodes(alloc)?);
-    node(&entries, &empty, 16, 0)
+    node(&entries, &empty, 16, 0, 65_536)
 }
 
 /// A token, where the catalog's digest is the bytes from 0 to 31, and the replies have these bytes.
