@@ -3,3 +3,4 @@ pub mod Placing
 pub mod Refreshing
 pub mod Texts
 pub mod Marking
+pub mod Chunks

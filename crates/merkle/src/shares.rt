@@ -5,14 +5,25 @@ ghost use Rattle.merkle.specs.Jobs.{IsDone};
 
 use crate::jobs::Job;
 use crate::places::{Places, do_jobs};
+use rayon::prelude::par_chunks_mut_for_each;
 use std::thread::{Threads, join_mut};
 use tpcc_rows::codes::LEAVES;
+
+/// What is hashed.
+#[derive(Clone, Copy)]
+pub(crate) enum Task {
+    /// A whole tree, on threads that `rayon` starts.
+    Build,
+    /// What has changed, which takes no memory.
+    Refresh,
+}
 
 /// Threads that are started where they pay, so many at most.
 #[derive(Clone, Copy)]
 pub(crate) struct Crew<'a, R> {
     pub(crate) rt: &'a R,
     pub(crate) threads: usize,
+    pub(crate) task: Task,
 }
 
 /// Jobs are shared out in parts of so many.
@@ -72,6 +83,26 @@ where
     do_parts(rt, places, size, first, rest);
 }
 
+/// Does jobs, so many on each thread that `rayon` starts. Its `with_min_len` isn't there for chunks that are written: chunks of
+/// an even share are what windows would come to by it.
+fn do_chunks<R: Threads + Sync, P: Places + Sync>(rt: &R, places: &P, size: usize, jobs: &mut [Job])
+where
+    P::Room: Send,
+    requires size { 0 < size }
+    requires there { All (λ job. P.has places.now job.place) jobs.old }
+    ensures { IsDone (P.hash places.now) jobs.old jobs.new }
+{
+    par_chunks_mut_for_each(
+        rt,
+        jobs,
+        size,
+        |_: usize, chunk: &mut [Job]|
+            requires { All (λ job. P.has places.now job.place) chunk.old }
+            ensures { IsDone (P.hash places.entry.now) chunk.old chunk.new }
+        { do_jobs(chunk, places) },
+    );
+}
+
 /// Does jobs on as many threads as pay.
 pub(crate) fn do_jobs_on<R: Threads + Sync, P: Places + Sync>(
     crew: &Crew<'_, R>,
@@ -85,5 +116,8 @@ where
     ensures { IsDone (P.hash places.now) jobs.old jobs.new }
 {
     let size = share(jobs.len(), paying, crew.threads);
-    do_shares(crew.rt, places, size, jobs);
+    match crew.task {
+        Task::Build => do_chunks(crew.rt, places, size, jobs),
+        Task::Refresh => do_shares(crew.rt, places, size, jobs),
+    }
 }

@@ -12,7 +12,7 @@ use crate::kept::{Group, shelves};
 use crate::leaves::{Leaves, rehash};
 use crate::levels::rejoin;
 use crate::marks::{Marks, mark_dirty, mark_filled};
-use crate::shares::Crew;
+use crate::shares::{Crew, Task};
 use hashers::Host;
 use rollback::{Dirty, PointedStore};
 use std::alloc::Global;
@@ -91,7 +91,11 @@ impl Tree {
         let mut marks = Marks::new();
         mark_filled(&mut marks, store);
         refresh_nodes(
-            &Crew { rt, threads },
+            &Crew {
+                rt,
+                threads,
+                task: Task::Build,
+            },
             &mut nodes,
             &mut jobs,
             &mut helped,
@@ -134,7 +138,11 @@ impl Tree {
         let mut marks = Marks::new();
         mark_dirty(&mut marks, dirty);
         refresh_nodes(
-            &Crew { rt, threads },
+            &Crew {
+                rt,
+                threads,
+                task: Task::Refresh,
+            },
             &mut self.nodes,
             &mut self.jobs,
             &mut self.helped,
