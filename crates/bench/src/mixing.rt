@@ -69,12 +69,14 @@ impl Stages {
 
 /// How many nodes stand above the leaves of a set.
 fn nodes_above(dirty: &Dirty) -> usize {
-    let mut count = 0usize;
-    for height in 1..17u32 {
-        let mut last = LEAVES;
+    let (mut count, mut width) = (0usize, 1usize);
+    for _ in 0..16 {
+        width = width.saturating_mul(2);
+        let mut last = None;
         for leaf in 0..LEAVES {
-            if dirty.has(leaf) && leaf >> height != last {
-                last = leaf >> height;
+            let node = leaf.checked_div(width);
+            if dirty.has(leaf) && node != last {
+                last = node;
                 count = count.saturating_add(1);
             }
         }
