@@ -31,7 +31,7 @@ use Rattle.tpcc_model.specs.Database.{Database, database}
 use Rattle.tpcc_model.specs.Deliveries.{Delivered, amount_of, carried, credited, delivery, districts_delivered, line_dated, lines_amount, lines_dated, oldest_delivered, order_delivered}
 use Rattle.tpcc_model.specs.Staging.{◌>>=◌, known}
 use Rattle.tpcc_model.specs.Steps.{delivery_outcome}
-use Rattle.tpcc_model.specs.Touches.{Agree, ArePlaced, IsPlaced, credited_touch, delivery_touch, district_touch, oldest_touch, touch_by}
+use Rattle.tpcc_model.specs.Touches.{Agree, ArePlaced, IsPlaced, credited_touch, delivery_touch, district_touch, delivered_touch, touch_by}
 use Rattle.tpcc_model.proofs.Agreeing.{agree-after, agree-part, same_customer, same_oldest, same_order, same_order_line}
 use Rattle.tpcc_model.proofs.Placing.{in_granule, placed-insert, placed-none}
 use Rattle.tpcc_model.proofs.Stages.{after-stage, same-stage}
@@ -143,7 +143,7 @@ module _ (rows : Rows) (p : Delivery) where
           (in_granule number gs k (part.Customer p.warehouse d order.customer) refl (part_of _ (his_written d o order his)))
           (bounded_lines order.line_count _ (bounded_carried order changes his bounded))
 
-    bounded_oldest : (d : ℕ) (o : Option ℕ) → ((g : Granule) → Has (oldest_touch rows p d o).writes g → Has gs g) → (changes : Changes) → AreBounded changes → IfOk (oldest_delivered rows p moment d o changes) AreBounded
+    bounded_oldest : (d : ℕ) (o : Option ℕ) → ((g : Granule) → Has (delivered_touch rows p d o).writes g → Has gs g) → (changes : Changes) → AreBounded changes → IfOk (oldest_delivered rows p moment d o changes) AreBounded
     bounded_oldest d None part_of changes bounded = bounded
     bounded_oldest d (Some o) part_of changes bounded = bounded_order d o (part_of (part.Book p.warehouse d) (inl refl)) (λ g h. part_of g (inr h)) changes bounded
 
@@ -177,10 +177,10 @@ abbrev delivered_by : Delivery → Rows → ℕ → Result Delivered RequestRefu
 delivered_by p rows moment = districts_delivered rows p moment ten empty >>= λ changes. Ok (record { reply = record { orders = map (oldest rows p.warehouse) ten }; changes = changes })
 
 module _ (s t : Rows) (p : Delivery) where
-  same_order_delivered : (moment d o : ℕ) (changes : Changes) → KeepCustomers s p changes → Agree s t (oldest_touch s p d (Some o)).reads → order_delivered t p moment d o changes ≡ order_delivered s p moment d o changes
+  same_order_delivered : (moment d o : ℕ) (changes : Changes) → KeepCustomers s p changes → Agree s t (delivered_touch s p d (Some o)).reads → order_delivered t p moment d o changes ≡ order_delivered s p moment d o changes
   unfolding order_delivered
   same_order_delivered moment d o changes keep agree =
-      let gs = (oldest_touch s p d (Some o)).reads in
+      let gs = (delivered_touch s p d (Some o)).reads in
       let later = agree-after s t changes gs agree in
       let m = after s changes in
       let n = after t changes in
@@ -189,11 +189,11 @@ module _ (s t : Rows) (p : Delivery) where
       same-stage _ _ _ _ (ap (credited old) (same_amount p m n d o gs later (inl refl) order.line_count)) λ customer e3.
       ap (λ (c : Changes). Ok (insert c (key.Customer p.warehouse d order.customer) (Some (row.Customer customer)))) (same_lines p s t d o gs agree (inl refl) moment order.line_count (carried p d o order changes))
 
-  same_oldest_delivered : (moment d : ℕ) (o : Option ℕ) (changes : Changes) → KeepCustomers s p changes → Agree s t (oldest_touch s p d o).reads → oldest_delivered t p moment d o changes ≡ oldest_delivered s p moment d o changes
+  same_oldest_delivered : (moment d : ℕ) (o : Option ℕ) (changes : Changes) → KeepCustomers s p changes → Agree s t (delivered_touch s p d o).reads → oldest_delivered t p moment d o changes ≡ oldest_delivered s p moment d o changes
   same_oldest_delivered moment d None changes keep agree = refl
   same_oldest_delivered moment d (Some o) changes keep agree = same_order_delivered moment d o changes keep agree
 
-  has_book : (d : ℕ) (o : Option ℕ) → Has (oldest_touch s p d o).reads (part.Book p.warehouse d)
+  has_book : (d : ℕ) (o : Option ℕ) → Has (delivered_touch s p d o).reads (part.Book p.warehouse d)
   has_book d None = inl refl
   has_book d (Some o) = inl refl
 
@@ -227,15 +227,15 @@ module _ (s t : Rows) (p : Delivery) where
   same_orders [] agree = refl
   same_orders (d ∷ ds) agree = ap₂ (λ (o : Option ℕ) (os : List (Option ℕ)). o ∷ os) (same_district_oldest d (of_first d ds agree)) (same_orders ds (of_rest d ds agree))
 
-  same_credited : (d : ℕ) (o : Option ℕ) → Agree s t (oldest_touch s p d o).reads → oldest_touch t p d o ≡ oldest_touch s p d o
+  same_credited : (d : ℕ) (o : Option ℕ) → Agree s t (delivered_touch s p d o).reads → delivered_touch t p d o ≡ delivered_touch s p d o
   same_credited d None agree = refl
-  same_credited d (Some o) agree = ap (λ (order : Option OrderRow). joined (writing (part.Book p.warehouse d)) (credited_touch p d order)) (same_order s t (oldest_touch s p d (Some o)).reads agree p.warehouse d o (inl refl))
+  same_credited d (Some o) agree = ap (λ (order : Option OrderRow). joined (writing (part.Book p.warehouse d)) (credited_touch p d order)) (same_order s t (delivered_touch s p d (Some o)).reads agree p.warehouse d o (inl refl))
 
   same_all_touch : (ds : List ℕ) → Agree s t (all_touch ds).reads → joined_all (map (district_touch t p) ds) ≡ all_touch ds
   same_all_touch [] agree = refl
   same_all_touch (d ∷ ds) agree =
       let first = of_first d ds agree in
-      ap₂ (λ (e f : Footprint Granule). joined e f) (ap (oldest_touch t p d) (same_district_oldest d first) ∙ same_credited d (oldest s p.warehouse d) first) (same_all_touch ds (of_rest d ds agree))
+      ap₂ (λ (e f : Footprint Granule). joined e f) (ap (delivered_touch t p d) (same_district_oldest d first) ∙ same_credited d (oldest s p.warehouse d) first) (same_all_touch ds (of_rest d ds agree))
 
   same_touched : (card : Option WarehouseCard) → Agree s t (touch_by (λ card. all_touch ten) (known card)).reads → touch_by (λ card. joined_all (map (district_touch t p) ten)) (known card) ≡ touch_by (λ card. all_touch ten) (known card)
   same_touched None agree = refl

@@ -23,7 +23,7 @@ use Rattle.tpcc_model.specs.Database.{Database}
 use Rattle.tpcc_model.specs.NewOrders as new_orders
 use Rattle.tpcc_model.specs.Payments as payments
 use Rattle.tpcc_model.specs.Staging.{known}
-use Rattle.tpcc_model.specs.Touches.{asked_customer, credited_touch, delivery_touch, district_touch, item_touch, line_touch, lines_touch, new_order_touch, oldest_touch, order_status_touch, ordered_touch, orders_touch, payment_touch, recent_touch, stock_level_touch, touch, touch_by}
+use Rattle.tpcc_model.specs.Touches.{asked_customer, credited_touch, delivery_touch, district_touch, item_touch, line_touch, lines_touch, new_order_touch, delivered_touch, order_status_touch, ordered_touch, orders_touch, payment_touch, recent_touch, stock_level_touch, touch, touch_by}
 
 -- ---- what is written is read too
 both_read : (e f : Footprint Granule) → WritesAreRead e → WritesAreRead f → WritesAreRead (joined e f)
@@ -41,7 +41,7 @@ credited_read : (p : Delivery) (d : ℕ) (order : Option OrderRow) → WritesAre
 credited_read p d None g h = h
 credited_read p d (Some order) g h = h
 
-oldest_read : (rows : Rows) (p : Delivery) (d : ℕ) (o : Option ℕ) → WritesAreRead (oldest_touch rows p d o)
+oldest_read : (rows : Rows) (p : Delivery) (d : ℕ) (o : Option ℕ) → WritesAreRead (delivered_touch rows p d o)
 oldest_read rows p d None g h = absurd h
 oldest_read rows p d (Some o) g h = elim h [ inl e ↦ inl e | inr i ↦ inr (credited_read p d (order_row rows p.warehouse d o) g i) ]
 

@@ -79,13 +79,13 @@ abbrev pub credited_touch : Delivery → ℕ → Option OrderRow → Footprint G
 credited_touch p d None = untouched
 credited_touch p d (Some order) = writing (part.Customer p.warehouse d order.customer)
 
--- the book of district d is looked at, and where it has a new order, the oldest one is delivered
-abbrev pub oldest_touch : Rows → Delivery → ℕ → Option ℕ → Footprint Granule
-oldest_touch rows p d None = reading (part.Book p.warehouse d)
-oldest_touch rows p d (Some o) = joined (writing (part.Book p.warehouse d)) (credited_touch p d (order_row rows p.warehouse d o))
+-- the book of district d is looked at, and of the order that is delivered there, if one is, the customer is credited
+abbrev pub delivered_touch : Rows → Delivery → ℕ → Option ℕ → Footprint Granule
+delivered_touch rows p d None = reading (part.Book p.warehouse d)
+delivered_touch rows p d (Some o) = joined (writing (part.Book p.warehouse d)) (credited_touch p d (order_row rows p.warehouse d o))
 
 abbrev pub district_touch : Rows → Delivery → ℕ → Footprint Granule
-district_touch rows p d = oldest_touch rows p d (oldest rows p.warehouse d)
+district_touch rows p d = delivered_touch rows p d (oldest rows p.warehouse d)
 
 -- a delivery (clause 2.7) goes through the ten districts
 unfoldable pub delivery_touch : Database → Delivery → Footprint Granule
@@ -129,10 +129,6 @@ touch db (request.Payment p) = payment_touch db p
 touch db (request.OrderStatus p) = order_status_touch db p
 touch db (request.Delivery p) = delivery_touch db p
 touch db (request.StockLevel p) = stock_level_touch db p
-
--- what each of the requests touches, where all of them meet these rows
-abbrev pub declared : Database → List Request → List (Footprint Granule)
-declared db requests = map (touch db) requests
 
 -- ---- what touching comes to
 -- the two agree on the rows whose granules are in the list

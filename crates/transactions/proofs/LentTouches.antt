@@ -16,7 +16,7 @@ use Rattle.tpcc_rows.specs.declared.granule.Granule.{Granule}
 use Rattle.tpcc_rows.specs.declared.granule.Granule.TheVariants as part
 use Rattle.tpcc_rows.specs.declared.row.OrderLineRow.{OrderLineRow}
 use Rattle.tpcc_model.specs.Database.{Database}
-use Rattle.tpcc_model.specs.Touches.{asked_touch, counted_touch, credited_touch, district_touch, line_touch, lines_touch, oldest_touch, ordered_touch, orders_touch, paid_touch, placed_touch, recent_touch}
+use Rattle.tpcc_model.specs.Touches.{asked_touch, counted_touch, credited_touch, district_touch, line_touch, lines_touch, delivered_touch, ordered_touch, orders_touch, paid_touch, placed_touch, recent_touch}
 use Rattle.worker_rows.specs.Views.{View, covers, may_read}
 use Rattle.transactions.specs.Faults.{EndsWithin, IsFaultUnless}
 use Rattle.transactions.specs.declared.fault.Fault.{Fault}
@@ -55,7 +55,7 @@ covers_asked view p c =
     ∙ ap₂ (λ a b. a && b) (covers_reading view (part.Customer p.warehouse p.district c)) (covers_reading view (part.Book p.warehouse p.district))
 
 pub covers_oldest : (view : View) (rows : Rows) (p : Delivery) (d o : ℕ)
-    → covers view (oldest_touch rows p d (Some o)) ≡ (covers view (writing (part.Book p.warehouse d)) && covers view (credited_touch p d (order_row rows p.warehouse d o)))
+    → covers view (delivered_touch rows p d (Some o)) ≡ (covers view (writing (part.Book p.warehouse d)) && covers view (credited_touch p d (order_row rows p.warehouse d o)))
 covers_oldest view rows p d o = covers-joined view (writing (part.Book p.warehouse d)) (credited_touch p d (order_row rows p.warehouse d o))
 
 pub covers_book : (view : View) (p : Delivery) (d : ℕ) → covers view (reading (part.Book p.warehouse d)) ≡ may_read view (part.Book p.warehouse d)

@@ -6,7 +6,7 @@ ghost use Rattle.requests.specs.declared.request.RequestKind.TheVariants as kind
 ghost use Rattle.tpcc_model.specs.Deliveries.{amount_of, carried, credited, delivery, districts_delivered, lines_amount, lines_dated, oldest_delivered, order_delivered};
 ghost use Rattle.tpcc_model.specs.Staging.{within};
 ghost use Rattle.tpcc_model.specs.Steps.{delivery_outcome};
-ghost use Rattle.tpcc_model.specs.Touches.{credited_touch, delivery_touch, district_touch, oldest_touch};
+ghost use Rattle.tpcc_model.specs.Touches.{credited_touch, delivery_touch, district_touch, delivered_touch};
 ghost use Rattle.tpcc_rows.specs.Changing.{after};
 ghost use Rattle.tpcc_rows.specs.Limits.{ten};
 ghost use Rattle.tpcc_rows.specs.Picks.{oldest};
@@ -244,7 +244,7 @@ fn may_credit<V: RowView>(
 /// Whether what the delivery of the order changes may be written.
 #[tactic(auto, using(crate::proofs::LentTouches::covers_oldest))]
 fn may_deliver<V: RowView>(view: &V, p: &Delivery, district: DistrictId, order: OrderId) -> bool
-    ensures { result ≡ covers (V.sees view.now) (oldest_touch (lent (V.sees view.now)) p.now district (Some order)) }
+    ensures { result ≡ covers (V.sees view.now) (delivered_touch (lent (V.sees view.now)) p.now district (Some order)) }
 {
     let book = Granule::Book {
         warehouse: p.warehouse,
