@@ -17,7 +17,7 @@ use Rattle.tpcc_model.specs.Soundness.{IsCustomerRow}
 use Rattle.tpcc_model.specs.Staging.{within}
 use Rattle.tpcc_laws.proofs.Doing.{between-some, cents-some, ok-by, ok_or-ok, passed}
 
-picked_new : (w d : ℕ) (k : RowKey) (x : Row) (o : ℕ) → new_pick w d k x ≡ Some o → (k ≡ key.NewOrder w d o) × (x ≡ row.NewOrder)
+pub picked_new : (w d : ℕ) (k : RowKey) (x : Row) (o : ℕ) → new_pick w d k x ≡ Some o → (k ≡ key.NewOrder w d o) × (x ≡ row.NewOrder)
 picked_new w d (key.NewOrder v e z) row.NewOrder o h =
     let p = passed (v == w && e == d) z o h in
     let t : (v == w && e == d) ≡ true = p.0 in
@@ -27,7 +27,7 @@ picked_new w d (key.NewOrder v e z) row.NewOrder o h =
     (cc, refl)
 picked_new w d _ _ o h = cc
 
-new_picked : (w d o : ℕ) → new_pick w d (key.NewOrder w d o) row.NewOrder ≡ Some o
+pub new_picked : (w d o : ℕ) → new_pick w d (key.NewOrder w d o) row.NewOrder ≡ Some o
 new_picked w d o = ap (λ b. cond b (Some o) None) (let t : (w == w && d == d) ≡ true = grind (arith, nat_tests) in t)
 
 -- the oldest new order is the least one
