@@ -1,7 +1,6 @@
 -- The laws of levels, from the law that the transactions are framed.
 use Rattle.std.proofs.Common.{◌<◌, ℕ, ◌+◌, List, [], ◌∷◌, inl, inr, sym, subst, arith}
 use Rattle.std.proofs.lemmas.Bool.{cases_Bool}
-use Rattle.std.proofs.lemmas.List.{length-map}
 use Rattle.serializability.specs.Folds.{after, fold_rows}
 use Rattle.serializability.specs.Framed.{AllFit}
 use Rattle.serializability.proofs.Batches.{serial}
@@ -17,7 +16,7 @@ use Rattle.catalog.specs.CardMap.{Cards}
 use Rattle.requests.specs.declared.request.Request.{Request}
 use Rattle.tpcc_model.specs.Machine.{tpcc}
 use Rattle.tpcc_model.specs.Soundness.{IsSound}
-use Rattle.tpcc_model.specs.Touches.{touch}
+use Rattle.profiles.proofs.Declarations.{length-declared}
 use Rattle.transactions.specs.Laws.{Fits, IsFramedMachine}
 use Rattle.executor.specs.InOrder.{StraysAreInTurn}
 use Rattle.executor.specs.LevelRuns.{declared_footprints, meets}
@@ -46,13 +45,13 @@ levels_are_serial framed db moment first qs fs sound limits same stays =
 pub declared_levels_are_serial : LevelsAreSerial → DeclaredLevelsAreSerial
 declared_levels_are_serial levels cards state batch sound limits stays =
     let run = levels (database cards state.rows) batch.moment state.next batch.requests (declared_footprints cards state batch) sound limits
-    (length-map batch.requests (touch (database cards state.rows))) stays in
+    (length-declared (database cards state.rows) batch.requests) stays in
     record { replies = run.serial.replies; rows = run.serial.rows_after }
 
 pub strays_are_in_turn : IsFramedMachine → StraysAreInTurn
 strays_are_in_turn framed cards state batch sound limits =
     same_strays (framed cards batch.moment limits.moment_within) meets (apart_by_bits bit) state.rows state.next batch.requests (declared_footprints cards state batch) sound
-    (all_fit batch.moment state.next batch.requests limits) (length-map batch.requests (touch (database cards state.rows)))
+    (all_fit batch.moment state.next batch.requests limits) (length-declared (database cards state.rows) batch.requests)
 
 pub meet_only_above : MeetOnlyAbove
 meet_only_above fs i j e f k l before at_i at_j is_i is_j low =

@@ -2,7 +2,6 @@ pub mod Fitting
 pub mod SoundStates
 pub mod Levels
 pub mod CutPlaces
-pub mod Declarations
 pub mod Examples
 pub mod Numbers
 pub mod Filing

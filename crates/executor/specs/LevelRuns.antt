@@ -16,7 +16,7 @@ use Rattle.requests.specs.declared.request.Request.{Request}
 use Rattle.requests.specs.declared.reply.Reply.{Reply}
 use Rattle.tpcc_model.specs.Machine.{tpcc}
 use Rattle.tpcc_model.specs.Serial.{State}
-use Rattle.tpcc_model.specs.Touches.{declared}
+use Rattle.profiles.specs.Declarations.{declared}
 
 -- ---- any footprints
 -- one writes what the other reads or writes, as far as bits tell
@@ -41,7 +41,7 @@ abbrev pub levels_by : ℕ → List Request → List (Footprint Granule) → Lis
 levels_by first requests footprints = levels.batch_levels meets first requests footprints
 
 -- ---- those that the requests of a batch declare
--- what each of them touches as the batch begins
+-- told as it begins
 abbrev pub declared_footprints : Cards → State → Batch → List (Footprint Granule)
 declared_footprints cards state batch = declared (database cards state.rows) batch.requests
 

@@ -12,4 +12,3 @@ pub mod Executions
 pub mod Engines
 pub mod Runs
 pub mod Headline
-pub mod Footprints

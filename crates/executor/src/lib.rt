@@ -5,7 +5,6 @@
 
 mod batch;
 mod crew;
-mod declaring;
 mod engine;
 mod executor;
 mod in_order;

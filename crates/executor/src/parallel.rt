@@ -13,7 +13,6 @@ ghost use Rattle.tpcc_model.specs.Serial.{batch_replies, batch_rows};
 ghost use Rattle.workers.specs.LevelEnds.{StraysWhere};
 
 use crate::crew::Crew;
-use crate::declaring::declare_all;
 use crate::in_order::{Pass, execute_in_order};
 use crate::laws::{cuts, declared_levels, strays_in_turn};
 use crate::level::{Level, Plan};
@@ -21,6 +20,7 @@ use crate::next_batch::NextBatch;
 use catalog::Catalog;
 use gather::{ReplyBook, merge};
 use mixer::{Cut, mix};
+use profiles::declare_batch;
 use requests::reply::Reply;
 use rollback::PointedStore;
 use std::alloc::Global;
@@ -186,7 +186,9 @@ pub(crate) fn execute_parallel<R: Threads + Sync, G: Gate>(
     declared_levels();
     strays_in_turn();
     next.keep_within();
-    let footprints = declare_all(alloc, crew, catalog, store, next)?;
+    let requests = next.batch.requests.as_slice();
+    let threads = crew.workers.count();
+    let footprints = declare_batch(crew.rt, alloc, catalog, requests, store, threads)?;
     let plan = Plan {
         batch: next.batch,
         first: next.stamp.next,

@@ -11,6 +11,9 @@ use Rattle.requests.specs.declared.reply.RequestRefusal.TheVariants.{ItemNotVali
 use Rattle.requests.specs.declared.request.NewOrder.{NewOrder}
 use Rattle.requests.specs.declared.request.OrderedLine.{OrderedLine}
 use Rattle.tpcc_model.specs.NewOrders.{LineCards, LineItem, found_cards, found_item, found_lines, found_stock}
+use Rattle.serializability.specs.Footprints.{Footprint}
+use Rattle.tpcc_model.specs.Touches.{touch_by}
+use Rattle.tpcc_rows.specs.declared.granule.Granule.{Granule}
 use Rattle.tpcc_model.specs.Staging.{◌>>=◌, for_each, known}
 use Rattle.profiles.specs.Found.{has_cards}
 
@@ -56,3 +59,8 @@ module _ (cards : Cards) where
       is_ok-there (district_card cards p.warehouse p.district) UnknownKey _ _ λ district.
       is_ok-there (customer_card cards p.warehouse p.district p.customer) UnknownKey _ _ λ customer.
       is_ok-more (found_lines cards p.lines) _ ∙ lines_found p.lines
+
+-- what is touched where a card is there
+pub touched_there : {A : Type 0} (o : Option A) (touch : Footprint Granule) → is_some o ≡ true → touch_by (λ card. touch) (known o) ≡ touch
+touched_there (Some card) touch there = refl
+touched_there None touch there = cc

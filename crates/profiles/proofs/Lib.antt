@@ -1,3 +1,7 @@
 pub mod Joining
 pub mod FoundCards
 pub mod RecentTouches
+pub mod NewOrders
+pub mod Declarations
+pub mod Counts
+pub mod Walks

@@ -1,1 +1,4 @@
+pub mod Declarations
+pub mod Earlier
 pub mod Found
+pub mod Places

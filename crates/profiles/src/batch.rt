@@ -1,31 +1,125 @@
-//! The choice of the transaction.
-ghost use Rattle.std.specs.Prelude.{◌≡◌, IfOk};
+//! What the requests of a batch declare, told on threads.
+ghost use Rattle.std.specs.Prelude.{◌≡◌, ◌<◌, IfOk, Some, length, map, slice_get};
+ghost use Rattle.profiles.specs.Declarations.{declared, declared_after};
+ghost use Rattle.profiles.specs.Earlier.{before};
+ghost use Rattle.profiles.specs.Places.{AreDeclared, IsDeclared};
 ghost use Rattle.tpcc_model.specs.Database.{database};
-ghost use Rattle.tpcc_model.specs.Touches.{touch};
+ghost use Rattle.tpcc_model.specs.Soundness.{IsSound};
 
+use crate::earlier::{Counted, count};
 use crate::{delivery, new_order, order_status, payment, stock_level};
 use catalog::Catalog;
 use requests::request::Request;
 use rollback::PointedStore;
 use std::alloc::Global;
+use std::thread::{self, Threads};
 use tpcc_rows::footprint::Footprint;
 use tpcc_rows::memory::Memory;
 
-/// What a request reads and writes where it meets these rows. The database stays as it is.
+/// A thread declares so many requests at least: so many that it is worth its start.
+const REQUESTS_A_THREAD: usize = 64;
+
+/// On how many threads so many requests are declared, of so many at most.
+fn threads_for(requests: usize, most: usize) -> usize
+    ensures { 0 < result }
+{
+    (requests / REQUESTS_A_THREAD).clamp(1, most.max(1))
+}
+
+/// What a request declares that stands at this place of the batch.
 #[tactic(auto, unfolding(tpcc_model::specs::Touches::touch))]
-pub fn declare(
+fn declare_at(
     alloc: Global,
     catalog: &Catalog,
     request: &Request,
+    batch: &Counted<'_>,
+    place: usize,
     store: &PointedStore,
 ) -> Result<Footprint, Memory>
-    ensures { IfOk result (λ footprint. footprint ≡ touch (database catalog.now store.now.rows) request.now) }
+    requires place { place < length batch.now.requests.now }
+    requires there { slice_get batch.now.requests.now place ≡ Some request.now }
+    ensures { IsSound (database catalog.now store.now.rows)
+        → IfOk result (λ footprint. footprint ≡ declared_after (database catalog.now store.now.rows) (before batch.now.requests.now place) request.now) }
 {
+    let known = batch.known(place, request);
     match request {
         Request::NewOrder(p) => new_order::declare(alloc, catalog, p),
         Request::Payment(p) => payment::declare(alloc, catalog, p),
         Request::OrderStatus(p) => order_status::declare(alloc, catalog, p),
-        Request::Delivery(p) => delivery::declare(alloc, catalog, p, store),
-        Request::StockLevel(p) => stock_level::declare(alloc, catalog, p, store),
+        Request::Delivery(p) => delivery::declare(alloc, catalog, p, known, store),
+        Request::StockLevel(p) => {
+            stock_level::declare(alloc, catalog, p, batch, place, known, store)
+        }
     }
+}
+
+/// A place for what each of so many requests declares.
+fn places(alloc: Global, count: usize) -> Result<Vec<Option<Footprint>>, Memory>
+    ensures { IfOk result (λ places. length places.items ≡ count) }
+{
+    let mut places = Vec::with_capacity(alloc, count)?;
+    for _n in 0..count {
+        places.push(None)?;
+    }
+    Ok(places)
+}
+
+/// Fills the place of each request with what it declares, on so many threads at most. Where memory is refused, it has nothing.
+fn fill<R: Threads + Sync>(
+    rt: &R,
+    alloc: Global,
+    catalog: &Catalog,
+    batch: &Counted<'_>,
+    store: &PointedStore,
+    places: &mut [Option<Footprint>],
+    threads: usize,
+)
+    requires threads { 0 < threads }
+    requires each { length places.old ≡ length batch.now.requests.now }
+    ensures { AreDeclared (database catalog.now store.now.rows) batch.now.requests.now places.new }
+{
+    thread::for_each_mut(
+        rt,
+        places,
+        threads,
+        &|n: usize, place: &mut Option<Footprint>|
+            requires { n < length batch.now.requests.now }
+            ensures { IsDeclared (database catalog.entry.now store.entry.now.rows) batch.entry.now.requests.now n place.new }
+        {
+            *place = declare_at(alloc, catalog, batch.request(n), batch, n, store).ok();
+        },
+    );
+}
+
+/// The footprints at all places, unless one has none.
+fn taken(alloc: Global, places: Vec<Option<Footprint>>) -> Result<Vec<Footprint>, Memory>
+    ensures { IfOk result (λ footprints. map Some footprints.items ≡ places.items) }
+{
+    let mut footprints = Vec::with_capacity(alloc, places.len())?;
+    for place in places {
+        footprints.push(place.ok_or(Memory)?)?;
+    }
+    Ok(footprints)
+}
+
+/// What each request of a batch will read and write, told as the batch begins, on so many threads at most.
+pub fn declare_batch<R: Threads + Sync>(
+    rt: &R,
+    alloc: Global,
+    catalog: &Catalog,
+    requests: &[Request],
+    store: &PointedStore,
+    threads: usize,
+) -> Result<Vec<Footprint>, Memory>
+    ensures { IsSound (database catalog.now store.now.rows) → IfOk result (λ footprints. footprints.items ≡ declared (database catalog.now store.now.rows) requests.now) }
+{
+    let known = count(alloc, requests)?;
+    let batch = Counted {
+        requests,
+        known: known.as_slice(),
+    };
+    let mut places = places(alloc, requests.len())?;
+    let threads = threads_for(requests.len(), threads);
+    fill(rt, alloc, catalog, &batch, store, &mut places, threads);
+    taken(alloc, places)
 }

@@ -1,11 +1,12 @@
-//! Profiles: what a request will touch, told before its batch runs.
+//! Profiles: what the requests of a batch will touch, told before it runs.
 #![tactic(auto)]
 
+mod batch;
 mod delivery;
+mod earlier;
 mod new_order;
 mod order_status;
 mod payment;
-mod profile;
 mod stock_level;
 
-pub use profile::declare;
+pub use batch::declare_batch;

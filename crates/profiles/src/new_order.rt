@@ -31,7 +31,7 @@ fn have_cards(catalog: &Catalog, lines: &[OrderedLine]) -> bool
 
 /// Whether each key of the order has its card.
 #[tactic(auto, using(crate::proofs::FoundCards::all_found))]
-fn has_cards(catalog: &Catalog, p: &NewOrder) -> bool
+pub(crate) fn has_cards(catalog: &Catalog, p: &NewOrder) -> bool
     ensures { result ≡ is_ok (found_cards catalog.now p.now) }
 {
     catalog.warehouse(p.warehouse).is_some()
