@@ -1,0 +1,4 @@
+pub mod Covered
+pub mod CoveredLimits
+pub mod Collisions
+pub mod EqualTokens
