@@ -1,9 +1,7 @@
 -- What is written of rows, cards and replies is bytes.
-use Rattle.std.proofs.Common.{◌≡◌, ℕ, zero, suc, ◌<◌, ◌≤◌, ◌*◌, ◌+◌, ℤ, Bool, true, false, List, [], ◌∷◌, ◌++◌, All, length, Option, Some, None, IfSome, refl, arith, codes}
-use Rattle.std.specs.Int.{byte_at, bytes_high_first, to_be_bytes, w32}
+use Rattle.std.proofs.Common.{ℕ, zero, suc, ◌<◌, Bool, true, false, List, length, Option, Some, None, IfSome, arith}
+use Rattle.std.specs.Int.{byte_at, bytes_high_first}
 use Rattle.std.specs.Prelude.{slice_index, unwrap_or}
-use Rattle.std.specs.FinMap.{entries}
-use Rattle.std.specs.List.{AllByRecursion, flat_map}
 use Rattle.sha2.specs.Sha256.{digest_bytes, final_hash, initial_hash_256, sha256}
 use Rattle.tpcc_rows.specs.Encodings.{bytes_16, bytes_32, bytes_64, flag, maybe_moment, short_text, sized}
 use Rattle.tpcc_rows.specs.Limits.{IsBetween}

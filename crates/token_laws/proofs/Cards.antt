@@ -1,13 +1,12 @@
 -- Cards can be told apart by the text of the catalog, which is of bytes.
-use Rattle.std.proofs.Common.{◌≡◌, ℕ, ◌+◌, ◌<◌, ◌^◌, zero, suc, List, [], ◌∷◌, ◌++◌, codes, length, length-append, append-nil, append_assoc, refl, sym, ap, ◌∙◌, arith}
+use Rattle.std.proofs.Common.{◌≡◌, ℕ, ◌<◌, ◌^◌, List, [], ◌∷◌, ◌++◌, length, length-append, append-nil, append_assoc, refl, sym, ap, ◌∙◌, arith}
 use Rattle.std.specs.Cmp.{nat_cmp_is}
-use Rattle.std.specs.Ordering.{nat_cmp}
 use Rattle.std.specs.FinMap.{entries, same_entries_map}
 use Rattle.std.specs.List.{AllByRecursion, flat_map}
 use Rattle.std.specs.declared.cmp.Ordering.TheVariants.{Equal}
 use Rattle.catalog.specs.CardBytes.{IsCardKey, card_body, card_bytes, card_code, cards_bytes, credit_text}
 use Rattle.catalog.specs.CardKinds.{card_key}
-use Rattle.catalog.specs.CardMap.{Cards, card_key_cmp}
+use Rattle.catalog.specs.CardMap.{Cards}
 use Rattle.catalog.specs.declared.card.Card.{Card}
 use Rattle.catalog.specs.declared.card.Card.TheVariants as card
 use Rattle.catalog.specs.declared.card.CardKey.{CardKey}
@@ -22,8 +21,7 @@ use Rattle.catalog.specs.declared.card.WarehouseCard.{WarehouseCard}
 use Rattle.catalog.proofs.CardCodes.{order_is_of_card_codes}
 use Rattle.catalog.proofs.CardKeys.{card_key_cmp_total, exact_cards}
 use Rattle.tpcc_model.specs.Soundness.{IsCard}
-use Rattle.tpcc_rows.specs.Codes.{IsKey, code}
-use Rattle.tpcc_rows.specs.Encodings.{bytes_16, bytes_32, bytes_64, short_text, sized}
+use Rattle.tpcc_rows.specs.Encodings.{bytes_16, bytes_64, short_text, sized}
 use Rattle.tpcc_rows.specs.declared.key.RowKey.TheVariants as row_key
 use Rattle.tpcc_rows.specs.Texts.{IsText}
 use Rattle.tpcc_rows.proofs.Fields.{IsApart, after_16, byte, numbers_16, numbers_32, numbers_64, short_texts}

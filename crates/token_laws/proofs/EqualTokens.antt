@@ -1,12 +1,10 @@
 -- Equal tokens cover the same, or the search finds a collision.
-use Rattle.std.proofs.Common.{◌≡◌, ◌⊎◌, inl, inr, ℕ, ◌<◌, ◌^◌, List, [], ◌∷◌, ◌++◌, codes, length, append_assoc, Option, Some, None, find, zip, refl, sym, ap, ◌∙◌, arith}
+use Rattle.std.proofs.Common.{◌≡◌, ◌⊎◌, inl, inr, ℕ, List, ◌∷◌, ◌++◌, codes, length, append_assoc, Option, Some, None, find, zip, refl, sym, ◌∙◌, arith}
 use Rattle.std.specs.List.{AllByRecursion}
 use Rattle.std.specs.Prelude.{IsSomeAnd}
 use Rattle.std.proofs.lemmas.List.{append_cancel_left}
-use Rattle.sha2.specs.Sha256.{sha256}
 use Rattle.sha2.proofs.Facts256.{length-sha256}
 use Rattle.catalog.specs.CardBytes.{catalog_digest}
-use Rattle.tpcc_model.specs.Database.{Database}
 use Rattle.tpcc_model.specs.Roots.{root}
 use Rattle.tpcc_model.specs.Tokens.{replies_bytes, replies_digest, token_of}
 use Rattle.tpcc_rows.specs.Encodings.{bytes_64}
@@ -17,7 +15,7 @@ use Rattle.token_laws.specs.CoveredLimits.{AreBytes, IsWithinLimits}
 use Rattle.token_laws.specs.EqualTokens.{AreSame, EqualTokens}
 use Rattle.token_laws.proofs.Bytes.{bytes-64, bytes-sha256}
 use Rattle.token_laws.proofs.Cards.{cards_apart, catalog-bytes}
-use Rattle.token_laws.proofs.Lists.{bytes-append, bytes-cons, no_bytes}
+use Rattle.token_laws.proofs.Lists.{bytes-append}
 use Rattle.token_laws.proofs.Replies.{replies-bytes, replies_apart}
 use Rattle.token_laws.proofs.Rows.{rows_apart}
 use Rattle.token_laws.proofs.Search.{found, is_collision, no_collision, none_found, root-bytes, root-length, same_tree, tree-bytes, zip-all}

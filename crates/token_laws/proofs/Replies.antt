@@ -1,5 +1,5 @@
 -- Replies and their numbers can be told apart by their text, which is of bytes.
-use Rattle.std.proofs.Common.{◌≡◌, ◌⊎◌, inl, inr, ℕ, ◌+◌, ◌<◌, ◌≤◌, ◌^◌, zero, suc, List, [], ◌∷◌, ◌++◌, codes, length, length-append, append_assoc, Option, Some, None, IfSome, refl, sym, ap, ◌∙◌, arith}
+use Rattle.std.proofs.Common.{◌≡◌, ◌⊎◌, inl, inr, ℕ, ◌+◌, ◌<◌, ◌≤◌, ◌^◌, List, [], ◌∷◌, ◌++◌, length, length-append, append_assoc, Option, Some, None, IfSome, refl, sym, ap, ◌∙◌, arith}
 use Rattle.std.specs.List.{AllByRecursion, flat_map}
 use Rattle.std.specs.Prelude.{unwrap_or}
 use Rattle.requests.specs.Replies.{brand_text}
@@ -22,8 +22,7 @@ use Rattle.requests.specs.declared.reply.StockLevelReply.{StockLevelReply}
 use Rattle.requests.specs.declared.request.RequestKind.{RequestKind}
 use Rattle.requests.specs.declared.request.RequestKind.TheVariants as kind
 use Rattle.tpcc_model.specs.Tokens.{credit_bytes, kind_code, last_order_bytes, line_reply_bytes, new_order_bytes, order_or_zero, order_status_bytes, outcome_bytes, payment_bytes, refusal_status, replies_bytes, reply_bytes, shown_line_bytes, shown_order_bytes}
-use Rattle.tpcc_rows.specs.Encodings.{bytes_16, bytes_32, bytes_64, maybe_moment, short_text, signed_32, signed_64}
-use Rattle.tpcc_rows.specs.Limits.{IsBetween}
+use Rattle.tpcc_rows.specs.Encodings.{bytes_16, bytes_32, bytes_64, short_text, signed_64}
 use Rattle.tpcc_rows.specs.declared.id.TheConstants.{END_OF_NUMBERS}
 use Rattle.tpcc_rows.proofs.Fields.{IsApart, byte, carriers, cents, moment_fits, moments, numbers_16, numbers_32, numbers_64, short_texts, stock_quantities}
 use Rattle.tpcc_rows.proofs.Lengths.{length-bytes_64}

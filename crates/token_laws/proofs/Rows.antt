@@ -1,12 +1,9 @@
 -- Rows can be told apart by the texts of their leaves, which are of bytes.
-use Rattle.std.proofs.Common.{◌≡◌, ℕ, ◌+◌, ◌<◌, Bool, true, false, cond, eqb, List, [], ◌∷◌, ◌++◌, length, length-append, append-nil, Option, Some, None, refl, sym, ap, ◌∙◌, eq-eqb, arith}
+use Rattle.std.proofs.Common.{◌≡◌, ℕ, ◌<◌, cond, eqb, List, [], ◌∷◌, ◌++◌, length, length-append, append-nil, None, refl, sym, ap, ◌∙◌, eq-eqb, arith}
 use Rattle.std.specs.FinMap.{entries, get, get-retain_keys, same_map, same_entries_map}
-use Rattle.std.specs.FinMap.Entries.{where_key}
 use Rattle.std.specs.List.{AllByRecursion, flat_map}
-use Rattle.std.specs.declared.cmp.Ordering.TheVariants.{Equal}
-use Rattle.std.specs.Prelude.{unwrap_or}
 use Rattle.tpcc_rows.specs.Codes.{code}
-use Rattle.tpcc_rows.specs.Encodings.{IsWritable, bytes_16, bytes_32, bytes_64, flag, maybe_moment, row_body, row_bytes, rows_bytes, short_text, signed_32, signed_64, sized}
+use Rattle.tpcc_rows.specs.Encodings.{IsWritable, bytes_64, row_body, row_bytes, rows_bytes, sized}
 use Rattle.tpcc_rows.specs.Leaves.{leaf, page_rows}
 use Rattle.tpcc_rows.specs.RowLimits.{IsRow}
 use Rattle.tpcc_rows.specs.RowMap.{Rows, row_key_cmp}

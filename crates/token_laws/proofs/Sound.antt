@@ -1,5 +1,5 @@
 -- The values of a sound database are within their limits.
-use Rattle.std.proofs.Common.{◌≡◌, ℕ, ◌≤◌, true, Option, Some, None, IsSome, refl, subst, arith}
+use Rattle.std.proofs.Common.{◌≡◌, ℕ, Option, Some, None, IsSome, refl, subst, arith}
 use Rattle.std.specs.FinMap.{get}
 use Rattle.std.specs.Option.{option_and_then}
 use Rattle.catalog.specs.CardBytes.{IsCardKey}
@@ -12,8 +12,6 @@ use Rattle.tpcc_model.specs.Database.{Database}
 use Rattle.tpcc_model.specs.Soundness.{AreCards, IsEntry, IsOrder, IsSound}
 use Rattle.tpcc_rows.specs.Codes.{IsKey}
 use Rattle.tpcc_rows.specs.Encodings.{IsWritable}
-use Rattle.tpcc_rows.specs.RowKinds.{fits}
-use Rattle.tpcc_rows.specs.RowLimits.{IsRow}
 use Rattle.tpcc_rows.specs.declared.key.RowKey.{RowKey}
 use Rattle.tpcc_rows.specs.declared.key.RowKey.TheVariants as key
 use Rattle.tpcc_rows.specs.declared.row.OrderRow.{OrderRow}
