@@ -1,5 +1,5 @@
 -- The words that the program takes, and the line that they are.
-use Rattle.std.specs.Prelude.{[], ◌∷◌, ◌≡◌, ℕ, ⊤, IfOk, IsSomeAnd, List, Option, Result, Some, String, codes, false, option_map, pos}
+use Rattle.std.specs.Prelude.{[], ◌∷◌, ◌≡◌, ℕ, ⊤, Bool, if◌then◌else◌, IfOk, IsSomeAnd, List, Option, Result, Some, String, codes, false, option_map, pos}
 use Rattle.std.specs.Prelude.{string_bytes, true}
 use Rattle.std.specs.Int.{IsInRange}
 use Rattle.std.specs.Str.Parse.{IsNumeral, digits_value, without_leading_plus}
@@ -9,6 +9,7 @@ use Rattle.clap.specs.Words.{App, IsAmong, Kinds, Row, Rule, Text, app_of, first
 use Rattle.clap.specs.Words.{found_of, kind_of, new_app, new_rule, rows_of}
 use Rattle.clap.specs.Words.{rule_of, with_rule, with_subcommand}
 use Rattle.clap.specs.Simple.{on_top}
+use Rattle.clap.specs.declared.builder.action.ArgAction.TheVariants.{SetTrue}
 use Rattle.clap.specs.declared.builder.arg.Arg.{Arg}
 use Rattle.clap.specs.declared.builder.command.Command.{Command}
 use Rattle.clap.specs.declared.builder.command.Command.TheViews.{out-Command}
@@ -66,10 +67,24 @@ store_rule = record (new_rule (codes "store")) {
   value_names = 1;
 }
 
--- run IMAGE BATCHES [--workers N] [--store FILE]
+-- the option `--from SEQ,NEXT,TOKEN`
+abbrev pub from_rule : Rule
+from_rule = record (new_rule (codes "from")) {
+  long = Some (codes "from");
+  value_names = 1;
+}
+
+-- the flag `--at`
+abbrev pub at_rule : Rule
+at_rule = record (new_rule (codes "at")) {
+  long = Some (codes "at");
+  action = Some SetTrue;
+}
+
+-- run IMAGE BATCHES [--workers N] [--store FILE] [--from SEQ,NEXT,TOKEN] [--at]
 abbrev pub run_app : App
-run_app = with_rule (with_rule (with_rule (with_rule (new_app (codes "run")) image_rule) batches_rule)
-    workers_rule) store_rule
+run_app = with_rule (with_rule (with_rule (with_rule (with_rule (with_rule (new_app (codes "run")) image_rule) batches_rule)
+    workers_rule) store_rule) from_rule) at_rule
 
 -- check IMAGE
 abbrev pub check_app : App
@@ -80,9 +95,9 @@ abbrev pub make_app : App
 make_app = with_rule (with_rule (with_rule (new_app (codes "make")) warehouses_rule) customers_rule)
     items_rule
 
--- serve IMAGE [--workers N]
+-- serve IMAGE [--workers N] [--from SEQ,NEXT,TOKEN]
 abbrev pub serve_app : App
-serve_app = with_rule (with_rule (new_app (codes "serve")) image_rule) workers_rule
+serve_app = with_rule (with_rule (with_rule (new_app (codes "serve")) image_rule) workers_rule) from_rule
 
 -- the program without its subcommands, one of which has to be given; it has a version
 abbrev pub bare_app : App
@@ -121,6 +136,10 @@ HasText rows id text = first_of id rows ≡ Some (string_bytes text)
 abbrev pub HasOption : List Row → Text → Option (String Global) → Type 0
 HasOption rows id text = first_of id rows ≡ option_map string_bytes text
 
+-- whether the flag with this id was given
+abbrev pub HasFlag : List Row → Text → Bool → Type 0
+HasFlag rows id given = first_of id rows ≡ Some (if given then codes "true" else codes "false")
+
 -- the text is this number in decimal digits, behind a plus or nothing
 abbrev pub Spells : Text → ℕ → Type 0
 Spells text number =
@@ -133,25 +152,28 @@ HasNumber rows id number = IsSomeAnd (first_of id rows) (λ text. Spells text nu
 
 -- the line is that of the subcommand that was met, by its name and its rows
 abbrev pub IsLineOf : Line → Text × List Row → Type 0
-IsLineOf (Run image batches workers store) met =
+IsLineOf (Run image batches workers store from at) met =
     (met.0 ≡ codes "run") × HasText met.1 (codes "IMAGE") image
     × HasText met.1 (codes "BATCHES") batches
     × HasNumber met.1 (codes "workers") workers
     × HasOption met.1 (codes "store") store
+    × HasOption met.1 (codes "from") from
+    × HasFlag met.1 (codes "at") at
 IsLineOf (Check image) met = (met.0 ≡ codes "check") × HasText met.1 (codes "IMAGE") image
 IsLineOf (Make warehouses customers items) met =
     (met.0 ≡ codes "make") × HasNumber met.1 (codes "W") warehouses
     × HasNumber met.1 (codes "C") customers × HasNumber met.1 (codes "I") items
-IsLineOf (Serve image workers) met =
+IsLineOf (Serve image workers from) met =
     (met.0 ≡ codes "serve") × HasText met.1 (codes "IMAGE") image × HasNumber met.1 (codes "workers") workers
+    × HasOption met.1 (codes "from") from
 
 -- the numbers of the line are within their bounds
 abbrev pub IsWithinBounds : Line → Type 0
-IsWithinBounds (Run image batches workers store) = IsInRange 1 64 workers
+IsWithinBounds (Run image batches workers store from at) = IsInRange 1 64 workers
 IsWithinBounds (Check image) = ⊤
 IsWithinBounds (Make warehouses customers items) =
     IsInRange 1 100 warehouses × IsInRange 1 3000 customers × IsInRange 1 100000 items
-IsWithinBounds (Serve image workers) = IsInRange 1 64 workers
+IsWithinBounds (Serve image workers from) = IsInRange 1 64 workers
 
 -- ---- why the words are no line
 

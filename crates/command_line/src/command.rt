@@ -2,12 +2,12 @@
 ghost use Rattle.std.specs.Prelude.{◌≡◌, ◌≤◌, IfOk, pos};
 ghost use Rattle.clap.specs.Words.{new_app};
 ghost use Rattle.clap.specs.declared.builder.value_parser.ValueParser.TheVariants.{Signed};
-ghost use Rattle.command_line.specs.CommandLine.{IsArgument, IsCommand, Joins, bare_app, check_app, make_app};
+ghost use Rattle.command_line.specs.CommandLine.{IsArgument, IsCommand, Joins, at_rule, bare_app, check_app, from_rule, make_app};
 ghost use Rattle.command_line.specs.CommandLine.{number_rule, program_app, ranged_rule, required_rule, run_app};
 ghost use Rattle.command_line.specs.CommandLine.{serve_app, store_rule, workers_rule};
 
 use clap::builder::ValueParser;
-use clap::{Arg, Command, value_parser};
+use clap::{Arg, ArgAction, Command, value_parser};
 use std::alloc::{AllocError, Global};
 
 /// The version of the program.
@@ -68,6 +68,24 @@ fn store<'a>(alloc: Global) -> Arg<'a>
         .help("A file to write the database's image to, as the batches leave it")
 }
 
+fn from<'a>(alloc: Global) -> Arg<'a>
+    ensures { IsArgument from_rule result }
+{
+    Arg::new(alloc, "from")
+        .long("from")
+        .value_name("SEQ,NEXT,TOKEN")
+        .help("Where the image's state stands, as --at or the command A told it")
+}
+
+fn at<'a>(alloc: Global) -> Arg<'a>
+    ensures { IsArgument at_rule result }
+{
+    Arg::new(alloc, "at")
+        .long("at")
+        .action(ArgAction::SetTrue)
+        .help("Tells on standard error where the last state stands: at,SEQ,NEXT,TOKEN")
+}
+
 // A command of this name, whose help says what it does and what the files are.
 fn described<'a>(alloc: Global, name: &'a str, about: &'a str) -> Command<'a>
     ensures { IsCommand (new_app name.entry.now) result }
@@ -86,7 +104,9 @@ fn run<'a>(alloc: Global) -> Result<Command<'a>, AllocError>
     .arg(required(alloc, "IMAGE", IMAGE))?
     .arg(required(alloc, "BATCHES", "The file of the batches"))?
     .arg(workers(alloc))?
-    .arg(store(alloc))
+    .arg(store(alloc))?
+    .arg(from(alloc))?
+    .arg(at(alloc))
 }
 
 fn check<'a>(alloc: Global) -> Result<Command<'a>, AllocError>
@@ -118,7 +138,8 @@ fn serve<'a>(alloc: Global) -> Result<Command<'a>, AllocError>
         "Answers commands from standard input, one by one, on the database of an image",
     )
     .arg(required(alloc, "IMAGE", IMAGE))?
-    .arg(workers(alloc))
+    .arg(workers(alloc))?
+    .arg(from(alloc))
 }
 
 // The program without its subcommands. Its name stands in the usage as it is given here, whatever

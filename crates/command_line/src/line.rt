@@ -24,6 +24,10 @@ pub enum Line {
         workers: Workers,
         /// The path of a file to write the database's image to, as the batches leave it, where one is given.
         store: Option<String>,
+        /// Where the image's state stands, as it was told: `SEQ,NEXT,TOKEN`. Before any batch where it isn't given.
+        from: Option<String>,
+        /// Whether it is told where the last state stands.
+        at: bool,
     },
     /// To check the image of a database.
     Check {
@@ -45,6 +49,8 @@ pub enum Line {
         image: String,
         /// The number of workers: 1 where it isn't given.
         workers: Workers,
+        /// Where the image's state stands, as it was told: `SEQ,NEXT,TOKEN`. Before any batch where it isn't given.
+        from: Option<String>,
     },
 }
 

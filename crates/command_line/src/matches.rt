@@ -3,7 +3,7 @@ ghost use Rattle.std.specs.Prelude.{◌≡◌, [], IfErr, IfOk, IfSome, IsSomeAn
 ghost use Rattle.std.specs.Prelude.{string_bytes};
 ghost use Rattle.std.specs.Int.{IsInRange};
 ghost use Rattle.clap.specs.Words.{fault_of, first_of, subcommand_of, subcommand_rows_of};
-ghost use Rattle.command_line.specs.CommandLine.{HasNumber, HasOption, HasText, IsFaultOf, IsLineOf};
+ghost use Rattle.command_line.specs.CommandLine.{HasFlag, HasNumber, HasOption, HasText, IsFaultOf, IsLineOf};
 ghost use Rattle.command_line.specs.CommandLine.{IsWithinBounds, program_app, rows_in};
 
 use crate::command::program;
@@ -47,6 +47,17 @@ fn option_of(alloc: Global, matches: &ArgMatches, id: &str) -> Result<Option<Str
     Ok(Some(String::from_str(alloc, value)?))
 }
 
+/// Whether a flag was given.
+fn flag_of(matches: &ArgMatches, id: &str) -> Option<bool>
+    ensures { IfSome result (HasFlag (rows_in matches.now) id.now) }
+{
+    match value_of(matches, id)? {
+        "true" => Some(true),
+        "false" => Some(false),
+        _ => None,
+    }
+}
+
 /// The number between these that an argument spells.
 fn number_of(matches: &ArgMatches, id: &str, least: u32, most: u32) -> Option<u32>
     ensures number { IfSome result (HasNumber (rows_in matches.now) id.now) }
@@ -70,6 +81,8 @@ fn run_in(alloc: Global, matches: &ArgMatches) -> Option<Line>
         batches: text_of(alloc, matches, "BATCHES")?,
         workers: Workers::new(workers as usize)?,
         store: option_of(alloc, matches, "store").ok()?,
+        from: option_of(alloc, matches, "from").ok()?,
+        at: flag_of(matches, "at")?,
     })
 }
 
@@ -100,6 +113,7 @@ fn serve_in(alloc: Global, matches: &ArgMatches) -> Option<Line>
     Some(Line::Serve {
         image: text_of(alloc, matches, "IMAGE")?,
         workers: Workers::new(workers as usize)?,
+        from: option_of(alloc, matches, "from").ok()?,
     })
 }
 

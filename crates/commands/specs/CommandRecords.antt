@@ -18,13 +18,14 @@ alone_at fields c = of_count 1 fields (Ok c)
 abbrev pub rollback_at : Fields → Result Control Slip
 rollback_at fields = of_count 2 fields (number_at fields 1 0 LAST_SEQUENCE >>= (λ n. Ok (control.RollbackTo n)))
 
--- `C`, `R,sequence`, `T`, `I`, or the record that begins a batch
+-- `C`, `R,sequence`, `T`, `I`, `A`, or the record that begins a batch
 abbrev pub opening_at : Fields → Result Opening Slip
 opening_at fields =
     if is_text (codes "C") (field_at fields 0) then alone_at fields control.Commit >>= (λ c. Ok (opening.Control c))
     else if is_text (codes "R") (field_at fields 0) then rollback_at fields >>= (λ c. Ok (opening.Control c))
     else if is_text (codes "T") (field_at fields 0) then alone_at fields control.State >>= (λ c. Ok (opening.Control c))
     else if is_text (codes "I") (field_at fields 0) then alone_at fields control.Image >>= (λ c. Ok (opening.Control c))
+    else if is_text (codes "A") (field_at fields 0) then alone_at fields control.At >>= (λ c. Ok (opening.Control c))
     else head_at fields >>= (λ head. Ok (opening.Batch head))
 
 -- a batch that begins has at most 1,024 requests

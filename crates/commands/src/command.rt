@@ -12,6 +12,8 @@ pub enum Control {
     State,
     /// The image of the present state is written.
     Image,
+    /// Where the present state stands is told.
+    At,
 }
 
 /// What a session is told to do.

@@ -56,5 +56,8 @@ pub(crate) fn opening_at(fields: &ByteRecord) -> Result<Opening, Slip>
     if has_text(fields, 0, b"I") {
         return Ok(Opening::Control(alone(fields, Control::Image)?));
     }
+    if has_text(fields, 0, b"A") {
+        return Ok(Opening::Control(alone(fields, Control::At)?));
+    }
     Ok(Opening::Batch(batch_head(fields)?))
 }

@@ -4,6 +4,7 @@ pub mod States
 pub mod Laws
 pub mod Refusals
 pub mod Lines
+pub mod Stamps
 pub mod Calls
 pub mod Filing
 pub mod PlannedLevels

@@ -6,6 +6,7 @@ ghost use Rattle.executor.specs.Executions.{IsRecordOf, IsRefusedFor, path_in, r
 ghost use Rattle.executor.specs.Headline.{Headline, completed};
 ghost use Rattle.executor.specs.Lines.{HasNone, IsReturned, committed, extended, opening_line, states};
 ghost use Rattle.executor.specs.Paths.{path_of};
+ghost use Rattle.executor.specs.Stamps.{IsWithinLimits, resumed, stamp_of};
 ghost use Rattle.executor.specs.States.{IsSoundState};
 ghost use Rattle.executor.specs.declared.path.Path.TheVariants as path;
 ghost use Rattle.executor.specs.declared.refusal.Refusal.TheVariants as refusal;
@@ -19,7 +20,7 @@ use crate::next_batch::{LAST_NUMBER, MOST_REQUESTS, NextBatch};
 use crate::opening::{beside_digest, next_number};
 use crate::record::Record;
 use crate::refusal::Refusal;
-use crate::stamp::Stamp;
+use crate::stamp::{NumbersTaken, Stamp};
 use arrayvec::ArrayVec;
 use catalog::Catalog;
 use hashers::Host;
@@ -165,6 +166,35 @@ impl Executor {
         ensures { result ≡ self.now.present.next }
     {
         self.present.next
+    }
+
+    /// Where the present state stands.
+    pub fn stamp(&self) -> Stamp
+        ensures { result ≡ stamp_of self.now.present }
+    {
+        self.present
+    }
+
+    /// The present state stands here from now on, so that a database which was stored goes on as if it had stayed. The numbers of
+    /// requests only rise.
+    pub fn resume(&mut self, stamp: &Stamp) -> Result<(), NumbersTaken>
+        requires alone { self.old.earlier ≡ [] }
+        requires within { IsWithinLimits stamp.now }
+        ensures line { OnOk result (self.new ≡ resumed self.old stamp.now) }
+        ensures taken { IsErr result ↔ (stamp.now.next < self.old.present.next) }
+        ensures least { IfErr result (λ e. e.least ≡ self.old.present.next) }
+        ensures sound { IsSoundState self.new.cards self.new.present }
+        ensures err { OnErr result (self.new ≡ self.old) }
+    {
+        self.keep_sound();
+        if stamp.next < self.present.next {
+            return Err(NumbersTaken {
+                least: self.present.next,
+            });
+        }
+        self.present = *stamp;
+        self.keep_sound();
+        Ok(())
     }
 
     /// The present state is sound.

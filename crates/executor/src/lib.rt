@@ -27,3 +27,4 @@ pub use opening::beside_digest;
 pub use record::Record;
 pub use refusal::Refusal;
 pub use run::RunEnd;
+pub use stamp::{NumbersTaken, Stamp};

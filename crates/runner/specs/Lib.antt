@@ -6,3 +6,4 @@ pub mod Openings
 pub mod MadeTexts
 pub mod CheckTexts
 pub mod StoredRuns
+pub mod StampText

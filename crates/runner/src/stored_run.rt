@@ -5,7 +5,7 @@ ghost use Rattle.executor.specs.States.{IsSoundState};
 ghost use Rattle.runner.specs.Runs.{is_write};
 ghost use Rattle.runner.specs.StoredRuns.{IsOfStoredDatabase, LeavesStore, LeavesStoredRun, LeavesStoredState, StoredBehind, StoredFrom, StoredWhole};
 ghost use Rattle.runner.specs.StoredRuns.{in_run, in_store, is_of_tables, is_store_write, state_image};
-ghost use Rattle.runner.specs.WholeRuns.{IsOfDatabase, is_batches_read, is_image_read};
+ghost use Rattle.runner.specs.WholeRuns.{IsOfDatabase, is_batches_read, is_image_read, line_after};
 
 use crate::crew::Crew;
 use crate::fault::RunFault;
@@ -81,7 +81,7 @@ fn store_behind<K: Sink>(
 
 /// Reads all bytes of batches, runs them on the state that an executor has, and then writes the image of the state behind the last
 /// one whose text was written.
-fn store_read<R: Host, B: Source, S: Sink, K: Sink, G: Gate>(
+pub(crate) fn store_read<R: Host, B: Source, S: Sink, K: Sink, G: Gate>(
     crew: &Crew<'_, R, G>,
     executor: &mut Executor,
     batches: &mut B,
@@ -97,6 +97,8 @@ fn store_read<R: Host, B: Source, S: Sink, K: Sink, G: Gate>(
     ensures ok { IfOk result (λ count. IfSome (B.left batches.old) (λ batch_bytes.
         StoredFrom executor.old.cards executor.old.present batch_bytes
         (S.taken sink.old) (S.taken sink.new) (K.taken tables.old) (K.taken tables.new) count)) }
+    ensures line { OnOk result (IfSome (B.left batches.old) (λ batch_bytes.
+        executor.new ≡ line_after executor.old.cards executor.old.present batch_bytes)) }
     ensures err { IfErr result (λ e. IfSome (B.left batches.old) (λ batch_bytes.
         LeavesStoredState e executor.old.cards executor.old.present batch_bytes
         (S.taken sink.old) (S.taken sink.new) (K.taken tables.old) (K.taken tables.new))) }

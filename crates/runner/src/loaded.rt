@@ -1,0 +1,92 @@
+//! Runs on an executor that the caller has: what it holds before, and where its state stands behind the run, is the caller's to see.
+ghost use Rattle.std.specs.Prelude.{◌≡◌, ◌+◌, ◌<◌, ◌≤◌, ◌^◌, [], IfErr, IfOk, IfSome, OnOk, if◌then◌else◌};
+ghost use Rattle.executor.specs.States.{IsSoundState};
+ghost use Rattle.runner.specs.Runs.{is_write};
+ghost use Rattle.runner.specs.StoredRuns.{IsOfStoredDatabase, LeavesStoredState, StoredFrom, in_run, in_store};
+ghost use Rattle.runner.specs.WholeRuns.{IsOfDatabase, LeavesLine, RanFrom, is_batches_read, line_after};
+
+use crate::crew::Crew;
+use crate::fault::RunFault;
+use crate::run::run_read;
+use crate::store_fault::StoredRunFault;
+use crate::stored_run::store_read;
+use executor::Executor;
+use hashers::Host;
+use records::io::{Sink, Source};
+use std::alloc::Global;
+use workers::{Gate, Workers};
+
+/// Reads all bytes of batches, and then reads, executes, commits and writes batch after batch on the state that an executor has. The
+/// answer is the number of batches.
+pub fn run_on<R: Host, B: Source, S: Sink, G: Gate>(
+    rt: &R,
+    alloc: Global,
+    executor: &mut Executor,
+    batches: &mut B,
+    sink: &mut S,
+    workers: Workers,
+    gate: &G,
+) -> Result<u64, RunFault>
+    requires alone { executor.old.earlier ≡ [] }
+    requires sound { IsSoundState executor.old.cards executor.old.present }
+    requires low { 1 ≤ executor.old.present.next }
+    requires batches { B.failed batches.old < 2 ^ 63 }
+    requires sink { S.failed sink.old < 2 ^ 63 }
+    ensures ok { IfOk result (λ count. IfSome (B.left batches.old) (λ batch_bytes.
+        RanFrom executor.old.cards executor.old.present batch_bytes (S.taken sink.old) (S.taken sink.new) count)) }
+    ensures line { OnOk result (IfSome (B.left batches.old) (λ batch_bytes.
+        executor.new ≡ line_after executor.old.cards executor.old.present batch_bytes)) }
+    ensures err { IfErr result (λ e. IfSome (B.left batches.old) (λ batch_bytes.
+        LeavesLine e executor.old.cards executor.old.present batch_bytes (S.taken sink.old) (S.taken sink.new) executor.new)) }
+    ensures kinds { IfErr result IsOfDatabase }
+    ensures batches_failures { B.failed batches.new ≡ B.failed batches.old + (if is_batches_read result then 1 else 0) }
+    ensures sink_failures { S.failed sink.new ≡ S.failed sink.old + (if is_write result then 1 else 0) }
+{
+    let crew = Crew {
+        rt,
+        alloc,
+        workers,
+        gate,
+    };
+    run_read(&crew, executor, batches, sink)
+}
+
+/// Runs batches on the state that an executor has as `run_on` does, and then writes the image of the state whose token was written last,
+/// which is the executor's from then on.
+pub fn run_and_store_on<R: Host, B: Source, S: Sink, K: Sink, G: Gate>(
+    rt: &R,
+    alloc: Global,
+    executor: &mut Executor,
+    batches: &mut B,
+    sink: &mut S,
+    tables: &mut K,
+    workers: Workers,
+    gate: &G,
+) -> Result<u64, StoredRunFault>
+    requires alone { executor.old.earlier ≡ [] }
+    requires sound { IsSoundState executor.old.cards executor.old.present }
+    requires low { 1 ≤ executor.old.present.next }
+    requires batches { B.failed batches.old < 2 ^ 63 }
+    requires sink { S.failed sink.old < 2 ^ 63 }
+    requires tables { K.failed tables.old < 2 ^ 63 }
+    ensures ok { IfOk result (λ count. IfSome (B.left batches.old) (λ batch_bytes.
+        StoredFrom executor.old.cards executor.old.present batch_bytes
+        (S.taken sink.old) (S.taken sink.new) (K.taken tables.old) (K.taken tables.new) count)) }
+    ensures line { OnOk result (IfSome (B.left batches.old) (λ batch_bytes.
+        executor.new ≡ line_after executor.old.cards executor.old.present batch_bytes)) }
+    ensures err { IfErr result (λ e. IfSome (B.left batches.old) (λ batch_bytes.
+        LeavesStoredState e executor.old.cards executor.old.present batch_bytes
+        (S.taken sink.old) (S.taken sink.new) (K.taken tables.old) (K.taken tables.new))) }
+    ensures kinds { IfErr result IsOfStoredDatabase }
+    ensures batches_failures { B.failed batches.new ≡ B.failed batches.old + (if in_run is_batches_read result then 1 else 0) }
+    ensures sink_failures { S.failed sink.new ≡ S.failed sink.old + (if in_run is_write result then 1 else 0) }
+    ensures tables_failures { K.failed tables.new ≡ K.failed tables.old + (if in_store result then 1 else 0) }
+{
+    let crew = Crew {
+        rt,
+        alloc,
+        workers,
+        gate,
+    };
+    store_read(&crew, executor, batches, sink, tables)
+}

@@ -1,0 +1,112 @@
+//! Where a state stands, as text: in a line that tells it, and as a word that is given to go on from there.
+ghost use Rattle.std.specs.Prelude.{◌≡◌, ◌≤◌, ◌+◌, ◌++◌, IfNone, IfSome, IsErr, Ok, length};
+ghost use Rattle.executor.specs.Stamps.{IsWithinLimits};
+ghost use Rattle.hex.specs.Hex.{decode_sized};
+ghost use Rattle.runner.specs.StampText.{AreRead, AreUnread, IsNoStamp, at_text, stamp_word};
+
+use executor::{LAST_NUMBER, Stamp};
+use itoa::Buffer;
+use records::fields::number;
+use tpcc_rows::id::END_OF_NUMBERS;
+use tpcc_rows::row_buf::ByteBuf;
+
+use crate::text::digits_of;
+
+/// More than the line has.
+const LINE_BYTES: usize = 200;
+
+/// The most bytes that stand before the word in its line.
+const FRONT_BYTES: usize = 10;
+
+/// The most bytes of the word.
+const WORD_BYTES: usize = 180;
+
+/// Room for a line that tells where a state stands.
+pub type StampLine = ByteBuf<LINE_BYTES>;
+
+/// Appends `SEQ,NEXT,TOKEN`.
+fn push_word(line: &mut StampLine, stamp: &Stamp)
+    requires { length line.old ≤ FRONT_BYTES }
+    ensures text { line.new ≡ line.old ++ stamp_word stamp.now }
+    ensures short { length line.new ≤ length line.old + WORD_BYTES }
+{
+    line.push(Buffer::new().format(stamp.sequence).as_bytes());
+    line.push(b",");
+    line.push(Buffer::new().format(stamp.next).as_bytes());
+    line.push(b",");
+    line.push(digits_of(&stamp.token).as_slice());
+}
+
+/// The line that tells where a state stands: `at,SEQ,NEXT,TOKEN`.
+pub fn stamp_line(stamp: &Stamp) -> StampLine
+    ensures { result ≡ at_text stamp.now }
+{
+    let mut line = StampLine::new();
+    line.push(b"at,");
+    push_word(&mut line, stamp);
+    line.push(b"\n");
+    line
+}
+
+/// The word of a stamp.
+fn word_of(stamp: &Stamp) -> StampLine
+    ensures { result ≡ stamp_word stamp.now }
+{
+    let mut word = StampLine::new();
+    push_word(&mut word, stamp);
+    word
+}
+
+/// The token that these digits say.
+fn token_of(digits: &[u8]) -> Option<[u8; 32]>
+    ensures said { IfSome result (λ token. decode_sized digits.now 32 ≡ Ok token) }
+    ensures unsaid { IfNone result (IsErr (decode_sized digits.now 32)) }
+{
+    let mut token = [0; 32];
+    hex::decode_to_slice(digits, &mut token).ok()?;
+    Some(token)
+}
+
+/// The stamp of these parts.
+fn stamp_of_parts(sequence: &[u8], next: &[u8], token: &[u8]) -> Option<Stamp>
+    ensures read { IfSome result (AreRead sequence.now next.now token.now) }
+    ensures unread { IfNone result (AreUnread sequence.now next.now token.now) }
+    ensures within { IfSome result IsWithinLimits }
+{
+    let Ok(sequence) = number(sequence, 0, LAST_NUMBER) else {
+        return None;
+    };
+    let Ok(next) = number(next, 1, END_OF_NUMBERS) else {
+        return None;
+    };
+    let Some(token) = token_of(token) else {
+        return None;
+    };
+    Some(Stamp {
+        sequence,
+        next,
+        token,
+    })
+}
+
+/// The stamp that is told as `SEQ,NEXT,TOKEN`, where the word is that of one whose numbers are within their limits.
+pub fn stamp_of(word: &str) -> Option<Stamp>
+    ensures told { IfSome result (λ stamp. stamp_word stamp ≡ word.now) }
+    ensures within { IfSome result IsWithinLimits }
+    ensures none { IfNone result (IsNoStamp word.now) }
+{
+    let Some((sequence, rest)) = word.split_once(',') else {
+        return None;
+    };
+    let Some((next, token)) = rest.split_once(',') else {
+        return None;
+    };
+    let Some(stamp) = stamp_of_parts(sequence.as_bytes(), next.as_bytes(), token.as_bytes()) else {
+        return None;
+    };
+    if word_of(&stamp).as_slice() == word.as_bytes() {
+        Some(stamp)
+    } else {
+        None
+    }
+}
