@@ -4,8 +4,10 @@
 
 ghost use Rattle.tpcc_rows.specs.Limits.{IsBetween};
 
+mod resuming;
 mod store_file;
 
+use crate::resuming::{Asked, run_asked, serve_from, stamp_from};
 use crate::store_file::open_store;
 use command_line::{Line, LineFault, WordsFault, line_of, line_status, words_of};
 use hashers::Host;
@@ -194,6 +196,58 @@ fn explain<R: Print + Eprint>(rt: &R, fault: &LineFault) -> ExitCode {
     ExitCode::from(line_status(fault))
 }
 
+fn text_of(text: &Option<String>) -> Option<&str> {
+    match text {
+        Some(text) => Some(text.as_str()),
+        None => None,
+    }
+}
+
+/// Runs batches from where the image's state stands, if that is told, and tells where the last one does, if that is asked.
+fn run_from<R: Files + Print + Eprint + AllocGlobal + Host>(
+    rt: &R,
+    image: &str,
+    batches: &str,
+    workers: Workers,
+    store: Option<&str>,
+    from: Option<&str>,
+    at: bool,
+) -> ExitCode
+where
+    R::File: Drop,
+{
+    match stamp_from(rt, from) {
+        Ok(from) => run_asked(
+            rt,
+            &Asked {
+                image,
+                batches,
+                workers,
+                store,
+                from,
+                at,
+            },
+        ),
+        Err(status) => status,
+    }
+}
+
+/// Answers commands from where the image's state stands, which a word tells.
+fn serve_resumed<R: Files + Input + Print + Eprint + AllocGlobal + Host>(
+    rt: &R,
+    image: &str,
+    workers: Workers,
+    word: &str,
+) -> ExitCode
+where
+    R::File: Drop,
+{
+    match stamp_from(rt, Some(word)) {
+        Ok(from) => serve_from(rt, image, workers, &from),
+        Err(status) => status,
+    }
+}
+
 fn main(rt: HostRuntime) -> ExitCode {
     let words = match words_of(&rt, rt.alloc()) {
         Ok(words) => words,
@@ -206,17 +260,17 @@ fn main(rt: HostRuntime) -> ExitCode {
                 batches,
                 workers,
                 store,
+                from,
+                at,
             },
-        ) => match store {
-            None => run(&rt, image.as_str(), batches.as_str(), workers),
-            Some(path) => run_stored(
-                &rt,
-                image.as_str(),
-                batches.as_str(),
-                workers,
-                path.as_str(),
-            ),
-        },
+        ) => {
+            let (image, batches) = (image.as_str(), batches.as_str());
+            match (text_of(&store), text_of(&from), at) {
+                (None, None, false) => run(&rt, image, batches, workers),
+                (Some(path), None, false) => run_stored(&rt, image, batches, workers, path),
+                (store, from, at) => run_from(&rt, image, batches, workers, store, from, at),
+            }
+        }
         Ok(Line::Check { image }) => check(&rt, image.as_str()),
         Ok(
             Line::Make {
@@ -225,7 +279,16 @@ fn main(rt: HostRuntime) -> ExitCode {
                 items,
             },
         ) => make(&rt, warehouses, customers, items),
-        Ok(Line::Serve { image, workers }) => serve_commands(&rt, image.as_str(), workers),
+        Ok(
+            Line::Serve {
+                image,
+                workers,
+                from,
+            },
+        ) => match text_of(&from) {
+            None => serve_commands(&rt, image.as_str(), workers),
+            Some(word) => serve_resumed(&rt, image.as_str(), workers, word),
+        },
         Err(fault) => explain(&rt, &fault),
     }
 }

@@ -4,13 +4,12 @@ ghost use Rattle.executor.specs.Stamps.{IsWithinLimits};
 ghost use Rattle.hex.specs.Hex.{decode_sized};
 ghost use Rattle.runner.specs.StampText.{AreRead, AreUnread, IsNoStamp, at_text, stamp_word};
 
+use crate::text::digits_of;
 use executor::{LAST_NUMBER, Stamp};
 use itoa::Buffer;
 use records::fields::number;
 use tpcc_rows::id::END_OF_NUMBERS;
 use tpcc_rows::row_buf::ByteBuf;
-
-use crate::text::digits_of;
 
 /// More than the line has.
 const LINE_BYTES: usize = 200;

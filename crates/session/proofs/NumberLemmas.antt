@@ -48,5 +48,6 @@ numbered-after (command.Control control.Commit) old new text h (inr (none, (e, w
 numbered-after (command.Control (control.RollbackTo n)) old new text h (inl (back, is)) = numbered-returned n old new back h
 numbered-after (command.Control (control.RollbackTo n)) old new text h (inr (none, (e, why, line, is))) = subst AreNumbered (sym line) h
 numbered-after (command.Control control.State) old new text h (line, is) = subst AreNumbered (sym line) h
+numbered-after (command.Control control.At) old new text h (line, is) = subst AreNumbered (sym line) h
 numbered-after (command.Control control.Image) old new text h (inl (line, is)) = subst AreNumbered (sym line) h
 numbered-after (command.Control control.Image) old new text h (inr (e, why, line, is)) = subst AreNumbered (sym line) h

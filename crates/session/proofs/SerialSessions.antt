@@ -20,6 +20,7 @@ call-of (command.Control (control.RollbackTo n)) old new text (inr (none, (e, wh
 call-of (command.Control control.State) old new text (line, is) = (Refused, line)
 call-of (command.Control control.Image) old new text (inl (line, is)) = (Refused, line)
 call-of (command.Control control.Image) old new text (inr (e, why, line, is)) = (Refused, line)
+call-of (command.Control control.At) old new text (line, is) = (Refused, line)
 
 calls-of : (cs : List Command) (old new : Line) (text : List ℕ) → AnswersAll cs old new text → (calls : List Call) × LeadOn calls old new
 calls-of [] old new text (line, is) = ([], line)

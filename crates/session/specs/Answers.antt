@@ -5,10 +5,12 @@ use Rattle.commands.specs.declared.command.Command.TheVariants as command
 use Rattle.commands.specs.declared.command.Control.TheVariants as control
 use Rattle.executor.specs.Executions.{IsRefusedFor, refusal_for}
 use Rattle.executor.specs.Lines.{HasNone, IsReturned, Line, committed, extended, states}
+use Rattle.executor.specs.Stamps.{stamp_of}
 use Rattle.executor.specs.declared.refusal.Refusal.{Refusal}
 use Rattle.executor.specs.declared.refusal.Refusal.TheVariants as refusal
 use Rattle.requests.specs.declared.request.Batch.{Batch}
 use Rattle.rollback.specs.declared.pointed.TheConstants.{POINTS}
+use Rattle.runner.specs.StampText.{at_text}
 use Rattle.runner.specs.Text.{batch_text}
 use Rattle.session.specs.AnswerText.{commit_text, image_answer, refused_text, rollback_text, state_text}
 
@@ -48,6 +50,7 @@ Answers (command.Control control.Commit) old new text = AnswersCommit old new te
 Answers (command.Control (control.RollbackTo sequence)) old new text = AnswersRollback sequence old new text
 Answers (command.Control control.State) old new text = (new ≡ old) × (text ≡ state_text old.present)
 Answers (command.Control control.Image) old new text = AnswersImage old new text
+Answers (command.Control control.At) old new text = (new ≡ old) × (text ≡ at_text (stamp_of old.present))
 
 -- ---- commands, one after the other
 abbrev pub AnswersAll : List Command → Line → Line → List ℕ → Type 0

@@ -1,5 +1,7 @@
 //! A command, and its answer.
 ghost use Rattle.std.specs.Prelude.{◌≡◌, ◌≤◌, IfOk};
+ghost use Rattle.executor.specs.Stamps.{stamp_of};
+ghost use Rattle.runner.specs.StampText.{at_text};
 ghost use Rattle.session.specs.Answers.{Answers, AnswersBatch, AnswersCommit, AnswersImage, AnswersRollback};
 ghost use Rattle.session.specs.AnswerText.{image_answer};
 
@@ -7,6 +9,7 @@ use crate::answer_text::{commit_text, image_head, refused_text, told_text};
 use commands::{Command, Control};
 use executor::{Executor, Refusal};
 use requests::request::Batch;
+use runner::stamp_text::stamp_line;
 use runner::text::batch_text;
 use std::alloc::Global;
 use std::thread::Threads;
@@ -69,6 +72,15 @@ fn answer_image(alloc: Global, executor: &Executor) -> Result<Vec<u8>, Memory>
     }
 }
 
+/// The line that tells where the present state stands.
+fn at_text(alloc: Global, executor: &Executor) -> Result<Vec<u8>, Memory>
+    ensures { IfOk result (λ text. text.items ≡ at_text (stamp_of executor.now.present)) }
+{
+    let mut text = Vec::new(alloc);
+    text.extend_from_slice(stamp_line(&executor.stamp()).as_slice())?;
+    Ok(text)
+}
+
 /// Does what a command says, or refuses it, and answers it. Where memory is refused for the answer, the command may have been done.
 pub(crate) fn answer<R: Threads + Sync, G: Gate>(
     rt: &R,
@@ -91,5 +103,6 @@ pub(crate) fn answer<R: Threads + Sync, G: Gate>(
             told_text(alloc, b"state", executor.sequence(), &executor.token())
         }
         Command::Control(Control::Image) => answer_image(alloc, executor),
+        Command::Control(Control::At) => at_text(alloc, executor),
     }
 }

@@ -4,6 +4,8 @@
 mod answer_text;
 mod answering;
 pub mod laws;
+mod loaded;
 mod serving;
 
+pub use loaded::serve_on;
 pub use serving::serve;

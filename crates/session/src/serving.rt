@@ -99,7 +99,7 @@ fn keep_threads<R: Host>(rt: &R, alloc: Global, executor: &mut Executor, workers
 /// Reads the commands of a text in turn, and answers each before the next is read. Its frame has the reader's room, that of `serve`
 /// the executor's.
 #[inline(never)]
-fn serve_input<R: Host, C: Read + Drop, S: Sink, G: Gate>(
+pub(crate) fn serve_input<R: Host, C: Read + Drop, S: Sink, G: Gate>(
     rt: &R,
     alloc: Global,
     executor: &mut Executor,

@@ -8,7 +8,7 @@ use std::env::FillError;
 use std::rt::Env;
 
 /// Lines that are taken, that are refused, and that ask for help or the version.
-const LINES: [&str; 72] = [
+const LINES: [&str; 85] = [
     "eve-tpcc run image.csv batches.csv",
     "eve-tpcc run image.csv batches.csv --workers 2",
     "eve-tpcc run image.csv batches.csv --workers=64",
@@ -18,6 +18,9 @@ const LINES: [&str; 72] = [
     "eve-tpcc run image.csv batches.csv --store later.csv",
     "eve-tpcc run --store=later.csv image.csv --workers 2 batches.csv",
     "eve-tpcc run --store later.csv -- image.csv batches.csv",
+    "eve-tpcc run image.csv batches.csv --from 2,7,ab",
+    "eve-tpcc run image.csv batches.csv --at",
+    "eve-tpcc run --at --from=2,7,ab image.csv --store later.csv batches.csv",
     "eve-tpcc check image.csv",
     "eve-tpcc make 1 45 100",
     "eve-tpcc make 1 1 1",
@@ -42,6 +45,12 @@ const LINES: [&str; 72] = [
     "eve-tpcc run a b --workers 1 --workers 2",
     "eve-tpcc run a b --store",
     "eve-tpcc run a b --store c --store d",
+    "eve-tpcc run a b --from",
+    "eve-tpcc run a b --from 1 --from 2",
+    "eve-tpcc run a b --at --at",
+    "eve-tpcc run a b --at=true",
+    "eve-tpcc check a --from 1",
+    "eve-tpcc check a --at",
     "eve-tpcc check a --store b",
     "eve-tpcc check",
     "eve-tpcc check a b",
@@ -77,9 +86,13 @@ const LINES: [&str; 72] = [
     "eve-tpcc make 1 -h",
     "eve-tpcc serve image.csv",
     "eve-tpcc serve --workers 8 image.csv",
+    "eve-tpcc serve image.csv --from 2,7,ab",
+    "eve-tpcc serve --from=2,7,ab --workers 8 image.csv",
     "eve-tpcc serve",
     "eve-tpcc serve a b",
     "eve-tpcc serve a --workers 0",
+    "eve-tpcc serve a --from",
+    "eve-tpcc serve a --at",
     "eve-tpcc help serve",
 ];
 
@@ -159,30 +172,43 @@ fn read(alloc: Global, line: &str) -> Result<Line, LineFault> {
     line_of(alloc, words(alloc, line)?)
 }
 
+/// Prints a text that may have been left out.
+fn print_option<R: Print>(rt: &R, before: &str, text: &Option<String>) {
+    if let Some(text) = text {
+        let _ = print!(rt; "{before}{text}");
+    }
+}
+
 fn print_line<R: Print>(rt: &R, line: &Line) {
     let _ = match line {
         Line::Run {
             image,
             batches,
             workers,
-            store: None,
-        } => println!(rt; "run {image} {batches} {}", workers.count()),
-        Line::Run {
-            image,
-            batches,
-            workers,
-            store: Some(path),
-        } => println!(rt;
-            "run {image} {batches} {}, stored in {path}",
-            workers.count()
-        ),
+            store,
+            from,
+            at,
+        } => {
+            let _ = print!(rt; "run {image} {batches} {}", workers.count());
+            print_option(rt, ", stored in ", store);
+            print_option(rt, ", from ", from);
+            println!(rt; "{}", if *at { ", told at" } else { "" })
+        }
         Line::Check { image } => println!(rt; "check {image}"),
         Line::Make {
             warehouses,
             customers,
             items,
         } => println!(rt; "make {warehouses} {customers} {items}"),
-        Line::Serve { image, workers } => println!(rt; "serve {image} {}", workers.count()),
+        Line::Serve {
+            image,
+            workers,
+            from,
+        } => {
+            let _ = print!(rt; "serve {image} {}", workers.count());
+            print_option(rt, ", from ", from);
+            println!(rt; "")
+        }
     };
 }
 

@@ -1,0 +1,250 @@
+//! Runs and sessions that go on from where the state of an image stands, and runs that tell where their last state does.
+ghost use Rattle.std.specs.Prelude.{◌≡◌, ◌≤◌, [], IfOk, IfSome};
+ghost use Rattle.executor.specs.Stamps.{IsWithinLimits};
+ghost use Rattle.executor.specs.States.{IsSoundState};
+
+use crate::store_file::{StoreFile, open_store};
+use crate::{cannot_create, cannot_open, report};
+use executor::{Executor, Stamp};
+use hashers::Host;
+use records::io::Counting;
+use runner::stamp_text::{stamp_line, stamp_of};
+use runner::{RunFault, StoredRunFault, load_executor, run_and_store_on, run_on};
+use session::serve_on;
+use std::io::Input;
+use std::process::ExitCode;
+use std::rt::Files;
+use std::{fs, io, str};
+use workers::{NoGate, Workers};
+
+/// The stamp that the word of `--from` tells, where there is one; a word that tells none is refused.
+pub fn stamp_from(rt: &impl Eprint, word: Option<&str>) -> Result<Option<Stamp>, ExitCode>
+    ensures { IfOk result (λ from. IfSome from IsWithinLimits) }
+{
+    let Some(word) = word else {
+        return Ok(None);
+    };
+    match stamp_of(word) {
+        Some(stamp) => Ok(Some(stamp)),
+        None => {
+            let _ = eprintln!(rt;
+                "eve-tpcc: command line: --from {word}: not SEQ,NEXT,TOKEN of a state"
+            );
+            Err(ExitCode::from(2))
+        }
+    }
+}
+
+/// Has the state of an executor stand where it is told, if it is told.
+fn resume(rt: &impl Eprint, executor: &mut Executor, from: &Option<Stamp>) -> Result<(), ExitCode>
+    requires alone { executor.old.earlier ≡ [] }
+    requires sound { IsSoundState executor.old.cards executor.old.present }
+    requires low { 1 ≤ executor.old.present.next }
+    requires within { IfSome from.now IsWithinLimits }
+    ensures alone { executor.new.earlier ≡ [] }
+    ensures sound { IsSoundState executor.new.cards executor.new.present }
+    ensures low { 1 ≤ executor.new.present.next }
+{
+    let Some(stamp) = from else {
+        return Ok(());
+    };
+    if let Err(taken) = executor.resume(stamp) {
+        let _ = eprintln!(rt; "eve-tpcc: command line: --from: {taken}");
+        return Err(ExitCode::from(2));
+    }
+    Ok(())
+}
+
+/// Tells where the state of an executor stands.
+fn tell(rt: &impl Eprint, executor: &Executor) {
+    if let Ok(text) = str::from_utf8(stamp_line(&executor.stamp()).as_slice()) {
+        let _ = eprint!(rt; "{text}");
+    }
+}
+
+/// A run of which more is asked than replies and an image.
+#[derive(Drop)]
+pub struct Asked<'a> {
+    pub image: &'a str,
+    pub batches: &'a str,
+    pub workers: Workers,
+    pub store: Option<&'a str>,
+    /// Where the image's state stands; before any batch where it isn't told.
+    pub from: Option<Stamp>,
+    /// Whether it is to be told where the last state stands.
+    pub at: bool,
+    pub ghost within: { IfSome from IsWithinLimits },
+}
+
+/// Runs batches on the state that an executor has, and stores the last state, where there is a file for it.
+#[inline(never)]
+fn run_batches<R: Files + Print + AllocGlobal + Host>(
+    rt: &R,
+    executor: &mut Executor,
+    batches: R::File,
+    store: Option<StoreFile<R::File>>,
+    workers: Workers,
+) -> Result<u64, StoredRunFault>
+where
+    R::File: Drop,
+    requires alone { executor.old.earlier ≡ [] }
+    requires sound { IsSoundState executor.old.cards executor.old.present }
+    requires low { 1 ≤ executor.old.present.next }
+{
+    let mut batches_source = Counting::new(batches);
+    let mut output = Counting::new(io::writer(rt));
+    let Some(file) = store else {
+        let ran = run_on(
+            rt,
+            rt.alloc(),
+            executor,
+            &mut batches_source,
+            &mut output,
+            workers,
+            &NoGate,
+        );
+        return ran.map_err(StoredRunFault::Run);
+    };
+    let mut tables = Counting::new(file);
+    run_and_store_on(
+        rt,
+        rt.alloc(),
+        executor,
+        &mut batches_source,
+        &mut output,
+        &mut tables,
+        workers,
+        &NoGate,
+    )
+}
+
+/// Whether a run left its executor at the state whose token and image went out.
+fn is_left_whole(ran: &Result<u64, StoredRunFault>) -> bool {
+    match ran {
+        Ok(_) => true,
+        Err(StoredRunFault::Run(fault)) => *fault != RunFault::Write,
+        Err(_) => false,
+    }
+}
+
+/// Runs batches on an executor that was loaded, and tells where the last state stands where that is asked.
+fn run_loaded<R: Files + Print + Eprint + AllocGlobal + Host>(
+    rt: &R,
+    executor: &mut Executor,
+    batches: R::File,
+    store: Option<StoreFile<R::File>>,
+    asked: &Asked<'_>,
+) -> ExitCode
+where
+    R::File: Drop,
+    requires alone { executor.old.earlier ≡ [] }
+    requires sound { IsSoundState executor.old.cards executor.old.present }
+    requires low { 1 ≤ executor.old.present.next }
+{
+    if let Err(status) = resume(rt, executor, &asked.from) {
+        return status;
+    }
+    let ran = run_batches(rt, executor, batches, store, asked.workers);
+    if asked.at && is_left_whole(&ran) {
+        tell(rt, executor);
+    }
+    match ran {
+        Ok(_) => ExitCode::SUCCESS,
+        Err(fault) => report(rt, &fault),
+    }
+}
+
+/// The file that takes the image of the last state, where one is asked for.
+fn store_of<R: Files + Eprint>(
+    rt: &R,
+    path: Option<&str>,
+) -> Result<Option<StoreFile<R::File>>, ExitCode> {
+    let Some(path) = path else {
+        return Ok(None);
+    };
+    match open_store(rt, path) {
+        Ok(file) => Ok(Some(file)),
+        Err(_) => Err(cannot_create(rt, path)),
+    }
+}
+
+/// Runs batches as it is asked.
+#[inline(never)]
+pub fn run_asked<R: Files + Print + Eprint + AllocGlobal + Host>(
+    rt: &R,
+    asked: &Asked<'_>,
+) -> ExitCode
+where
+    R::File: Drop,
+{
+    let Ok(image) = fs::open(rt, asked.image) else {
+        return cannot_open(rt, asked.image);
+    };
+    let Ok(batches) = fs::open(rt, asked.batches) else {
+        return cannot_open(rt, asked.batches);
+    };
+    let store = match store_of(rt, asked.store) {
+        Ok(store) => store,
+        Err(status) => return status,
+    };
+    let mut image_source = Counting::new(image);
+    let mut loaded = load_executor(rt, rt.alloc(), &mut image_source);
+    match &mut loaded {
+        Ok(executor) => run_loaded(rt, executor, batches, store, asked),
+        Err(fault) => report(rt, &StoredRunFault::Run(*fault)),
+    }
+}
+
+/// Answers commands on an executor that was loaded.
+fn serve_loaded<R: Input + Print + Eprint + AllocGlobal + Host>(
+    rt: &R,
+    executor: &mut Executor,
+    workers: Workers,
+    from: &Option<Stamp>,
+) -> ExitCode
+    requires alone { executor.old.earlier ≡ [] }
+    requires sound { IsSoundState executor.old.cards executor.old.present }
+    requires low { 1 ≤ executor.old.present.next }
+    requires within { IfSome from.now IsWithinLimits }
+{
+    if let Err(status) = resume(rt, executor, from) {
+        return status;
+    }
+    let mut output = Counting::new(io::writer(rt));
+    let served = serve_on(
+        rt,
+        rt.alloc(),
+        executor,
+        rt.reader(),
+        &mut output,
+        workers,
+        &NoGate,
+    );
+    match served {
+        Ok(()) => ExitCode::SUCCESS,
+        Err(fault) => report(rt, &StoredRunFault::Run(fault)),
+    }
+}
+
+/// Answers commands on the database of an image whose state stands there.
+#[inline(never)]
+pub fn serve_from<R: Files + Input + Print + Eprint + AllocGlobal + Host>(
+    rt: &R,
+    image: &str,
+    workers: Workers,
+    from: &Option<Stamp>,
+) -> ExitCode
+where
+    R::File: Drop,
+    requires { IfSome from.now IsWithinLimits }
+{
+    let Ok(image_file) = fs::open(rt, image) else {
+        return cannot_open(rt, image);
+    };
+    let mut image_source = Counting::new(image_file);
+    let mut loaded = load_executor(rt, rt.alloc(), &mut image_source);
+    match &mut loaded {
+        Ok(executor) => serve_loaded(rt, executor, workers, from),
+        Err(fault) => report(rt, &StoredRunFault::Run(*fault)),
+    }
+}

@@ -1,0 +1,37 @@
+//! Sessions on an executor that the caller has.
+ghost use Rattle.std.specs.Prelude.{◌≡◌, ◌+◌, ◌<◌, ◌≤◌, ◌^◌, [], IfErr, IfSome, OnOk, if◌then◌else◌, option_map};
+ghost use Rattle.commands.specs.Commands.{commands};
+ghost use Rattle.runner.specs.Runs.{is_write};
+ghost use Rattle.session.specs.Sessions.{IsOfSession, LeavesSession, Served};
+
+use crate::serving::serve_input;
+use executor::Executor;
+use hashers::Host;
+use records::io::Sink;
+use runner::RunFault;
+use std::alloc::Global;
+use std::io::Read;
+use workers::{Gate, Workers};
+
+/// Reads commands in turn, and answers each on the state that an executor has before the next is read.
+pub fn serve_on<R: Host, C: Read + Drop, S: Sink, G: Gate>(
+    rt: &R,
+    alloc: Global,
+    executor: &mut Executor,
+    input: C,
+    sink: &mut S,
+    workers: Workers,
+    gate: &G,
+) -> Result<(), RunFault>
+    requires alone { executor.old.earlier ≡ [] }
+    requires low { 1 ≤ executor.old.present.next }
+    requires count { S.failed sink.old < 2 ^ 63 }
+    ensures ok { OnOk result (IfSome (option_map commands (C.remaining input)) (λ hearing.
+        Served executor.old hearing (S.taken sink.old) (S.taken sink.new))) }
+    ensures err { IfErr result (λ e. IfSome (option_map commands (C.remaining input)) (λ hearing.
+        LeavesSession e executor.old hearing (S.taken sink.old) (S.taken sink.new))) }
+    ensures kinds { IfErr result IsOfSession }
+    ensures failures { S.failed sink.new ≡ S.failed sink.old + (if is_write result then 1 else 0) }
+{
+    serve_input(rt, alloc, executor, input, sink, workers, gate)
+}
