@@ -11,11 +11,11 @@ use Rattle.tpcc_rows.specs.Encodings.{bytes_64}
 use Rattle.tpcc_rows.proofs.Fields.{numbers_64, texts}
 use Rattle.token_laws.specs.Collisions.{IsCollision, catalog_text, collides, collision, hashed_texts, token_text, tree_texts}
 use Rattle.token_laws.specs.Covered.{Covered, token}
-use Rattle.token_laws.specs.CoveredLimits.{AreBytes, IsWithinLimits}
+use Rattle.token_laws.specs.CoveredLimits.{AreBytes, IsReply, IsWithinLimits}
 use Rattle.token_laws.specs.EqualTokens.{AreSame, EqualTokens}
 use Rattle.token_laws.proofs.Bytes.{bytes-64, bytes-sha256}
 use Rattle.token_laws.proofs.Cards.{cards_apart, catalog-bytes}
-use Rattle.token_laws.proofs.Lists.{bytes-append}
+use Rattle.token_laws.proofs.Lists.{by_recursion, bytes-append}
 use Rattle.token_laws.proofs.Replies.{replies-bytes, replies_apart}
 use Rattle.token_laws.proofs.Rows.{rows_apart}
 use Rattle.token_laws.proofs.Search.{found, is_collision, no_collision, none_found, root-bytes, root-length, same_tree, tree-bytes, zip-all}
@@ -66,7 +66,7 @@ module _ (a b : Covered) (p : IsWithinLimits a) (q : IsWithinLimits b) where
       let cards = cards_apart a.database.cards b.database.cards p.database.cards q.database.cards (no_collision (catalog_text a.database.cards) (catalog_text b.database.cards) catalogs.0 part.catalog) in
       let rows = rows_apart a.database.rows b.database.rows p.database.rows q.database.rows (same_tree a.database.rows b.database.rows replies.1 part.rows) in
       let reply_text = no_collision (replies_bytes a.first a.replies) (replies_bytes b.first b.replies) replies.0 part.replies in
-      let reply = replies_apart a.first b.first a.replies b.replies p.numbers q.numbers p.replies q.replies reply_text in
+      let reply = replies_apart a.first b.first a.replies b.replies p.numbers q.numbers (by_recursion IsReply a.replies p.replies) (by_recursion IsReply b.replies q.replies) reply_text in
       record { sequence = part.sequence; prior = part.prior; database = databases cards rows; replies = reply.0; first = reply.1 }
 
 -- ---- what is found
@@ -80,7 +80,7 @@ token-bytes c p =
     rw (text-in_parts c) (bytes-append tag-bytes (bytes-append (bytes-64 c.sequence) (bytes-append p.prior (bytes-append (bytes-sha256 (catalog_text c.database.cards)) digests))))
 
 all-bytes : (c : Covered) → IsWithinLimits c → AllByRecursion AreBytes (hashed_texts c)
-all-bytes c p = (token-bytes c p, (catalog-bytes c.database.cards p.database.cards, (replies-bytes c.first c.replies p.replies, tree-bytes c.database.rows p.database.rows 16 0)))
+all-bytes c p = (token-bytes c p, (catalog-bytes c.database.cards p.database.cards, (replies-bytes c.first c.replies (by_recursion IsReply c.replies p.replies), tree-bytes c.database.rows p.database.rows 16 0)))
 
 abbrev AreBothBytes : List ℕ × List ℕ → Type 0
 AreBothBytes pair = AreBytes pair.0 × AreBytes pair.1
@@ -91,10 +91,17 @@ some_found a b p q pair is =
     is_collision pair.0 pair.1 h.0.0 h.0.1 h.1
 
 -- ---- the law
-by_search : (a b : Covered) → IsWithinLimits a → IsWithinLimits b → token a ≡ token b → (found : Option (List ℕ × List ℕ)) → find collides (zip (hashed_texts a) (hashed_texts b)) ≡ found → AreSame a b ⊎ IsSomeAnd found IsCollision
-by_search a b p q equal None is = inl (all_same a b p q is equal)
-by_search a b p q equal (Some pair) is = inr (some_found a b p q pair is)
+pub none_is_same : (a b : Covered) → IsWithinLimits a → IsWithinLimits b → token a ≡ token b → collision a b ≡ None → AreSame a b
+unfolding collision
+none_is_same a b p q equal none = all_same a b p q none equal
+
+pub some_collides : (a b : Covered) → IsWithinLimits a → IsWithinLimits b → (pair : List ℕ × List ℕ) → collision a b ≡ Some pair → IsCollision pair
+unfolding collision
+some_collides a b p q pair some = some_found a b p q pair some
+
+by_search : (a b : Covered) → IsWithinLimits a → IsWithinLimits b → token a ≡ token b → (found : Option (List ℕ × List ℕ)) → collision a b ≡ found → AreSame a b ⊎ IsSomeAnd found IsCollision
+by_search a b p q equal None is = inl (none_is_same a b p q equal is)
+by_search a b p q equal (Some pair) is = inr (some_collides a b p q pair is)
 
 pub equal_tokens : EqualTokens
-unfolding collision
-equal_tokens a b p q equal = by_search a b p q equal (find collides (zip (hashed_texts a) (hashed_texts b))) refl
+equal_tokens a b p q equal = by_search a b p q equal (collision a b) refl

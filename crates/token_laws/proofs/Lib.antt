@@ -6,3 +6,4 @@ pub mod Replies
 pub mod Sound
 pub mod Search
 pub mod EqualTokens
+pub mod Histories

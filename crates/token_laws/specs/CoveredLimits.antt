@@ -1,6 +1,6 @@
 -- The limits of what a token covers: those of the types in which the program keeps it. Neither parents nor consistency
 -- conditions are asked for.
-use Rattle.std.specs.Prelude.{◌≡◌, ◌<◌, ◌≤◌, ◌+◌, ◌^◌, ℕ, List, length, Option, Some, IfSome}
+use Rattle.std.specs.Prelude.{◌≡◌, ◌<◌, ◌≤◌, ◌+◌, ◌^◌, ℕ, List, length, All, Option, Some, IfSome}
 use Rattle.std.specs.FinMap as map
 use Rattle.std.specs.List.{AllByRecursion}
 use Rattle.catalog.specs.CardMap.{AreKeyed, Cards}
@@ -37,7 +37,7 @@ pub record IsNewOrderReply (r : NewOrderReply) : Type 0 where
   pub order : IsBetween 1 9999999 r.order
   pub total : IsCents r.total
   pub count : length r.lines ≤ 15
-  pub lines : AllByRecursion IsLineReply r.lines
+  pub lines : All IsLineReply r.lines
 
 abbrev pub IsShownCredit : ShownCredit → Type 0
 IsShownCredit credit.Good = Unit {0}
@@ -60,7 +60,7 @@ pub record IsShownOrder (o : ShownOrder) : Type 0 where
   pub entry : IsBetween 0 999999999999 o.entry
   pub carrier : IfSome o.carrier (IsBetween 1 10)
   pub count : length o.lines ≤ 15
-  pub lines : AllByRecursion IsShownLine o.lines
+  pub lines : All IsShownLine o.lines
 
 pub record IsOrderStatusReply (r : OrderStatusReply) : Type 0 where
   pub customer : IsBetween 1 3000 r.customer
@@ -75,7 +75,7 @@ IsDelivered order = IfSome order (IsBetween 1 9999999)
 
 pub record IsDeliveryReply (r : DeliveryReply) : Type 0 where
   pub ten : length r.orders ≡ 10
-  pub orders : AllByRecursion IsDelivered r.orders
+  pub orders : All IsDelivered r.orders
 
 abbrev pub IsReply : Reply → Type 0
 IsReply (reply.NewOrder r) = IsNewOrderReply r
@@ -113,4 +113,4 @@ pub record IsWithinLimits (c : Covered) : Type 0 where
   pub prior_length : length c.prior ≡ 32
   pub database : IsWritableDatabase c.database
   pub numbers : c.first + length c.replies ≤ END_OF_NUMBERS
-  pub replies : AllByRecursion IsReply c.replies
+  pub replies : All IsReply c.replies

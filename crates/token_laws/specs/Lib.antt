@@ -2,3 +2,4 @@ pub mod Covered
 pub mod CoveredLimits
 pub mod Collisions
 pub mod EqualTokens
+pub mod Histories

@@ -1,0 +1,33 @@
+-- What equal tokens say of the batches before.
+use Rattle.std.specs.Prelude.{◌≡◌, ◌⊎◌, ℕ, List, [], ◌∷◌, Option, None, zip, IsSomeAnd}
+use Rattle.std.specs.List.{AllByRecursion}
+use Rattle.std.specs.Option.{option_or}
+use Rattle.token_laws.specs.Covered.{Covered, token}
+use Rattle.token_laws.specs.CoveredLimits.{IsWithinLimits}
+use Rattle.token_laws.specs.Collisions.{IsCollision, collision}
+use Rattle.token_laws.specs.EqualTokens.{AreSame}
+
+-- the newest first: the token before each one is that of the next
+abbrev pub AreLinked : Covered → List Covered → Type 0
+AreLinked newest [] = Unit {0}
+AreLinked newest (earlier ∷ others) = (newest.prior ≡ token earlier) × AreLinked earlier others
+
+pub record IsHistory (newest : Covered) (earlier : List Covered) : Type 0 where
+  pub limits : AllByRecursion IsWithinLimits (newest ∷ earlier)
+  pub linked : AreLinked newest earlier
+
+-- as far back as both go, what tokens cover is the same
+abbrev pub AreSameSince : List Covered → List Covered → Type 0
+AreSameSince xs ys = AllByRecursion (λ (pair : Covered × Covered). AreSame pair.0 pair.1) (zip xs ys)
+
+-- the first that is found going back
+unfoldable pub collision_since : List Covered → List Covered → Option (List ℕ × List ℕ)
+collision_since [] ys = None
+collision_since (x ∷ xs) [] = None
+collision_since (x ∷ xs) (y ∷ ys) = option_or (collision x y) (collision_since xs ys)
+
+-- where the newest tokens of two histories are equal, all that the tokens of both cover is the same, as far back as both go,
+-- or the search gives two different texts with one SHA-256
+abbrev pub EqualHistories : Type 0
+EqualHistories = (a b : Covered) (before_a before_b : List Covered) → IsHistory a before_a → IsHistory b before_b → token a ≡ token b
+    → AreSameSince (a ∷ before_a) (b ∷ before_b) ⊎ IsSomeAnd (collision_since (a ∷ before_a) (b ∷ before_b)) IsCollision
