@@ -6,7 +6,7 @@ use Rattle.token_laws.specs.Collisions.{IsCollision, collision}
 use Rattle.token_laws.specs.Covered.{Covered, token}
 use Rattle.token_laws.specs.CoveredLimits.{IsWithinLimits}
 use Rattle.token_laws.specs.EqualTokens.{AreSame}
-use Rattle.token_laws.specs.Histories.{AreSameSince, EqualHistories, IsHistory, collision_since}
+use Rattle.token_laws.specs.Histories.{AreSameSince, EqualHistories, collision_since}
 use Rattle.token_laws.proofs.EqualTokens.{none_is_same, some_collides}
 
 -- what is found for the newest comes first; where nothing is, they are the same, and so are their tokens before

@@ -3,3 +3,4 @@ pub mod CoveredLimits
 pub mod Collisions
 pub mod EqualTokens
 pub mod Histories
+pub mod States

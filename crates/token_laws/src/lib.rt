@@ -6,19 +6,26 @@ pub mod limits;
 ghost use Rattle.token_laws.specs.CoveredLimits.{SoundIsWritable};
 ghost use Rattle.token_laws.specs.EqualTokens.{EqualTokens};
 ghost use Rattle.token_laws.specs.Histories.{EqualHistories};
+ghost use Rattle.token_laws.specs.States.{StatesAreCovered};
 
-/// Tokens that are equal cover the same number, token before, database and replies, or two different texts with one
+/// Equal tokens cover the same: one batch number, token before, database and replies. Else two different texts with one
 /// SHA-256 are exhibited.
 pub fn equal_tokens()
     ensures { EqualTokens }
 {}
 
-/// So do all tokens before them, as far back as both histories go.
+/// Where the newest tokens of two histories are equal, their tokens cover the same as far back as both go. Else two such
+/// texts are exhibited.
 pub fn equal_histories()
     ensures { EqualHistories }
 {}
 
-/// What a sound database has is within the limits that this asks for.
+/// The tokens of a line's states, which a run answers, cover those states and their replies.
+pub fn states_are_covered()
+    ensures { StatesAreCovered }
+{}
+
+/// What a sound database has is within the limits.
 pub fn sound_is_writable()
     ensures { SoundIsWritable }
 {}
