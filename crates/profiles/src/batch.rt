@@ -111,7 +111,8 @@ pub fn declare_batch<R: Threads + Sync>(
     store: &PointedStore,
     threads: usize,
 ) -> Result<Vec<Footprint>, Memory>
-    ensures { IsSound (database catalog.now store.now.rows) → IfOk result (λ footprints. footprints.items ≡ declared (database catalog.now store.now.rows) requests.now) }
+    ensures declared { IsSound (database catalog.now store.now.rows) → IfOk result (λ footprints. footprints.items ≡ declared (database catalog.now store.now.rows) requests.now) }
+    ensures each { IfOk result (λ footprints. length footprints.items ≡ length requests.now) }
 {
     let known = count(alloc, requests)?;
     let batch = Counted {
