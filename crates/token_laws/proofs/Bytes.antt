@@ -2,12 +2,13 @@
 use Rattle.std.proofs.Common.{ℕ, zero, suc, ◌<◌, Bool, true, false, List, length, Option, Some, None, IfSome, arith}
 use Rattle.std.specs.Int.{byte_at, bytes_high_first}
 use Rattle.std.specs.Prelude.{slice_index, unwrap_or}
+use Rattle.std.proofs.lemmas.List.Elements.{recursion_from_All}
 use Rattle.sha2.specs.Sha256.{digest_bytes, final_hash, initial_hash_256, sha256}
 use Rattle.tpcc_rows.specs.Encodings.{bytes_16, bytes_32, bytes_64, flag, maybe_moment, short_text, sized}
 use Rattle.tpcc_rows.specs.Limits.{IsBetween}
 use Rattle.tpcc_rows.specs.Texts.{IsPrintable, IsText}
 use Rattle.token_laws.specs.CoveredLimits.{AreBytes}
-use Rattle.token_laws.proofs.Lists.{by_recursion, bytes-append, bytes-cons, narrowed, no_bytes}
+use Rattle.token_laws.proofs.Lists.{bytes-append, bytes-cons, narrowed, no_bytes}
 
 -- ---- numbers
 byte : (k n : ℕ) → byte_at k n < 256
@@ -42,7 +43,7 @@ bytes-sha256 m = first_words_of (final_hash initial_hash_256 m) 8
 
 -- ---- texts and small numbers
 pub bytes-text : (n : ℕ) (text : List ℕ) → IsText n text → AreBytes text
-bytes-text n text is = record { each = narrowed IsPrintable (λ (b : ℕ). b < 256) text (λ b h. omega (arith, h.1)) (by_recursion IsPrintable text is.printable) }
+bytes-text n text is = record { each = narrowed IsPrintable (λ (b : ℕ). b < 256) text (λ b h. omega (arith, h.1)) (recursion_from_All IsPrintable text is.printable) }
 
 -- after its length in one byte
 pub bytes-short : (n : ℕ) (text : List ℕ) → n < 256 → IsText n text → AreBytes (short_text text)

@@ -1,6 +1,7 @@
 -- Equal tokens cover the same, or the search finds a collision.
 use Rattle.std.proofs.Common.{◌≡◌, ◌⊎◌, inl, inr, ℕ, List, ◌∷◌, ◌++◌, codes, length, append_assoc, Option, Some, None, find, zip, refl, sym, ◌∙◌, arith}
 use Rattle.std.specs.List.{AllByRecursion}
+use Rattle.std.proofs.lemmas.List.Elements.{recursion_from_All}
 use Rattle.std.specs.Prelude.{IsSomeAnd}
 use Rattle.std.proofs.lemmas.List.{append_cancel_left}
 use Rattle.sha2.proofs.Facts256.{length-sha256}
@@ -15,7 +16,7 @@ use Rattle.token_laws.specs.CoveredLimits.{AreBytes, IsReply, IsWithinLimits}
 use Rattle.token_laws.specs.EqualTokens.{AreSame, EqualTokens}
 use Rattle.token_laws.proofs.Bytes.{bytes-64, bytes-sha256}
 use Rattle.token_laws.proofs.Cards.{cards_apart, catalog-bytes}
-use Rattle.token_laws.proofs.Lists.{by_recursion, bytes-append}
+use Rattle.token_laws.proofs.Lists.{bytes-append}
 use Rattle.token_laws.proofs.Replies.{replies-bytes, replies_apart}
 use Rattle.token_laws.proofs.Rows.{rows_apart}
 use Rattle.token_laws.proofs.Search.{found, is_collision, no_collision, none_found, root-bytes, root-length, same_tree, tree-bytes, zip-all}
@@ -66,7 +67,7 @@ module _ (a b : Covered) (p : IsWithinLimits a) (q : IsWithinLimits b) where
       let cards = cards_apart a.database.cards b.database.cards p.database.cards q.database.cards (no_collision (catalog_text a.database.cards) (catalog_text b.database.cards) catalogs.0 part.catalog) in
       let rows = rows_apart a.database.rows b.database.rows p.database.rows q.database.rows (same_tree a.database.rows b.database.rows replies.1 part.rows) in
       let reply_text = no_collision (replies_bytes a.first a.replies) (replies_bytes b.first b.replies) replies.0 part.replies in
-      let reply = replies_apart a.first b.first a.replies b.replies p.numbers q.numbers (by_recursion IsReply a.replies p.replies) (by_recursion IsReply b.replies q.replies) reply_text in
+      let reply = replies_apart a.first b.first a.replies b.replies p.numbers q.numbers (recursion_from_All IsReply a.replies p.replies) (recursion_from_All IsReply b.replies q.replies) reply_text in
       record { sequence = part.sequence; prior = part.prior; database = databases cards rows; replies = reply.0; first = reply.1 }
 
 -- ---- what is found
@@ -80,7 +81,7 @@ token-bytes c p =
     rw (text-in_parts c) (bytes-append tag-bytes (bytes-append (bytes-64 c.sequence) (bytes-append p.prior (bytes-append (bytes-sha256 (catalog_text c.database.cards)) digests))))
 
 all-bytes : (c : Covered) → IsWithinLimits c → AllByRecursion AreBytes (hashed_texts c)
-all-bytes c p = (token-bytes c p, (catalog-bytes c.database.cards p.database.cards, (replies-bytes c.first c.replies (by_recursion IsReply c.replies p.replies), tree-bytes c.database.rows p.database.rows 16 0)))
+all-bytes c p = (token-bytes c p, (catalog-bytes c.database.cards p.database.cards, (replies-bytes c.first c.replies (recursion_from_All IsReply c.replies p.replies), tree-bytes c.database.rows p.database.rows 16 0)))
 
 abbrev AreBothBytes : List ℕ × List ℕ → Type 0
 AreBothBytes pair = AreBytes pair.0 × AreBytes pair.1

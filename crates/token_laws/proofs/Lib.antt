@@ -7,3 +7,5 @@ pub mod Sound
 pub mod Search
 pub mod EqualTokens
 pub mod Histories
+pub mod StepReplies
+pub mod Runs

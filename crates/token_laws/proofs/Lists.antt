@@ -1,5 +1,5 @@
 -- Lists of which each element has its bytes: they can be told apart, and each is of bytes.
-use Rattle.std.proofs.Common.{◌≡◌, ℕ, ◌<◌, suc, List, [], ◌∷◌, ◌++◌, All, length, length-append, append_assoc, cond, T, true, false, Bool, Some, refl, sym, ap, ◌∙◌, arith, ◌≤◌, ◌+◌, get_or, take, inl, inr, subst, length-take, get_or-take, take_all}
+use Rattle.std.proofs.Common.{◌≡◌, ℕ, ◌<◌, List, [], ◌∷◌, ◌++◌, length, length-append, append_assoc, cond, T, true, false, Bool, Some, refl, sym, ap, ◌∙◌, arith}
 use Rattle.std.specs.Cmp.{IsTotalOrder}
 use Rattle.std.specs.FinMap.{FinMap, IsAntisymmetric, entries, entries_sorted, find, get, get-entries, is_sorted}
 use Rattle.std.specs.FinMap.Entries.{below_all, where_key}
@@ -7,8 +7,6 @@ use Rattle.std.specs.List.{AllByRecursion, flat_map}
 use Rattle.std.specs.Ordering.{is_eq}
 use Rattle.std.specs.declared.cmp.Ordering.{Ordering}
 use Rattle.std.proofs.lemmas.Cmp.{tied_itself}
-use Rattle.std.proofs.lemmas.Bool.{cases_eq}
-use Rattle.std.proofs.lemmas.List.{get_or_default}
 use Rattle.tpcc_rows.proofs.Fields.{IsApart}
 use Rattle.tpcc_rows.proofs.Singles.{found_later, second}
 use Rattle.token_laws.specs.CoveredLimits.{AreBytes}
@@ -60,26 +58,9 @@ bytes-flat_map P f one [] p = no_bytes
 bytes-flat_map P f one (u ∷ us) p = bytes-append (one u p.0) (bytes-flat_map P f one us p.1)
 
 -- ---- what holds of each
-pub by_recursion : {A : Type 0} (P : A → Type 0) (us : List A) → All P us → AllByRecursion P us
-by_recursion P [] h = tt
-by_recursion P (a ∷ us) h = (h 0 a (omega arith), by_recursion P us (λ k d low. h (suc k) d (omega arith)))
-
 pub narrowed : {A : Type 0} (P Q : A → Type 0) (us : List A) → ((a : A) → P a → Q a) → AllByRecursion P us → AllByRecursion Q us
 narrowed P Q [] narrow h = tt
 narrowed P Q (a ∷ us) narrow h = (narrow a h.0, narrowed P Q us narrow h.1)
-
--- of one more
-pub one_more : {A : Type 0} (P : A → Type 0) (us : List A) (i : ℕ) (u : A) → i < length us → u ≡ get_or us i u → P u → All P (take i us) → All P (take (i + 1) us)
-one_more P us i u small here own before k d low = elim (cases_eq k i) [
-  | inl same ↦ subst P (here ∙ get_or_default us i u d small ∙ ap (λ j. get_or us j d) (sym same) ∙ sym (get_or-take (i + 1) us k d (omega arith))) own
-  | inr other ↦
-      let less : k < i = omega (arith, length-take (i + 1) us) in
-      subst P (get_or-take i us k d less ∙ sym (get_or-take (i + 1) us k d (omega arith))) (before k d (omega (arith, length-take i us)))
-]
-
--- of all, where it holds of as many
-pub all_taken : {A : Type 0} (P : A → Type 0) (us : List A) (i : ℕ) → length us ≤ i → All P (take i us) → All P us
-all_taken P us i most all = subst (All P) (take_all i us most) all
 
 -- of the entries of a map, where it holds of what the map has at each key
 module _ {K X : Type 0} {R : K → K → Ordering} (total : IsTotalOrder R) (exact : IsAntisymmetric R) (P : K × X → Type 0) where

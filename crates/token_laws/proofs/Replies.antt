@@ -1,6 +1,7 @@
 -- Replies and their numbers can be told apart by their text, which is of bytes.
 use Rattle.std.proofs.Common.{◌≡◌, ◌⊎◌, inl, inr, ℕ, ◌+◌, ◌<◌, ◌≤◌, ◌^◌, List, [], ◌∷◌, ◌++◌, length, length-append, append_assoc, Option, Some, None, IfSome, refl, sym, ap, ◌∙◌, arith}
 use Rattle.std.specs.List.{AllByRecursion, flat_map}
+use Rattle.std.proofs.lemmas.List.Elements.{recursion_from_All}
 use Rattle.std.specs.Prelude.{unwrap_or}
 use Rattle.requests.specs.Replies.{brand_text}
 use Rattle.requests.specs.declared.reply.Brand.{Brand}
@@ -28,7 +29,7 @@ use Rattle.tpcc_rows.proofs.Fields.{IsApart, byte, carriers, cents, moment_fits,
 use Rattle.tpcc_rows.proofs.Lengths.{length-bytes_64}
 use Rattle.token_laws.specs.CoveredLimits.{AreBytes, IsDelivered, IsDeliveryReply, IsLineReply, IsNewOrderReply, IsOrderStatusReply, IsPaymentReply, IsReply, IsShownCredit, IsShownLine, IsShownOrder}
 use Rattle.token_laws.proofs.Bytes.{bytes-16, bytes-32, bytes-64, bytes-moment, bytes-short, or_zero-small}
-use Rattle.token_laws.proofs.Lists.{by_recursion, bytes-append, bytes-cons, bytes-flat_map, counted, no_bytes}
+use Rattle.token_laws.proofs.Lists.{bytes-append, bytes-cons, bytes-flat_map, counted, no_bytes}
 
 -- ---- parts of replies
 brands : (a b : Brand) (xs ys : List ℕ) → brand_text a ++ xs ≡ brand_text b ++ ys → (a ≡ b) × (xs ≡ ys)
@@ -68,7 +69,7 @@ shown_orders = record {
       let c = byte b.1 in
       let d = byte c.1 in
       let carrier = carriers r.carrier s.carrier p.carrier q.carrier c.0 in
-      let lines = counted shown_lines r.lines s.lines xs ys d.0 (by_recursion IsShownLine r.lines p.lines) (by_recursion IsShownLine s.lines q.lines) d.1 in
+      let lines = counted shown_lines r.lines s.lines xs ys d.0 (recursion_from_All IsShownLine r.lines p.lines) (recursion_from_All IsShownLine s.lines q.lines) d.1 in
       (λ i. record { order = a.0 i; entry = b.0 i; carrier = carrier i; lines = lines.0 i }, lines.1);
 }
 
@@ -101,7 +102,7 @@ new_orders = record {
       let a = numbers_32.apart r.order s.order _ _ (omega (arith, p.order)) (omega (arith, q.order)) flat in
       let b = cents.apart r.total s.total _ _ p.total q.total a.1 in
       let c = byte b.1 in
-      let lines = counted line_replies r.lines s.lines xs ys c.0 (by_recursion IsLineReply r.lines p.lines) (by_recursion IsLineReply s.lines q.lines) c.1 in
+      let lines = counted line_replies r.lines s.lines xs ys c.0 (recursion_from_All IsLineReply r.lines p.lines) (recursion_from_All IsLineReply s.lines q.lines) c.1 in
       (λ i. record { order = a.0 i; total = b.0 i; lines = lines.0 i }, lines.1);
 }
 
@@ -136,7 +137,7 @@ order_statuses = record {
 }
 
 deliveries : (r s : DeliveryReply) (xs ys : List ℕ) → IsDeliveryReply r → IsDeliveryReply s → flat_map order_or_zero r.orders ++ xs ≡ flat_map order_or_zero s.orders ++ ys → (r ≡ s) × (xs ≡ ys)
-deliveries r s xs ys p q e = let o = counted delivered_orders r.orders s.orders xs ys (p.ten ∙ sym q.ten) (by_recursion IsDelivered r.orders p.orders) (by_recursion IsDelivered s.orders q.orders) e in (λ i. record { orders = o.0 i }, o.1)
+deliveries r s xs ys p q e = let o = counted delivered_orders r.orders s.orders xs ys (p.ten ∙ sym q.ten) (recursion_from_All IsDelivered r.orders p.orders) (recursion_from_All IsDelivered s.orders q.orders) e in (λ i. record { orders = o.0 i }, o.1)
 
 stock_levels : (r s : StockLevelReply) (xs ys : List ℕ) → r.low_stock < 2 ^ 32 → s.low_stock < 2 ^ 32 → bytes_32 r.low_stock ++ xs ≡ bytes_32 s.low_stock ++ ys → (r ≡ s) × (xs ≡ ys)
 stock_levels r s xs ys p q e = let n = numbers_32.apart r.low_stock s.low_stock xs ys p q e in (λ i. record { low_stock = n.0 i }, n.1)
@@ -213,7 +214,7 @@ line-bytes line h = bytes-append (bytes-append (bytes-32 _) (brand-bytes line.br
 new_order-bytes : (r : NewOrderReply) → IsNewOrderReply r → AreBytes (new_order_bytes r)
 new_order-bytes r h =
     let few : length r.lines < 256 = omega (arith, h.count) in
-    bytes-append (bytes-append (bytes-32 r.order) (bytes-64 _)) (bytes-cons few (bytes-flat_map IsLineReply line_reply_bytes line-bytes r.lines (by_recursion IsLineReply r.lines h.lines)))
+    bytes-append (bytes-append (bytes-32 r.order) (bytes-64 _)) (bytes-cons few (bytes-flat_map IsLineReply line_reply_bytes line-bytes r.lines (recursion_from_All IsLineReply r.lines h.lines)))
 
 credit-bytes : (c : ShownCredit) → IsShownCredit c → AreBytes (credit_bytes c)
 credit-bytes credit.Good h = bytes-cons (omega arith) (bytes-cons (omega arith) no_bytes)
@@ -231,7 +232,7 @@ shown_line-bytes line h =
 shown_order-bytes : (o : ShownOrder) → IsShownOrder o → AreBytes (shown_order_bytes o)
 shown_order-bytes o h =
     let few : length o.lines < 256 = omega (arith, h.count) in
-    let lines = bytes-flat_map IsShownLine shown_line_bytes shown_line-bytes o.lines (by_recursion IsShownLine o.lines h.lines) in
+    let lines = bytes-flat_map IsShownLine shown_line_bytes shown_line-bytes o.lines (recursion_from_All IsShownLine o.lines h.lines) in
     bytes-append (bytes-append (bytes-32 o.order) (bytes-64 o.entry)) (bytes-cons (or_zero-small o.carrier h.carrier) (bytes-cons few lines))
 
 last_order-bytes : (o : Option ShownOrder) → IfSome o IsShownOrder → AreBytes (last_order_bytes o)
@@ -263,7 +264,7 @@ outcome-bytes : (r : Reply) → IsReply r → AreBytes (outcome_bytes r)
 outcome-bytes (reply.NewOrder r) h = done-bytes kind.NewOrder (new_order-bytes r h)
 outcome-bytes (reply.Payment r) h = done-bytes kind.Payment (payment-bytes r h)
 outcome-bytes (reply.OrderStatus r) h = done-bytes kind.OrderStatus (order_status-bytes r h)
-outcome-bytes (reply.Delivery r) h = done-bytes kind.Delivery (bytes-flat_map IsDelivered order_or_zero (λ o is. bytes-32 (unwrap_or o 0)) r.orders (by_recursion IsDelivered r.orders h.orders))
+outcome-bytes (reply.Delivery r) h = done-bytes kind.Delivery (bytes-flat_map IsDelivered order_or_zero (λ o is. bytes-32 (unwrap_or o 0)) r.orders (recursion_from_All IsDelivered r.orders h.orders))
 outcome-bytes (reply.StockLevel r) h = done-bytes kind.StockLevel (bytes-32 r.low_stock)
 outcome-bytes (reply.Refused k f) h = bytes-cons (kind-small k) (bytes-cons (refusal-small f) no_bytes)
 

@@ -26,7 +26,7 @@ card_there f cards k None are is h = let no : ⊥ = cc in absurd no
 card_there f cards k (Some c) are is h = subst IsCardKey (are.keyed k c is) (own_limits c (are.limits k c is))
 
 -- the key of a card that is there is within its limits
-key_limits : {X : Type 0} (f : Card → Option X) (cards : Cards) (k : CardKey) → AreCards cards → IsSome (option_and_then f (get cards k)) → IsCardKey k
+pub key_limits : {X : Type 0} (f : Card → Option X) (cards : Cards) (k : CardKey) → AreCards cards → IsSome (option_and_then f (get cards k)) → IsCardKey k
 key_limits f cards k are h = card_there f cards k (get cards k) are refl h
 
 -- ---- rows
@@ -70,8 +70,9 @@ module _ (db : Database) (sound : IsSound db) where
   entry (key.DistrictNext w d) (row.DistrictNext r) h = record { kind = refl; key_limits = key_limits as_district db.cards (card_key.District w d) sound.cards h.0; row_limits = h.1 }
   entry _ _ h = absurd h
 
+  -- a row that is there
+  pub writable : (k : RowKey) (x : Row) → get db.rows k ≡ Some x → IsWritable k x
+  writable k x there = entry k x (sound.entries k x there)
+
 pub sound_is_writable : SoundIsWritable
-sound_is_writable db sound = record {
-  cards = record { keyed = sound.cards.keyed; limits = sound.cards.limits };
-  rows = λ k x there. entry db sound k x (sound.entries k x there);
-}
+sound_is_writable db sound = record { cards = record { keyed = sound.cards.keyed; limits = sound.cards.limits }; rows = writable db sound }

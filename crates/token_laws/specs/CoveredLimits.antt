@@ -17,13 +17,16 @@ use Rattle.requests.specs.declared.reply.ShownCredit.{ShownCredit}
 use Rattle.requests.specs.declared.reply.ShownCredit.TheVariants as credit
 use Rattle.requests.specs.declared.reply.ShownLine.{ShownLine}
 use Rattle.requests.specs.declared.reply.ShownOrder.{ShownOrder}
+use Rattle.requests.specs.declared.request.Request.{Request}
+use Rattle.tpcc_laws.specs.Requests.{IsRequest}
 use Rattle.tpcc_model.specs.Database.{Database}
 use Rattle.tpcc_model.specs.Soundness.{IsCard, IsSound}
+use Rattle.tpcc_model.specs.Steps.{step}
 use Rattle.tpcc_rows.specs.Encodings.{IsWritable}
 use Rattle.tpcc_rows.specs.Limits.{IsBetween, IsCents, IsStockQuantity}
 use Rattle.tpcc_rows.specs.RowMap.{Rows}
 use Rattle.tpcc_rows.specs.Texts.{IsText}
-use Rattle.tpcc_rows.specs.declared.id.TheConstants.{END_OF_NUMBERS}
+use Rattle.tpcc_rows.specs.declared.id.TheConstants.{END_OF_NUMBERS, LAST_REQUEST}
 use Rattle.tpcc_rows.specs.declared.key.RowKey.{RowKey}
 use Rattle.tpcc_rows.specs.declared.row.Row.{Row}
 use Rattle.token_laws.specs.Covered.{Covered}
@@ -84,6 +87,11 @@ IsReply (reply.OrderStatus r) = IsOrderStatusReply r
 IsReply (reply.Delivery r) = IsDeliveryReply r
 IsReply (reply.StockLevel r) = r.low_stock < 2 ^ 32
 IsReply (reply.Refused kind refusal) = Unit {0}
+
+-- what a step on a sound database replies is within its limits
+abbrev pub StepsReplyWithin : Type 0
+StepsReplyWithin = (db : Database) (request : Request) (number moment : ℕ) → IsSound db → IsRequest request → IsBetween 1 LAST_REQUEST number → IsBetween 0 999999999999 moment
+    → IsReply (step db request number moment).reply
 
 -- ---- databases
 -- each card is at its own key and within its limits

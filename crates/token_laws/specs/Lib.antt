@@ -4,3 +4,4 @@ pub mod Collisions
 pub mod EqualTokens
 pub mod Histories
 pub mod States
+pub mod Runs
