@@ -6,6 +6,6 @@ pub mod Replies
 pub mod Sound
 pub mod Search
 pub mod EqualTokens
-pub mod Histories
+pub mod Chains
 pub mod StepReplies
 pub mod Runs

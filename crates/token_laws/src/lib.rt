@@ -3,7 +3,7 @@
 
 ghost use Rattle.token_laws.specs.CoveredLimits.{SoundIsWritable, StepsReplyWithin};
 ghost use Rattle.token_laws.specs.EqualTokens.{EqualTokens};
-ghost use Rattle.token_laws.specs.Histories.{EqualHistories};
+ghost use Rattle.token_laws.specs.Chains.{EqualChains};
 ghost use Rattle.token_laws.specs.Runs.{EqualRuns};
 ghost use Rattle.token_laws.specs.States.{StatesAreCovered};
 
@@ -13,10 +13,10 @@ pub fn equal_tokens()
     ensures { EqualTokens }
 {}
 
-/// Where the newest tokens of two histories are equal, their tokens cover the same as far back as both go. Else two such
+/// Where the newest tokens of two chains are equal, their tokens cover the same as far back as both go. Else two such
 /// texts are exhibited.
-pub fn equal_histories()
-    ensures { EqualHistories }
+pub fn equal_chains()
+    ensures { EqualChains }
 {}
 
 /// Two runs with one last token have as many batches, and the same database, replies and token before the first and after

@@ -12,7 +12,7 @@ abbrev pub AreLinked : Covered → List Covered → Type 0
 AreLinked newest [] = Unit {0}
 AreLinked newest (earlier ∷ others) = (newest.prior ≡ token earlier) × AreLinked earlier others
 
-pub record IsHistory (newest : Covered) (earlier : List Covered) : Type 0 where
+pub record IsChain (newest : Covered) (earlier : List Covered) : Type 0 where
   pub limits : AllByRecursion IsWithinLimits (newest ∷ earlier)
   pub linked : AreLinked newest earlier
 
@@ -26,8 +26,8 @@ collision_since [] ys = None
 collision_since (x ∷ xs) [] = None
 collision_since (x ∷ xs) (y ∷ ys) = option_or (collision x y) (collision_since xs ys)
 
--- where the newest tokens of two histories are equal, all that the tokens of both cover is the same, as far back as both go,
+-- where the newest tokens of two chains are equal, all that the tokens of both cover is the same, as far back as both go,
 -- or the search gives two different texts with one SHA-256
-abbrev pub EqualHistories : Type 0
-EqualHistories = (a b : Covered) (before_a before_b : List Covered) → IsHistory a before_a → IsHistory b before_b → token a ≡ token b
+abbrev pub EqualChains : Type 0
+EqualChains = (a b : Covered) (before_a before_b : List Covered) → IsChain a before_a → IsChain b before_b → token a ≡ token b
     → AreSameSince (a ∷ before_a) (b ∷ before_b) ⊎ IsSomeAnd (collision_since (a ∷ before_a) (b ∷ before_b)) IsCollision
