@@ -1,5 +1,5 @@
 //! A batch on an engine, whose rows can go back.
-ghost use Rattle.std.specs.Prelude.{◌≡◌, ◌+◌, ◌<◌, ◌≤◌, ◌++◌, ◌∷◌, [], IfOk, OnErr, OnOk, Some, length, slice_get};
+ghost use Rattle.std.specs.Prelude.{◌≡◌, ◌+◌, ◌<◌, ◌≤◌, ◌++◌, ◌∷◌, [], IfOk, IsTrue, OnErr, OnOk, Some, length, slice_get};
 ghost use Rattle.catalog.specs.CardBytes.{catalog_digest};
 ghost use Rattle.executor.specs.Engines.{IsRecordBy, met_by, path_by_workers, replies_by, rows_by};
 ghost use Rattle.executor.specs.Paths.{path_by};
@@ -64,9 +64,20 @@ fn path_of(strayed: bool) -> Path
     if strayed { Path::Reran } else { Path::Parallel }
 }
 
+/// Whether the verdict asks for a rerun and no gate listens: what the levels do is then thrown away unseen.
+fn is_rerun_untold<G: Gate>(asked: Verdict, gate: &G) -> bool
+    ensures { IsTrue result → asked ≡ verdict.Rerun }
+{
+    match asked {
+        Verdict::Rerun => !gate.is_told(),
+        Verdict::Commit => false,
+    }
+}
+
 impl Engine {
     /// The replies to a batch on the rows of the newest point, and its path. N workers execute it, where there are any, and it is
-    /// executed once more, one request after the other, where a request strays in a level or the verdict asks for a rerun.
+    /// executed once more, one request after the other, where a request strays in a level or the verdict asks for a rerun. Where
+    /// it does and no gate listens, it is executed once.
     fn replies_of<R: Threads + Sync, G: Gate>(
         &mut self,
         rt: &R,
@@ -89,6 +100,10 @@ impl Engine {
             let replies = execute_sequential(alloc, &self.catalog, &mut self.store, next, gate)?;
             return Ok((replies, Path::Sequential));
         };
+        if is_rerun_untold(next.batch.verdict, gate) {
+            let replies = execute_sequential(alloc, &self.catalog, &mut self.store, next, gate)?;
+            return Ok((replies, Path::Verdict));
+        }
         let crew = Crew { rt, workers, gate };
         let path = match execute_parallel(alloc, &crew, &self.catalog, &mut self.store, next) {
             Ok(Pass { replies, strayed }) => match next.batch.verdict {
