@@ -116,7 +116,7 @@ below_four P a b c d (suc (suc (suc (suc k)))) h = absurd (omega arith)
 
 -- what a place past the last job is read as
 abbrev pub blank : Job
-blank = record { place = 0; measure = record { likely = 0; whole = 0 }; hash = [] }
+blank = record { place = 0; measure = 0; hash = [] }
 
 -- one more job hashed
 pub one-done : (value : ℕ → List ℕ) (old now : List Job) (k : ℕ) (job d : Job) → k < length now → job.place ≡ (get_or now k d).place → job.hash ≡ value job.place → IsDoneTo value k old now → IsDoneTo value (k + 1) old (set now k job)

@@ -7,11 +7,11 @@ ghost use Rattle.merkle.specs.Hashing.{IsFed, leaf_text};
 ghost use Rattle.tpcc_model.specs.Roots.{joined};
 ghost use Rattle.tpcc_rows.specs.Encodings.{row_bytes, rows_bytes};
 
-use crate::kept::{Shelf, ShelvedText, digests_of_kept, prefetch_rows};
 use hashers::{LONG_BYTES, SHORT_BYTES};
 use leaf_rows::LeafRows;
 use sha2::{Digest, Sha256};
-use tpcc_rows::encoding::append_row;
+use sha2_lanes::digests_of_four;
+use tpcc_rows::encoding::{append_row, enough_bytes};
 use tpcc_rows::key::RowKey;
 use tpcc_rows::row::Row;
 use tpcc_rows::row_buf::ByteBuf;
@@ -100,11 +100,15 @@ impl TwoTexts {
     }
 }
 
-/// A leaf: its page, and where its text is kept.
-#[derive(Clone, Copy)]
-pub(crate) struct Leaf<'a> {
-    pub(crate) page: &'a LeafRows,
-    pub(crate) shelf: Shelf<'a>,
+/// Prefetches the rows of a page; the answer is how many bytes suffice for them. A customer's row is reference-counted, and
+/// so lies apart from the page. Read one right after the other, before anything is done with the first, the page's customers come
+/// from memory together, where the encoder would wait for each of them in its turn.
+pub(crate) fn prefetch_rows(page: &LeafRows) -> usize {
+    let mut bytes = 0usize;
+    for (_, row) in page.as_slice() {
+        bytes = bytes.saturating_add(enough_bytes(row));
+    }
+    bytes
 }
 
 /// The hash of a leaf, of its rows in key order.
@@ -158,40 +162,30 @@ fn hash_from(page: &LeafRows, is_whole: bool, hash: [u8; 32]) -> [u8; 32]
 pub(crate) fn hash_four_leaves(
     front: &mut TwoTexts,
     back: &mut TwoTexts,
-    first: &Leaf,
-    second: &Leaf,
-    third: &Leaf,
-    fourth: &Leaf,
+    first: &LeafRows,
+    second: &LeafRows,
+    third: &LeafRows,
+    fourth: &LeafRows,
 ) -> [[u8; 32]; 4]
-    ensures { result ≡ sha256 (leaf_text first.now.page.now) ∷ sha256 (leaf_text second.now.page.now)
-        ∷ sha256 (leaf_text third.now.page.now) ∷ sha256 (leaf_text fourth.now.page.now) ∷ [] }
+    ensures { result ≡ sha256 (leaf_text first.now) ∷ sha256 (leaf_text second.now) ∷ sha256 (leaf_text third.now)
+        ∷ sha256 (leaf_text fourth.now) ∷ [] }
 {
-    let first_is_whole = encode_leaf(first.page, &mut front.first);
-    let second_is_whole = encode_leaf(second.page, &mut front.second);
-    let third_is_whole = encode_leaf(third.page, &mut back.first);
-    let fourth_is_whole = encode_leaf(fourth.page, &mut back.second);
-    let hashes = digests_of_kept(
-        shelved(&front.first, first.shelf),
-        shelved(&front.second, second.shelf),
-        shelved(&back.first, third.shelf),
-        shelved(&back.second, fourth.shelf),
+    let first_is_whole = encode_leaf(first, &mut front.first);
+    let second_is_whole = encode_leaf(second, &mut front.second);
+    let third_is_whole = encode_leaf(third, &mut back.first);
+    let fourth_is_whole = encode_leaf(fourth, &mut back.second);
+    let hashes = digests_of_four(
+        front.first.as_slice(),
+        front.second.as_slice(),
+        back.first.as_slice(),
+        back.second.as_slice(),
     );
     [
-        hash_from(first.page, first_is_whole, hashes[0]),
-        hash_from(second.page, second_is_whole, hashes[1]),
-        hash_from(third.page, third_is_whole, hashes[2]),
-        hash_from(fourth.page, fourth_is_whole, hashes[3]),
+        hash_from(first, first_is_whole, hashes[0]),
+        hash_from(second, second_is_whole, hashes[1]),
+        hash_from(third, third_is_whole, hashes[2]),
+        hash_from(fourth, fourth_is_whole, hashes[3]),
     ]
-}
-
-/// A text, and where it is kept.
-fn shelved<'a>(text: &'a ByteBuf<LEAF_BYTES>, shelf: Shelf<'a>) -> ShelvedText<'a>
-    ensures { result.text.now ≡ text.now }
-{
-    ShelvedText {
-        text: text.as_slice(),
-        shelf,
-    }
 }
 
 /// The hash of two nodes.

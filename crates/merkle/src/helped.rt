@@ -326,17 +326,12 @@ impl Helped {
             do_jobs(jobs, places);
             return;
         }
-        // Helpers hash whole texts, so nothing is looked for on the shelves.
-        let whole = Leaves {
-            store: places.store,
-            shelves: &[],
-        };
         let plan = Plan {
-            places: &whole,
+            places,
             most,
             size: LONG_TEXTS,
         };
-        sort_by_measure(jobs, &whole);
+        sort_by_measure(jobs, places);
         do_rounds(&mut self.helpers, &plan, jobs, &mut self.leaves);
     }
 

@@ -9,29 +9,12 @@ ghost use Rattle.merkle.specs.declared.jobs.Job.{Job};
 use crate::marks::{Marks, next_above};
 use tpcc_rows::codes::LEAVES;
 
-/// How many bytes of a place will likely be hashed, and how many all of it has. The first tell which of two measures is the
-/// greater, and the second where the first tie.
-#[derive(Clone, Copy, PartialEq, Eq, PartialOrd, Ord)]
-pub(crate) struct Measure {
-    pub(crate) likely: usize,
-    pub(crate) whole: usize,
-}
-
-impl Measure {
-    /// Of a place that will be hashed whole.
-    pub(crate) fn of_whole(bytes: usize) -> Measure {
-        Measure {
-            likely: bytes,
-            whole: bytes,
-        }
-    }
-}
-
 /// A place whose hash is to be found: a leaf by its number, or a node by its place in heap order.
 #[derive(Clone, Copy)]
 pub(crate) struct Job {
     pub(crate) place: usize,
-    pub(crate) measure: Measure,
+    /// About how many bytes its hash is of.
+    pub(crate) measure: usize,
     pub(crate) hash: [u8; 32],
 }
 
@@ -41,7 +24,7 @@ impl Job {
     {
         Job {
             place,
-            measure: Measure::of_whole(0),
+            measure: 0,
             hash: [0; 32],
         }
     }

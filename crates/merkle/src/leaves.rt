@@ -4,12 +4,12 @@ ghost use Rattle.pages.specs.BitSets.{has_bit};
 ghost use Rattle.merkle.specs.Jobs.{IsDone};
 ghost use Rattle.merkle.specs.Nodes.{at};
 ghost use Rattle.tpcc_model.specs.Roots.{leaf_hash};
-ghost use Rattle.tpcc_rows.specs.Leaves.{page_rows};
 
-use crate::hashing::{LEAF_BYTES, Leaf, TwoTexts, encode_leaf, hash_four_leaves, hash_leaf};
+use crate::hashing::{
+    LEAF_BYTES, TwoTexts, encode_leaf, hash_four_leaves, hash_leaf, prefetch_rows,
+};
 use crate::helped::{Encodes, Helped};
-use crate::jobs::{Job, Measure, gather_leaves, put_hashes};
-use crate::kept::{Group, Shelf, measure, shelf_of};
+use crate::jobs::{Job, gather_leaves, put_hashes};
 use crate::marks::Marks;
 use crate::places::Places;
 use crate::shares::{Crew, do_jobs_on};
@@ -21,27 +21,10 @@ use tpcc_rows::row_buf::ByteBuf;
 /// How many rows one thread takes at least: so many that it is worth its start, which costs a few hundred of them.
 const ROWS_AT_ONCE: usize = 4096;
 
-/// The leaves of a store, and what is kept of their texts: of a leaf with no shelf nothing.
+/// The leaves of a store.
 #[derive(Clone, Copy)]
 pub(crate) struct Leaves<'a> {
     pub(crate) store: &'a PointedStore,
-    pub(crate) shelves: &'a [Group],
-}
-
-impl<'a> Leaves<'a> {
-    fn shelf(&self, n: usize) -> Shelf<'a> {
-        shelf_of(self.shelves, n)
-    }
-
-    fn leaf(&self, n: usize) -> Leaf<'a>
-        requires { n < LEAVES }
-        ensures { result.page.now ≡ page_rows self.now.store.now.rows n }
-    {
-        Leaf {
-            page: self.store.page(n),
-            shelf: self.shelf(n),
-        }
-    }
 }
 
 impl Places for Leaves<'_> {
@@ -59,8 +42,8 @@ impl Places for Leaves<'_> {
         TwoTexts::new()
     }
 
-    fn measure(&self, n: usize) -> Measure {
-        measure(self.shelf(n), self.store.page(n))
+    fn measure(&self, n: usize) -> usize {
+        prefetch_rows(self.store.page(n))
     }
 
     #[tactic(auto, unfolding(tpcc_model::specs::Roots::leaf_hash))]
@@ -81,10 +64,10 @@ impl Places for Leaves<'_> {
         hash_four_leaves(
             front,
             back,
-            &self.leaf(a),
-            &self.leaf(b),
-            &self.leaf(c),
-            &self.leaf(d),
+            self.store.page(a),
+            self.store.page(b),
+            self.store.page(c),
+            self.store.page(d),
         )
     }
 }

@@ -7,7 +7,7 @@ ghost use Rattle.merkle.specs.Nodes.{IsJoinedFrom, IsNearlyTree, IsTree, at, joi
 
 use crate::hashing::{NODE_BYTES, encode_node, join};
 use crate::helped::{Encodes, Helped};
-use crate::jobs::{Job, Measure, gather_nodes, put_hashes};
+use crate::jobs::{Job, gather_nodes, put_hashes};
 use crate::marks::Marks;
 use crate::places::Places;
 use crate::shares::{Crew, do_jobs_on};
@@ -46,8 +46,8 @@ impl Places for InnerNodes<'_> {
 
     fn room() {}
 
-    fn measure(&self, _: usize) -> Measure {
-        Measure::of_whole(NODE_BYTES)
+    fn measure(&self, _: usize) -> usize {
+        NODE_BYTES
     }
 
     fn hash_one(&self, i: usize) -> [u8; 32] {

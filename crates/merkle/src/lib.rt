@@ -5,7 +5,6 @@ mod alike;
 pub mod hashing;
 mod helped;
 mod jobs;
-mod kept;
 mod leaves;
 mod levels;
 mod marks;

@@ -2,10 +2,10 @@
 ghost use Rattle.std.specs.Prelude.{◌≡◌, ◌∷◌, [], ℕ, List, All, length};
 ghost use Rattle.merkle.specs.Jobs.{IsDone, KeepsPlaces};
 
-use crate::jobs::{Job, Measure, give_hashes};
+use crate::jobs::{Job, give_hashes};
 
-/// How many places are measured together, and are then put in the order of how much of each will likely be hashed, and of their
-/// lengths where that ties: four neighbours take the time of the one of which most is hashed.
+/// How many places are measured together, and are then put in the order of their lengths: four neighbours take the time of the
+/// longest.
 const WINDOW: usize = 32;
 
 /// What has places, each with its hash.
@@ -22,8 +22,8 @@ pub(crate) trait Places {
 
     fn room() -> Self::Room;
 
-    /// How much will likely be hashed. What the hash is of is prefetched where it lies far apart.
-    fn measure(&self, place: usize) -> Measure
+    /// About how many bytes the hash is of. They are prefetched where they lie far apart.
+    fn measure(&self, place: usize) -> usize
         requires { has self.now place };
 
     fn hash_one(&self, place: usize) -> [u8; 32]
@@ -64,7 +64,7 @@ pub(crate) fn sort_by_measure<P: Places>(jobs: &mut [Job], places: &P)
     ensures there { All (λ job. P.has places.now job.place) jobs.new }
 {
     measure(jobs, places);
-    jobs.sort_unstable_by_key(|job: &Job| -> Measure { job.measure });
+    jobs.sort_unstable_by_key(|job: &Job| -> usize { job.measure });
 }
 
 /// Does a few jobs one after the other.

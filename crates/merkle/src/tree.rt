@@ -8,7 +8,6 @@ ghost use Rattle.tpcc_rows.specs.RowMap.{Rows};
 use crate::alike::empty_nodes;
 use crate::helped::Helped;
 use crate::jobs::Job;
-use crate::kept::{Group, shelves};
 use crate::leaves::{Leaves, rehash};
 use crate::levels::rejoin;
 use crate::marks::{Marks, mark_dirty, mark_filled};
@@ -51,8 +50,6 @@ pub struct Tree {
     // Room for what is to be hashed, so that a refresh takes no memory.
     jobs: Vec<Job>,
     helped: Helped,
-    // What is kept of the text of each leaf, where it has a shelf. No shelf grows.
-    shelves: Vec<Group>,
 }
 
 impl Model for Tree {
@@ -87,7 +84,6 @@ impl Tree {
         let mut jobs = Vec::with_capacity(alloc, LEAVES)?;
         let threads = thread::available_parallelism(rt).map_or(1, NonZeroUsize::get);
         let mut helped = Helped::alone(alloc);
-        let shelves = shelves(alloc, store);
         let mut marks = Marks::new();
         mark_filled(&mut marks, store);
         refresh_nodes(
@@ -99,17 +95,13 @@ impl Tree {
             &mut nodes,
             &mut jobs,
             &mut helped,
-            &Leaves {
-                store,
-                shelves: shelves.as_slice(),
-            },
+            &Leaves { store },
             &mut marks,
         );
         Ok(Tree {
             nodes,
             jobs,
             helped,
-            shelves,
         })
     }
 
@@ -146,10 +138,7 @@ impl Tree {
             &mut self.nodes,
             &mut self.jobs,
             &mut self.helped,
-            &Leaves {
-                store,
-                shelves: self.shelves.as_slice(),
-            },
+            &Leaves { store },
             &mut marks,
         );
     }
