@@ -3,12 +3,13 @@ ghost use Rattle.tpcc_rows.specs.Limits.{IsBetween};
 
 use catalog::Catalog;
 use made_database::make;
-use profiles::declare;
+use profiles::declare_batch;
 use requests::reply::Reply;
 use requests::request::{Batch, Request};
 use requests::{BatchReader, write_reply};
 use rollback::PointedStore;
 use std::alloc::Global;
+use std::thread::Threads;
 use tpcc_rows::delta::Delta;
 use tpcc_rows::footprint::Footprint;
 use tpcc_rows::id::RequestNumber;
@@ -96,13 +97,15 @@ impl Database {
         Some(())
     }
 
-    /// What each request of a batch is declared to touch.
-    pub fn declare(&self, alloc: Global, batch: &Batch) -> Result<Vec<Footprint>, Memory> {
-        let mut footprints = Vec::new(alloc);
-        for request in batch.requests.as_slice() {
-            footprints.push(declare(alloc, &self.catalog, request, &self.store)?)?;
-        }
-        Ok(footprints)
+    /// What each request of a batch declares.
+    pub fn declare<R: Threads + Sync>(
+        &self,
+        rt: &R,
+        alloc: Global,
+        batch: &Batch,
+    ) -> Result<Vec<Footprint>, Memory> {
+        let requests = batch.requests.as_slice();
+        declare_batch(rt, alloc, &self.catalog, requests, &self.store, 1)
     }
 }
 

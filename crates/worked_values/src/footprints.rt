@@ -4,6 +4,7 @@ use crate::batches::SEVEN_ORDERS;
 use crate::database::{Database, batch_of, database_after};
 use crate::rows::{Columns, Sold, put_all};
 use std::alloc::Global;
+use std::thread::Threads;
 use tpcc_rows::footprint::Footprint;
 use tpcc_rows::granule::Granule;
 
@@ -42,22 +43,34 @@ fn print_granules(rt: &impl Print, what: &str, granules: &[Granule]) {
     let _ = println!(rt; "");
 }
 
-fn show_touches(rt: &impl Print, request: &str, touches: &[Footprint]) {
-    for touch in touches {
-        let _ = println!(rt; "{request}");
-        print_granules(rt, "reads", touch.reads());
-        print_granules(rt, "writes", touch.writes());
-    }
+fn show_touch(rt: &impl Print, request: &str, touch: &Footprint) {
+    let _ = println!(rt; "{request}");
+    print_granules(rt, "reads", touch.reads());
+    print_granules(rt, "writes", touch.writes());
 }
 
 /// What a request reads and writes.
-fn show_request(rt: &impl Print, alloc: Global, database: &Database, request: &str) -> Option<()> {
-    let touches = database.declare(alloc, &batch_of(alloc, request)?).ok()?;
-    show_touches(rt, request, &touches);
+fn show_request<R: Threads + Sync + Print>(
+    rt: &R,
+    alloc: Global,
+    database: &Database,
+    request: &str,
+) -> Option<()> {
+    let touches = database
+        .declare(rt, alloc, &batch_of(alloc, request)?)
+        .ok()?;
+    for touch in &touches {
+        show_touch(rt, request, touch);
+    }
     Some(())
 }
 
-fn show_each(rt: &impl Print, alloc: Global, database: &Database, requests: &str) -> Option<()> {
+fn show_each<R: Threads + Sync + Print>(
+    rt: &R,
+    alloc: Global,
+    database: &Database,
+    requests: &str,
+) -> Option<()> {
     for request in requests.lines() {
         show_request(rt, alloc, database, request)?;
     }
@@ -134,7 +147,11 @@ const CASES: [(&[Columns], &str); 4] = [
     (&LINES, "S,1,1,10\nS,1,2,10"),
 ];
 
-fn show_cases(rt: &impl Print, alloc: Global, database: &mut Database) -> Option<()> {
+fn show_cases<R: Threads + Sync + Print>(
+    rt: &R,
+    alloc: Global,
+    database: &mut Database,
+) -> Option<()> {
     for (rows, requests) in &CASES {
         put_all(alloc, &mut database.store, *rows)?;
         show_each(rt, alloc, database, *requests)?;
@@ -142,7 +159,54 @@ fn show_cases(rt: &impl Print, alloc: Global, database: &mut Database) -> Option
     Some(())
 }
 
-pub fn show(rt: &impl Print, alloc: Global) -> Option<()> {
+/// Three new orders of a district, one of another and one of another warehouse, by customers 1 to 5.
+const FIVE_ORDERS: &str = "\
+N,1,1,1,1,1,1,2,1,1,3,1,1,4,1,1,5,1,1
+N,1,1,2,1,1,1,2,1,1,3,1,1,4,1,1,5,1,1
+N,1,1,3,1,1,1,2,1,1,3,1,1,4,1,1,5,1,1
+N,1,2,4,1,1,1,2,1,1,3,1,1,4,1,1,5,1,1
+N,2,3,5,1,2,1,2,2,1,3,2,1,4,2,1,5,2,1
+";
+
+/// A batch behind them that counts ahead. The fourth delivery of the warehouse finds no order left. The first stock level
+/// stands before the batch's orders; of those before the second one, one is of another district, one is refused for its
+/// item and one for its customer.
+const COUNTED: &str = "\
+D,1,5
+D,2,5
+S,1,1,10
+N,1,1,6,11,1,1,12,2,1,13,1,1,14,1,1,15,1,1
+N,1,2,6,21,1,1,22,1,1,23,1,1,24,1,1,25,1,1
+N,1,1,6,31,1,1,32,1,1,33,1,1,34,1,1,101,1,1
+N,1,1,46,31,1,1,32,1,1,33,1,1,34,1,1,35,1,1
+N,1,1,7,41,1,1,41,1,1,42,1,1,43,1,1,44,1,1
+S,1,1,10
+D,1,5
+D,1,5
+D,1,5
+D,2,5
+S,1,2,10
+S,3,1,10
+";
+
+/// What each request of a batch declares.
+fn show_batch<R: Threads + Sync + Print>(
+    rt: &R,
+    alloc: Global,
+    database: &Database,
+    requests: &str,
+) -> Option<()> {
+    let touches = database
+        .declare(rt, alloc, &batch_of(alloc, requests)?)
+        .ok()?;
+    for (request, touch) in requests.lines().zip(touches.iter()) {
+        show_touch(rt, request, touch);
+    }
+    Some(())
+}
+
+pub fn show<R: Threads + Sync + Print>(rt: &R, alloc: Global) -> Option<()> {
     show_cases(rt, alloc, &mut Database::make(alloc, 2).ok()?)?;
-    show_each(rt, alloc, &database_after(alloc, 1, SEVEN_ORDERS)?, "D,1,5")
+    show_each(rt, alloc, &database_after(alloc, 1, SEVEN_ORDERS)?, "D,1,5")?;
+    show_batch(rt, alloc, &database_after(alloc, 2, FIVE_ORDERS)?, COUNTED)
 }

@@ -66,14 +66,25 @@ struct Declared {
 }
 
 /// The requests of a batch, declared to touch what other requests touch.
-fn declared_as(alloc: Global, database: &Database, text: &str, others: &str) -> Option<Declared> {
+fn declared_as<R: Threads + Sync>(
+    rt: &R,
+    alloc: Global,
+    database: &Database,
+    text: &str,
+    others: &str,
+) -> Option<Declared> {
     let batch = batch_of(alloc, text)?;
-    let footprints = database.declare(alloc, &batch_of(alloc, others)?).ok()?;
+    let footprints = database.declare(rt, alloc, &batch_of(alloc, others)?).ok()?;
     Some(Declared { batch, footprints })
 }
 
-fn declared_itself(alloc: Global, database: &Database, text: &str) -> Option<Declared> {
-    declared_as(alloc, database, text, text)
+fn declared_itself<R: Threads + Sync>(
+    rt: &R,
+    alloc: Global,
+    database: &Database,
+    text: &str,
+) -> Option<Declared> {
+    declared_as(rt, alloc, database, text, text)
 }
 
 /// The requests at some places of a batch.
@@ -266,7 +277,7 @@ fn show_delivery<R: Threads + Sync + Print>(
     alloc: Global,
     database: &mut Database,
 ) -> Option<()> {
-    let both = declared_itself(alloc, database, ORDER_AND_DELIVERY)?;
+    let both = declared_itself(rt, alloc, database, ORDER_AND_DELIVERY)?;
     show_one(rt, alloc, database, &both, 1, &NoGate)?;
     apply_order(rt, alloc, database, &both)?;
     show_one(rt, alloc, database, &both, 1, &NoGate)
@@ -291,7 +302,7 @@ fn show_strays<R: Threads + Sync + Print>(
     database: &Database,
 ) -> Option<()> {
     for others in &STRAYS {
-        let three = declared_as(alloc, database, THREE_PAYMENTS, *others)?;
+        let three = declared_as(rt, alloc, database, THREE_PAYMENTS, *others)?;
         show_counted(rt, alloc, database, &three, 1)?;
     }
     Some(())
@@ -379,7 +390,7 @@ fn show_two_workers<R: Threads + Sync + Print>(
     alloc: Global,
     database: &Database,
 ) -> Option<()> {
-    let nine = declared_itself(alloc, database, NINE_PAYMENTS)?;
+    let nine = declared_itself(rt, alloc, database, NINE_PAYMENTS)?;
     let gate = MeetingGate::new();
     show_all(rt, alloc, database, &nine, 2, &gate)?;
     let _ = println!(rt; "two workers at once: {}", gate.has_met());
@@ -416,8 +427,8 @@ fn show_two_payments<R: Threads + Sync + Print>(
     alloc: Global,
     database: &Database,
 ) -> Option<()> {
-    let declared = declared_itself(alloc, database, TWO_PAYMENTS)?;
-    let other = declared_as(alloc, database, TWO_PAYMENTS, OTHER_PAYMENTS)?;
+    let declared = declared_itself(rt, alloc, database, TWO_PAYMENTS)?;
+    let other = declared_as(rt, alloc, database, TWO_PAYMENTS, OTHER_PAYMENTS)?;
     show_payments(rt, alloc, database, &declared, &other)
 }
 
@@ -426,9 +437,9 @@ fn show_two_strays<R: Threads + Sync + Print>(
     alloc: Global,
     database: &Database,
 ) -> Option<()> {
-    let three = declared_as(alloc, database, THREE_PAYMENTS, TWO_STRAY)?;
+    let three = declared_as(rt, alloc, database, THREE_PAYMENTS, TWO_STRAY)?;
     show_any_stray(rt, alloc, database, &three)?;
-    let nine = declared_as(alloc, database, NINE_PAYMENTS, NINE_OTHERS)?;
+    let nine = declared_as(rt, alloc, database, NINE_PAYMENTS, NINE_OTHERS)?;
     show_any_stray(rt, alloc, database, &nine)
 }
 
@@ -438,7 +449,7 @@ fn show_both_at_once<R: Threads + Sync + Print>(
     database: &Database,
 ) -> Option<()> {
     show_two_workers(rt, alloc, database)?;
-    let both = declared_itself(alloc, database, TWO_PAYMENTS)?;
+    let both = declared_itself(rt, alloc, database, TWO_PAYMENTS)?;
     show_two_seats(rt, alloc, database, &both)
 }
 
