@@ -1,24 +1,27 @@
 #!/usr/bin/env python3
 """Two replicas that execute the same batches and compare their tokens.
 
-usage: replica.py PROGRAM IMAGE BATCHES [FAULTY]
+usage: replica.py PROGRAM IMAGE BATCHES [FAULTY [STOPPED]]
 
 PROGRAM is eve-tpcc. Two of its processes answer commands on the database of IMAGE, one with 1 worker and one with 8. Each batch
 of BATCHES goes to both. Where their tokens agree, both commit it; where they don't, both go back to the state before it and
 execute it again with the verdict `rerun`. The second replica is given the batch of number FAULTY with its last request left out,
-as if the network had lost it. The status is 0 where each batch was agreed on in the end.
+as if the network had lost it. Behind the batch of number STOPPED the second replica tells its image and where its state stands, and is
+killed; another process goes on from there in its place. The status is 0 where each batch was agreed on in the end.
 """
 
 import subprocess
 import sys
+import tempfile
 
 
 class Replica:
-    """A process that answers commands."""
+    """A process that answers commands, on the database of an image; its state stands at a place that was told, or before any batch."""
 
-    def __init__(self, program, image, workers):
+    def __init__(self, program, image, workers, place=None):
+        self.words = [program, "serve", image, "--workers", str(workers)]
         self.process = subprocess.Popen(
-            [program, "serve", image, "--workers", str(workers)],
+            self.words + (["--from", place] if place else []),
             stdin=subprocess.PIPE,
             stdout=subprocess.PIPE,
             text=True,
@@ -28,11 +31,26 @@ class Replica:
         """Sends the records of a command; the answer's last record, field by field."""
         self.process.stdin.write("".join(record + "\n" for record in records))
         self.process.stdin.flush()
-        for line in self.process.stdout:
+        for line in iter(self.process.stdout.readline, ""):
             fields = line.rstrip("\n").split(",")
-            if fields[0] in ("batch", "commit", "rollback", "state", "refused"):
+            if fields[0] in ("batch", "commit", "rollback", "state", "image", "at", "refused"):
                 return fields
         raise SystemExit("replica: a session ended")
+
+    def restarted(self):
+        """Kills the process; another one that goes on from its image, and from where its state stood."""
+        place = ",".join(self.tell(["A"])[1:])
+        image = self.process.stdout.read(int(self.tell(["I"])[2]))
+        self.process.kill()
+        self.process.wait()
+        with tempfile.NamedTemporaryFile("w", encoding="ascii", suffix=".csv") as file:
+            file.write(image)
+            file.flush()
+            program, _, _, _, workers = self.words
+            another = Replica(program, file.name, int(workers), place)
+            if another.tell(["A"])[1:] != place.split(","):
+                raise SystemExit("replica: a session doesn't go on from where it was told")
+        return another
 
     def end(self):
         self.process.stdin.close()
@@ -85,16 +103,19 @@ def complete(replicas, number, batch, received):
     return True
 
 
-def main(program, image, batches, faulty="0"):
+def main(program, image, batches, faulty="0", stopped="0"):
     replicas = [Replica(program, image, workers) for workers in (1, 8)]
     for number, batch in enumerate(batches_of(batches), start=1):
         received = without_last(batch) if number == int(faulty) else batch
         if not complete(replicas, number, batch, received):
             return 1
+        if number == int(stopped):
+            replicas[1] = replicas[1].restarted()
+            print(f"batch {number}: the second replica was killed and started again")
     return max(replica.end() for replica in replicas)
 
 
 if __name__ == "__main__":
-    if len(sys.argv) not in (4, 5):
+    if len(sys.argv) not in (4, 5, 6):
         raise SystemExit(__doc__)
     sys.exit(main(*sys.argv[1:]))

@@ -17,4 +17,3 @@ pub mod Headlines
 pub mod CleanLeaves
 pub mod SerialLines
 pub mod Returns
-pub mod Resuming

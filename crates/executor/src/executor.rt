@@ -170,7 +170,8 @@ impl Executor {
 
     /// Where the present state stands.
     pub fn stamp(&self) -> Stamp
-        ensures { result ≡ stamp_of self.now.present }
+        ensures value { result ≡ stamp_of self.now.present }
+        ensures within { IsWithinLimits result }
     {
         self.present
     }

@@ -1,5 +1,6 @@
 pub mod RunLemmas
 pub mod WholeLemmas
+pub mod StampLemmas
 pub mod StoredLemmas
 pub mod FieldLemmas
 pub mod ShortBatches

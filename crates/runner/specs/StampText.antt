@@ -1,5 +1,5 @@
 -- Where a state stands, as it is told, and as it is given.
-use Rattle.std.specs.Prelude.{◌≡◌, ◌≢◌, ℕ, List, Ok, ◌++◌, codes, decimal, length}
+use Rattle.std.specs.Prelude.{◌≡◌, ℕ, List, Ok, ◌++◌, codes, decimal, length}
 use Rattle.hex.specs.Hex.{IsBytes, decode_sized}
 use Rattle.records.specs.Fields.{number_in}
 use Rattle.executor.specs.declared.next_batch.TheConstants.{LAST_NUMBER}
@@ -20,16 +20,11 @@ at_text stamp = codes "at," ++ stamp_word stamp ++ codes "\n"
 abbrev pub HasToken : Stamp → Type 0
 HasToken stamp = (length stamp.token ≡ 32) × IsBytes stamp.token
 
--- ---- read from its three parts
--- they say it
+-- the word tells this stamp, whose numbers are within their limits
+abbrev pub Tells : List ℕ → Stamp → Type 0
+Tells word stamp = IsWithinLimits stamp × HasToken stamp × (word ≡ stamp_word stamp)
+
+-- three parts say it
 abbrev pub AreRead : List ℕ → List ℕ → List ℕ → Stamp → Type 0
 AreRead sequence next token stamp =
     (number_in 0 LAST_NUMBER sequence ≡ Ok stamp.sequence) × (number_in 1 END_OF_NUMBERS next ≡ Ok stamp.next) × (decode_sized token 32 ≡ Ok stamp.token)
-
--- one of them says nothing
-abbrev pub AreUnread : List ℕ → List ℕ → List ℕ → Type 0
-AreUnread sequence next token = (stamp : Stamp) → AreRead sequence next token stamp → ⊥
-
--- no stamp whose numbers are within their limits is told so
-abbrev pub IsNoStamp : List ℕ → Type 0
-IsNoStamp word = (stamp : Stamp) → IsWithinLimits stamp → HasToken stamp → stamp_word stamp ≢ word

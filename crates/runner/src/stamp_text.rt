@@ -1,8 +1,9 @@
 //! Where a state stands, as text: in a line that tells it, and as a word that is given to go on from there.
-ghost use Rattle.std.specs.Prelude.{◌≡◌, ◌≤◌, ◌+◌, ◌++◌, IfNone, IfSome, IsErr, Ok, length};
+ghost use Rattle.std.specs.Prelude.{◌≡◌, ◌≤◌, ◌+◌, ◌++◌, ℕ, IfSome, List, Ok, Some, length};
 ghost use Rattle.executor.specs.Stamps.{IsWithinLimits};
+ghost use Rattle.executor.specs.declared.stamp.Stamp.{Stamp};
 ghost use Rattle.hex.specs.Hex.{decode_sized};
-ghost use Rattle.runner.specs.StampText.{AreRead, AreUnread, IsNoStamp, at_text, stamp_word};
+ghost use Rattle.runner.specs.StampText.{AreRead, HasToken, Tells, at_text, stamp_word};
 
 use crate::text::digits_of;
 use executor::{LAST_NUMBER, Stamp};
@@ -58,8 +59,7 @@ fn word_of(stamp: &Stamp) -> StampLine
 
 /// The token that these digits say.
 fn token_of(digits: &[u8]) -> Option<[u8; 32]>
-    ensures said { IfSome result (λ token. decode_sized digits.now 32 ≡ Ok token) }
-    ensures unsaid { IfNone result (IsErr (decode_sized digits.now 32)) }
+    ensures { (token : List ℕ) → decode_sized digits.now 32 ≡ Ok token → result ≡ Some token }
 {
     let mut token = [0; 32];
     hex::decode_to_slice(digits, &mut token).ok()?;
@@ -68,9 +68,9 @@ fn token_of(digits: &[u8]) -> Option<[u8; 32]>
 
 /// The stamp of these parts.
 fn stamp_of_parts(sequence: &[u8], next: &[u8], token: &[u8]) -> Option<Stamp>
-    ensures read { IfSome result (AreRead sequence.now next.now token.now) }
-    ensures unread { IfNone result (AreUnread sequence.now next.now token.now) }
+    ensures read { (stamp : Stamp) → AreRead sequence.now next.now token.now stamp → result ≡ Some stamp }
     ensures within { IfSome result IsWithinLimits }
+    ensures token { IfSome result HasToken }
 {
     let Ok(sequence) = number(sequence, 0, LAST_NUMBER) else {
         return None;
@@ -88,11 +88,10 @@ fn stamp_of_parts(sequence: &[u8], next: &[u8], token: &[u8]) -> Option<Stamp>
     })
 }
 
-/// The stamp that is told as `SEQ,NEXT,TOKEN`, where the word is that of one whose numbers are within their limits.
+/// The stamp that a word tells as `SEQ,NEXT,TOKEN`, with numbers within their limits.
 pub fn stamp_of(word: &str) -> Option<Stamp>
-    ensures told { IfSome result (λ stamp. stamp_word stamp ≡ word.now) }
-    ensures within { IfSome result IsWithinLimits }
-    ensures none { IfNone result (IsNoStamp word.now) }
+    ensures told { IfSome result (Tells word.now) }
+    ensures each { (stamp : Stamp) → Tells word.now stamp → result ≡ Some stamp }
 {
     let Some((sequence, rest)) = word.split_once(',') else {
         return None;

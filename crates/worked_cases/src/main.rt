@@ -1,4 +1,4 @@
-//! Runs of the whole program below its command line, in four parts. With no word it shows all of them; with the name of a part
+//! Runs of the whole program below its command line, in five parts. With no word it shows all of them; with the name of a part
 //! that part alone.
 //!
 //! | Part | What it shows |
@@ -6,6 +6,7 @@
 //! | `cases` | worked cases, from the bytes of images and of batches to the bytes that come of them |
 //! | `sessions` | a session whose commands come in pieces, and reads that fail |
 //! | `stored-runs` | runs that go on from the image that one before stored, and ends that fail |
+//! | `resumed-runs` | runs and sessions that go on from where the state of a stored image stood |
 //! | `refused-growths` | a check and a run, to be tried with each growth refused |
 //!
 //! Where memory is refused nothing is written, and the status is 1.
@@ -52,6 +53,7 @@ mod inputs;
 mod numbers;
 mod pieces;
 mod refused_growths;
+mod resumed_runs;
 mod runs;
 mod script;
 mod sessions;
@@ -61,6 +63,7 @@ mod text;
 
 use crate::files::read;
 use crate::refused_growths::show_refused_growths;
+use crate::resumed_runs::show_resumed_runs;
 use crate::runs::made;
 use crate::script::Script;
 use crate::sessions::show_sessions;
@@ -117,6 +120,9 @@ where
     }
     if is_all || asked == "stored-runs" {
         show_stored_runs(rt, out, image.as_slice());
+    }
+    if is_all || asked == "resumed-runs" {
+        show_resumed_runs(rt, out, image.as_slice())?;
     }
     if is_all || asked == "refused-growths" {
         show_refused_growths(rt, out, image.as_slice());
