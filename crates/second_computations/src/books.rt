@@ -1,5 +1,5 @@
-//! What requests touch on a made database, computed a second time: from their lines, from the database's rows by their keys, and
-//! from the numbers that it was made of.
+//! What the requests of a batch declare on a made database, computed a second time: from their lines, from the database's rows by
+//! their keys, and from the numbers that it was made of.
 use crate::columns::{byte, column, short, word};
 use crate::granules::{BOOK, CUSTOMER, NEXT, STOCK, Touch, WAREHOUSE, YTD, packed};
 use rollback::PointedStore;
@@ -14,24 +14,54 @@ pub struct Books<'a> {
     pub store: &'a PointedStore,
 }
 
+/// A request of a batch: its line, and the batch's lines, of which so many come before it.
+#[derive(Clone, Copy)]
+struct Placed<'a> {
+    line: &'a str,
+    batch: &'a str,
+    place: usize,
+}
+
+impl Placed<'_> {
+    /// How many deliveries of the same warehouse come before it.
+    fn earlier_deliveries(&self) -> usize {
+        let mut count = 0usize;
+        for (place, other) in self.batch.lines().enumerate() {
+            let is_one = column(other, 0) == "D" && byte(other, 1) == byte(self.line, 1);
+            if place < self.place && is_one {
+                count = count.saturating_add(1);
+            }
+        }
+        count
+    }
+
+    /// Whether the line of a place is an earlier order's of the same district.
+    fn is_earlier_order(&self, place: usize, other: &str) -> bool {
+        let is_near = byte(other, 1) == byte(self.line, 1) && byte(other, 2) == byte(self.line, 2);
+        place < self.place && column(other, 0) == "N" && is_near
+    }
+}
+
 impl Books<'_> {
-    /// What the request of a line touches, in order.
-    pub fn touch(&self, alloc: Global, line: &str) -> Option<Touch> {
+    /// What the request of a place of the batch declares, in order.
+    pub fn declared(&self, alloc: Global, batch: &str, place: usize, line: &str) -> Option<Touch> {
         let mut touch = Touch::new(alloc);
+        let request = Placed { line, batch, place };
         if byte(line, 1) <= self.warehouses {
-            self.add(alloc, line, &mut touch)?;
+            self.add(alloc, &request, &mut touch)?;
         }
         touch.sort();
         Some(touch)
     }
 
-    fn add(&self, alloc: Global, line: &str, touch: &mut Touch) -> Option<()> {
+    fn add(&self, alloc: Global, request: &Placed<'_>, touch: &mut Touch) -> Option<()> {
+        let line = request.line;
         match column(line, 0) {
             "N" => self.order(line, touch),
             "P" => self.pay(alloc, line, touch),
             "O" => tell(alloc, line, touch),
-            "D" => self.deliver(WarehouseId::new(byte(line, 1))?, touch),
-            _ => self.look(line, touch),
+            "D" => self.deliver(request, touch),
+            _ => self.look(request, touch),
         }
     }
 
@@ -89,11 +119,20 @@ impl Books<'_> {
         self.store.get(&key).is_some()
     }
 
-    /// The customer, O_C_ID, of the oldest new order of a district, 0 where there is none.
-    fn oldest_customer(&self, warehouse: WarehouseId, district: DistrictId) -> Option<u32> {
+    /// The customer, O_C_ID, of the new order of a district before which there are so many others, 0 where there is none.
+    fn customer_behind(
+        &self,
+        warehouse: WarehouseId,
+        district: DistrictId,
+        others: usize,
+    ) -> Option<u32> {
+        let mut passed = 0usize;
         for number in 1..self.next_order(warehouse, district)? {
             let order = OrderId::new(number)?;
-            if self.is_new(warehouse, district, order) {
+            let is_new = self.is_new(warehouse, district, order);
+            if is_new && passed < others {
+                passed = passed.saturating_add(1);
+            } else if is_new {
                 let key = RowKey::Order {
                     warehouse,
                     district,
@@ -106,10 +145,11 @@ impl Books<'_> {
         Some(0)
     }
 
-    fn deliver(&self, warehouse: WarehouseId, touch: &mut Touch) -> Option<()> {
-        let w = warehouse.number();
+    fn deliver(&self, request: &Placed<'_>, touch: &mut Touch) -> Option<()> {
+        let w = byte(request.line, 1);
+        let (warehouse, others) = (WarehouseId::new(w)?, request.earlier_deliveries());
         for d in 1..11u8 {
-            let customer = self.oldest_customer(warehouse, DistrictId::new(d)?)?;
+            let customer = self.customer_behind(warehouse, DistrictId::new(d)?, others)?;
             if customer == 0 {
                 touch.read(packed(BOOK, w, d, 0))?;
             } else {
@@ -143,14 +183,33 @@ impl Books<'_> {
         Some(())
     }
 
-    fn look(&self, line: &str, touch: &mut Touch) -> Option<()> {
-        let (w, d) = (byte(line, 1), byte(line, 2));
+    /// The items of an earlier order, which have stocks in each warehouse.
+    fn look_ahead(&self, warehouse: u8, order: &str, touch: &mut Touch) -> Option<()> {
+        if !self.are_known(order) {
+            return Some(());
+        }
+        for place in 1..16usize {
+            let item = word(order, 3 * place + 1);
+            if item != 0 {
+                touch.read(packed(STOCK, warehouse, 0, item))?;
+            }
+        }
+        Some(())
+    }
+
+    fn look(&self, request: &Placed<'_>, touch: &mut Touch) -> Option<()> {
+        let (w, d) = (byte(request.line, 1), byte(request.line, 2));
         let (warehouse, district) = (WarehouseId::new(w)?, DistrictId::new(d)?);
         touch.read(packed(NEXT, w, d, 0))?;
         touch.read(packed(BOOK, w, d, 0))?;
         let next = self.next_order(warehouse, district)?;
         for order in next.saturating_sub(20).max(1)..next {
             self.look_at(warehouse, district, OrderId::new(order)?, touch)?;
+        }
+        for (place, other) in request.batch.lines().enumerate() {
+            if request.is_earlier_order(place, other) {
+                self.look_ahead(w, other, touch)?;
+            }
         }
         Some(())
     }

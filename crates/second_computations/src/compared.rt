@@ -7,16 +7,18 @@ use crate::levels::{places_of, second_levels};
 use crate::printing::print_agreeing;
 use mixer::Cut;
 use std::alloc::Global;
+use std::thread::Threads;
 use tpcc_rows::footprint::Footprint;
 
 /// How many batches are compared.
 const BATCHES: u32 = 64;
 
-/// What each request touches by the second computation.
+/// What each request declares by the second computation.
 fn touches(alloc: Global, books: &Books<'_>, requests: &str) -> Option<Vec<Touch>> {
     let mut touches = Vec::new(alloc);
-    for line in requests.lines() {
-        touches.push(books.touch(alloc, line)?).ok()?;
+    for (place, line) in requests.lines().enumerate() {
+        let touch = books.declared(alloc, requests, place, line)?;
+        touches.push(touch).ok()?;
     }
     Some(touches)
 }
@@ -57,17 +59,21 @@ fn agree_on(alloc: Global, scene: &Scene, requests: &str) -> Option<bool> {
 }
 
 /// Whether the computations agree on thirty requests after forty others.
-fn agree(alloc: Global, seed: u64) -> Option<bool> {
+fn agree<R: Threads + Sync>(rt: &R, alloc: Global, seed: u64) -> Option<bool> {
     let mut dice = Dice { state: seed };
     let earlier = random_requests(alloc, &mut dice, 40)?;
     let requests = random_requests(alloc, &mut dice, 30)?;
-    agree_on(alloc, &scene_of(alloc, 2, &earlier, &requests)?, &requests)
+    agree_on(
+        alloc,
+        &scene_of(rt, alloc, 2, &earlier, &requests)?,
+        &requests,
+    )
 }
 
-pub fn show(rt: &impl Print, alloc: Global) -> Option<()> {
+pub fn show<R: Threads + Sync + Print>(rt: &R, alloc: Global) -> Option<()> {
     let mut agreeing = 0u32;
     for seed in 0..BATCHES {
-        agreeing = agreeing.saturating_add(u32::from(agree(alloc, u64::from(seed))?));
+        agreeing = agreeing.saturating_add(u32::from(agree(rt, alloc, u64::from(seed))?));
     }
     print_agreeing(
         rt,

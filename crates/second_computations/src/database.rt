@@ -3,13 +3,15 @@ use catalog::Catalog;
 use leaf_rows::LeafRows;
 use made_database::make;
 use mixer::{Cut, mix};
-use profiles::declare;
+use profiles::declare_batch;
 use requests::reply::Reply;
 use requests::request::{Batch, Request};
 use requests::{BatchReader, write_reply};
 use rollback::PointedStore;
 use sha2::{Digest, Sha256};
 use std::alloc::Global;
+use std::slice;
+use std::thread::Threads;
 use tpcc_rows::codes::LEAVES;
 use tpcc_rows::delta::Delta;
 use tpcc_rows::encoding::encode_row;
@@ -107,17 +109,24 @@ impl Database {
         hasher.finalize()
     }
 
-    /// What a request is declared to touch.
-    pub fn declare(&self, alloc: Global, request: &Request) -> Option<Footprint> {
-        declare(alloc, &self.catalog, request, &self.store).ok()
+    /// What each of these requests declares as a batch of its own.
+    fn declare<R: Threads + Sync>(
+        &self,
+        rt: &R,
+        alloc: Global,
+        requests: &[Request],
+    ) -> Option<Vec<Footprint>> {
+        declare_batch(rt, alloc, &self.catalog, requests, &self.store, 1).ok()
     }
 
-    fn footprints(&self, alloc: Global, batch: &Batch) -> Option<Vec<Footprint>> {
-        let mut footprints = Vec::new(alloc);
-        for request in batch.requests.as_slice() {
-            footprints.push(self.declare(alloc, request)?).ok()?;
-        }
-        Some(footprints)
+    /// What a request touches.
+    pub fn touch<R: Threads + Sync>(
+        &self,
+        rt: &R,
+        alloc: Global,
+        request: &Request,
+    ) -> Option<Footprint> {
+        self.declare(rt, alloc, slice::from_ref(request))?.pop()
     }
 }
 
@@ -149,10 +158,16 @@ pub struct Scene {
 }
 
 /// A batch of requests to a made database of so many warehouses after the earlier requests.
-pub fn scene_of(alloc: Global, warehouses: u8, earlier: &str, requests: &str) -> Option<Scene> {
+pub fn scene_of<R: Threads + Sync>(
+    rt: &R,
+    alloc: Global,
+    warehouses: u8,
+    earlier: &str,
+    requests: &str,
+) -> Option<Scene> {
     let database = after(alloc, warehouses, earlier)?;
     let batch = batch_of(alloc, requests)?;
-    let footprints = database.footprints(alloc, &batch)?;
+    let footprints = database.declare(rt, alloc, batch.requests.as_slice())?;
     if 1_024 < footprints.len() {
         return None;
     }

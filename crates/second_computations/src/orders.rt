@@ -2,6 +2,7 @@
 use crate::database::{Scene, scene_of};
 use crate::drawn::{Dice, random_requests};
 use std::alloc::Global;
+use std::thread::Threads;
 
 /// How a batch is executed.
 #[derive(Clone, Copy)]
@@ -20,11 +21,16 @@ const LEVEL_WAYS: [Way; 3] = [Way::InTurn, Way::Turned, Way::Together];
 
 impl Scene {
     /// The places of a level the touch of whose requests is now not within what they declared.
-    fn straying(&self, alloc: Global, level: usize) -> Option<Vec<usize>> {
+    fn straying<R: Threads + Sync>(
+        &self,
+        rt: &R,
+        alloc: Global,
+        level: usize,
+    ) -> Option<Vec<usize>> {
         let mut straying = Vec::new(alloc);
         for place in self.cut.level(level)? {
             let request = self.batch.requests.as_slice().get(*place)?;
-            let touch = self.database.declare(alloc, request)?;
+            let touch = self.database.touch(rt, alloc, request)?;
             if !self.footprints.get(*place)?.covers(&touch) {
                 straying.push(*place).ok()?;
             }
@@ -51,13 +57,18 @@ impl Scene {
     }
 
     /// Executes the batch, until the first level some of whose places stray; the answer is these places.
-    pub fn execute(&mut self, alloc: Global, way: Way) -> Option<Vec<usize>> {
+    pub fn execute<R: Threads + Sync>(
+        &mut self,
+        rt: &R,
+        alloc: Global,
+        way: Way,
+    ) -> Option<Vec<usize>> {
         if matches!(way, Way::InBatch) {
             self.database.execute_all(alloc, &self.batch)?;
             return Some(Vec::new(alloc));
         }
         for level in 0..self.cut.depth() {
-            let straying = self.straying(alloc, level)?;
+            let straying = self.straying(rt, alloc, level)?;
             if !straying.is_empty() {
                 return Some(straying);
             }
@@ -68,17 +79,22 @@ impl Scene {
 }
 
 /// Eight requests that look random, after twenty others.
-fn random_scene(alloc: Global, seed: u64) -> Option<Scene> {
+fn random_scene<R: Threads + Sync>(rt: &R, alloc: Global, seed: u64) -> Option<Scene> {
     let mut dice = Dice { state: seed };
     let earlier = random_requests(alloc, &mut dice, 20)?;
     let requests = random_requests(alloc, &mut dice, 8)?;
-    scene_of(alloc, 2, &earlier, &requests)
+    scene_of(rt, alloc, 2, &earlier, &requests)
 }
 
 /// What the batch of a seed leaves, as the digest of its rows and replies; none where a place strays.
-fn left_by(alloc: Global, seed: u64, way: Way) -> Option<Option<[u8; 32]>> {
-    let mut scene = random_scene(alloc, seed)?;
-    if scene.execute(alloc, way)?.is_empty() {
+fn left_by<R: Threads + Sync>(
+    rt: &R,
+    alloc: Global,
+    seed: u64,
+    way: Way,
+) -> Option<Option<[u8; 32]>> {
+    let mut scene = random_scene(rt, alloc, seed)?;
+    if scene.execute(rt, alloc, way)?.is_empty() {
         Some(Some(scene.database.digest()))
     } else {
         Some(None)
@@ -86,11 +102,11 @@ fn left_by(alloc: Global, seed: u64, way: Way) -> Option<Option<[u8; 32]>> {
 }
 
 /// In how many ways places of a seed's batch stray, and in how many others it leaves what it leaves one request after the other.
-fn count_ways(alloc: Global, seed: u64) -> Option<(u32, u32)> {
-    let wanted = left_by(alloc, seed, Way::InBatch)?;
+fn count_ways<R: Threads + Sync>(rt: &R, alloc: Global, seed: u64) -> Option<(u32, u32)> {
+    let wanted = left_by(rt, alloc, seed, Way::InBatch)?;
     let (mut straying, mut agreeing) = (0u32, 0u32);
     for way in &LEVEL_WAYS {
-        match left_by(alloc, seed, *way)? {
+        match left_by(rt, alloc, seed, *way)? {
             Some(left) => agreeing = agreeing.saturating_add(u32::from(Some(left) == wanted)),
             None => straying = straying.saturating_add(1),
         }
@@ -99,10 +115,10 @@ fn count_ways(alloc: Global, seed: u64) -> Option<(u32, u32)> {
 }
 
 /// Where no place strays, replies and rows are those of batch order. Of the batches some stray, and some don't.
-pub fn show(rt: &impl Print, alloc: Global) -> Option<()> {
+pub fn show<R: Threads + Sync + Print>(rt: &R, alloc: Global) -> Option<()> {
     let (mut straying, mut agreeing) = (0u32, 0u32);
     for seed in 1..65 {
-        let (stray, agree) = count_ways(alloc, seed)?;
+        let (stray, agree) = count_ways(rt, alloc, seed)?;
         straying = straying.saturating_add(stray);
         agreeing = agreeing.saturating_add(agree);
     }

@@ -10,11 +10,12 @@ use crate::worked_requests::REQUESTS;
 use mixer::Cut;
 use signatures_simd::granule_bit;
 use std::alloc::Global;
+use std::thread::Threads;
 use tpcc_rows::footprint::Footprint;
 
 /// What is shown of a batch, of how many warehouses the database is made, what the batch is, the requests that are executed before,
-/// and the requests of the batch. Of two deliveries the later one delivers another order than the one that was there at first; a
-/// delivery and stock levels read orders of their own batch.
+/// and the requests of the batch. Of two deliveries the later one declares the second order; stock levels declare the items of
+/// their own batch; a delivery strays whose order is of its own batch.
 const CASES: &str = "\
 footprint|1|a delivery of no order|nothing|delivery
 footprint|1|a delivery of seven orders|seven orders|delivery
@@ -103,7 +104,12 @@ fn show_bits(rt: &impl Print, footprint: &Footprint) {
     }
 }
 
-fn show_scene(rt: &impl Print, alloc: Global, case: &str, scene: &mut Scene) -> Option<()> {
+fn show_scene<R: Threads + Sync + Print>(
+    rt: &R,
+    alloc: Global,
+    case: &str,
+    scene: &mut Scene,
+) -> Option<()> {
     let what = part(case, '|', 2);
     match part(case, '|', 0) {
         "footprint" => {
@@ -120,7 +126,7 @@ fn show_scene(rt: &impl Print, alloc: Global, case: &str, scene: &mut Scene) -> 
         }
         "straying" => {
             let _ = print!(rt; "of {what} stray:");
-            print_places(rt, &scene.execute(alloc, Way::Together)?);
+            print_places(rt, &scene.execute(rt, alloc, Way::Together)?);
         }
         _ => {
             let _ = print!(rt; "{what} on a loan of what it declares:");
@@ -131,15 +137,16 @@ fn show_scene(rt: &impl Print, alloc: Global, case: &str, scene: &mut Scene) -> 
     Some(())
 }
 
-fn show_case(rt: &impl Print, alloc: Global, case: &str) -> Option<()> {
+fn show_case<R: Threads + Sync + Print>(rt: &R, alloc: Global, case: &str) -> Option<()> {
     let warehouses = part(case, '|', 1).parse().ok()?;
     let earlier = requests(part(case, '|', 3));
-    let mut scene = scene_of(alloc, warehouses, earlier, requests(part(case, '|', 4)))?;
+    let batch = requests(part(case, '|', 4));
+    let mut scene = scene_of(rt, alloc, warehouses, earlier, batch)?;
     show_scene(rt, alloc, case, &mut scene)
 }
 
 /// Shows the cases of which this is shown.
-pub fn show(rt: &impl Print, alloc: Global, shown: &str) -> Option<()> {
+pub fn show<R: Threads + Sync + Print>(rt: &R, alloc: Global, shown: &str) -> Option<()> {
     for case in CASES.lines() {
         if part(case, '|', 0) == shown {
             show_case(rt, alloc, case)?;
