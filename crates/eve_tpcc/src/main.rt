@@ -224,9 +224,9 @@ where
                 batches,
                 workers,
                 store,
-                from,
                 at,
             },
+            &from,
         ),
         Err(status) => status,
     }

@@ -69,11 +69,8 @@ pub struct Asked<'a> {
     pub batches: &'a str,
     pub workers: Workers,
     pub store: Option<&'a str>,
-    /// Where the image's state stands; before any batch where it isn't told.
-    pub from: Option<Stamp>,
     /// Whether it is to be told where the last state stands.
     pub at: bool,
-    pub ghost within: { IfSome from IsWithinLimits },
 }
 
 /// Runs batches on the state that an executor has, and stores the last state, where there is a file for it.
@@ -134,14 +131,16 @@ fn run_loaded<R: Files + Print + Eprint + AllocGlobal + Host>(
     batches: R::File,
     store: Option<StoreFile<R::File>>,
     asked: &Asked<'_>,
+    from: &Option<Stamp>,
 ) -> ExitCode
 where
     R::File: Drop,
     requires alone { executor.old.earlier ≡ [] }
     requires sound { IsSoundState executor.old.cards executor.old.present }
     requires low { 1 ≤ executor.old.present.next }
+    requires within { IfSome from.now IsWithinLimits }
 {
-    if let Err(status) = resume(rt, executor, &asked.from) {
+    if let Err(status) = resume(rt, executor, from) {
         return status;
     }
     let ran = run_batches(rt, executor, batches, store, asked.workers);
@@ -168,14 +167,16 @@ fn store_of<R: Files + Eprint>(
     }
 }
 
-/// Runs batches as it is asked.
+/// Runs batches as it is asked, on the database of an image whose state stands where it is told; before any batch where it isn't told.
 #[inline(never)]
 pub fn run_asked<R: Files + Print + Eprint + AllocGlobal + Host>(
     rt: &R,
     asked: &Asked<'_>,
+    from: &Option<Stamp>,
 ) -> ExitCode
 where
     R::File: Drop,
+    requires { IfSome from.now IsWithinLimits }
 {
     let Ok(image) = fs::open(rt, asked.image) else {
         return cannot_open(rt, asked.image);
@@ -190,7 +191,7 @@ where
     let mut image_source = Counting::new(image);
     let mut loaded = load_executor(rt, rt.alloc(), &mut image_source);
     match &mut loaded {
-        Ok(executor) => run_loaded(rt, executor, batches, store, asked),
+        Ok(executor) => run_loaded(rt, executor, batches, store, asked, from),
         Err(fault) => report(rt, &StoredRunFault::Run(*fault)),
     }
 }
