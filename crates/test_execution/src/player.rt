@@ -165,6 +165,7 @@ impl Player<'_> {
         match word {
             "token" => self.has_token(rest),
             "told" => Some(self.gate.has_counted(number_of(rest))),
+            "parallel" => Some(self.record(rest)?.path == Path::Parallel),
             "reran" => Some(self.record(rest)?.path == Path::Reran),
             "replies" => self.has_replies(rest),
             "same" => self.has_same(rest),
