@@ -1,6 +1,7 @@
 //! The commands of a text, one after the other, as its bytes come.
-ghost use Rattle.std.specs.Prelude.{◌≡◌, ◌+◌, ◌<◌, ◌≤◌, Err, IfErr, IfNone, IfOk, IfSome, None, OnSome, Some, option_map};
+ghost use Rattle.std.specs.Prelude.{◌≡◌, ◌+◌, ◌<◌, ◌≤◌, [], Err, IfErr, IfNone, IfOk, IfSome, None, OnSome, Some, option_map};
 ghost use Rattle.commands.specs.Commands.{Gives, IsOver, StopsBy, commands};
+ghost use Rattle.requests.specs.Batches.{clean};
 ghost use Rattle.commands.specs.declared.command_reader.TheConstants.{LAST_RECORD};
 
 use crate::command::Command;
@@ -65,6 +66,7 @@ impl<R: Read + Drop> CommandReader<R> {
     pub fn next_command(&mut self, alloc: Global) -> Result<Option<Command>, ReadError>
         ensures command { IfOk result (λ o. IfSome o (λ c. Gives c self.old.left self.new.left)) }
         ensures end { IfOk result (λ o. IfNone o (IsOver self.old.left)) }
+        ensures over { IfOk result (λ o. IfNone o (self.new.left ≡ Some ([], clean))) }
         ensures err { IfErr result (λ e. StopsBy e self.old.left) }
         ensures stopped { IfErr result (λ e. self.new.stopped ≡ Some e) }
         ensures again { IfSome self.old.stopped (λ e. result ≡ Err e) }

@@ -1,172 +1,158 @@
--- Each state of a line is what one thread leaves after the batches that were kept up to it.
-use Rattle.std.proofs.Common.{◌≡◌, ◌⊎◌, inl, inr, ℕ, zero, suc, ◌+◌, ◌<◌, ◌≤◌, List, [], ◌∷◌, ◌++◌, length, get_or, take, drop, Some, refl, sym, ap, subst, ◌∙◌, arith}
-use Rattle.std.proofs.lemmas.List.{length-append, length_push, length-take-le, take-append-le, take-take, take_all}
-use Rattle.std.proofs.lemmas.Option.{slice_get-get_or}
-use Rattle.std.specs.List.{All, slice_get}
+-- A line is the one that one thread makes of the batches that are kept.
+use Rattle.std.proofs.Common.{◌≡◌, inl, inr, ℕ, zero, suc, ◌+◌, ◌-◌, ◌<◌, ◌≤◌, List, [], ◌∷◌, ◌++◌, length, take, drop, Some, None, refl, sym, ap, subst, ◌∙◌, append_assoc, append-nil, arith}
+use Rattle.std.proofs.lemmas.List.{length-append, length_push}
+use Rattle.std.specs.List.{slice_get}
 use Rattle.catalog.specs.CardMap.{Cards}
 use Rattle.requests.specs.declared.request.Batch.{Batch}
-use Rattle.tpcc_model.specs.Database.{Database}
-use Rattle.tpcc_model.specs.Serial.{State, after_batch, opening, serial}
-use Rattle.executor.specs.Calls.{Call, Committed, Executed, LeadOn, Leads, Refused, ReturnedTo, kept_after, kept_by}
+use Rattle.tpcc_model.specs.Serial.{State, after_batch, serial}
+use Rattle.executor.specs.Calls.{Call, Committed, Executed, IsRecordOfEither, LeadOn, Leads, Refused, ReturnedTo, kept_by, kept_on}
+use Rattle.executor.specs.Kept.{Kept, all_kept, none_kept, serial_line, states_met, up_to, with_batch, with_committed}
 use Rattle.executor.specs.Laws.{LinesAreSerial}
-use Rattle.executor.specs.Lines.{Line, opening_line}
+use Rattle.executor.specs.Lines.{IsReturned, Line, committed, extended, states}
+use Rattle.executor.specs.States.{IsSoundState}
+use Rattle.executor.specs.declared.record.Record.{Record}
 use Rattle.executor.proofs.Running.{serial-more}
 
--- ---- items by their places
-get-front : (xs ys : List State) (k : ℕ) → k < length xs → slice_get (xs ++ ys) k ≡ slice_get xs k
-get-front [] ys k h = absurd (omega (arith, h))
-get-front (x ∷ xs) ys zero h = refl
-get-front (x ∷ xs) ys (suc k) h = get-front xs ys k (omega (arith, h))
+-- ---- batches one after the other
+pub serial-append : (cards : Cards) (state : State) (first rest : List Batch) → serial cards state (first ++ rest) ≡ serial cards (serial cards state first) rest
+serial-append cards state [] rest = refl
+serial-append cards state (batch ∷ first) rest = serial-append cards (after_batch cards state batch) first rest
 
-get-last : (xs : List State) (x : State) → slice_get (xs ++ x ∷ []) (length xs) ≡ Some x
-get-last [] x = refl
-get-last (y ∷ xs) x = get-last xs x
-
-all-by-place : (P : State → Type 0) (xs : List State) → ((k : ℕ) (x : State) → k < length xs → slice_get xs k ≡ Some x → P x) → All P xs
-all-by-place P xs each k d h = each k (get_or xs k d) h (slice_get-get_or xs k d h)
-
-the-same : (x y : State) → Some x ≡ Some y → x ≡ y
-the-same x y e = cc
-
-sequence-of : (cards : Cards) (start : State) (batches : List Batch) → (serial cards start batches).sequence ≡ start.sequence + length batches
+pub sequence-of : (cards : Cards) (start : State) (batches : List Batch) → (serial cards start batches).sequence ≡ start.sequence + length batches
 sequence-of cards start [] = let e : start.sequence ≡ start.sequence + 0 = omega arith in e
 sequence-of cards start (batch ∷ batches) = sequence-of cards (after_batch cards start batch) batches ∙ (let e : start.sequence + 1 + length batches ≡ start.sequence + length (batch ∷ batches) = omega arith in e)
 
+states_met-more : (cards : Cards) (state : State) (batches : List Batch) (batch : Batch) → states_met cards state (batches ++ batch ∷ []) ≡ states_met cards state batches ++ serial cards state batches ∷ []
+states_met-more cards state [] batch = refl
+states_met-more cards state (first ∷ batches) batch = ap (λ (ss : List State). state ∷ ss) (states_met-more cards (after_batch cards state first) batches batch)
+
+abbrev line_of : Cards → List State → State → Line
+line_of cards earlier present = record { cards = cards; earlier = earlier; present = present }
+
+line-same : (cards : Cards) (xs ys : List State) (x y : State) → xs ≡ ys → x ≡ y → line_of cards xs x ≡ line_of cards ys y
+line-same cards xs ys x y before now = (λ i. line_of cards (before i) (now i))
+
 module _ (cards : Cards) (start : State) where
-  -- the first of the states comes after so many of the batches, and each of them after one more
-  record IsSerialFrom (base : ℕ) (kept : List Batch) (earlier : List State) (present : State) : Type 0 where
-    counted : base + length earlier ≡ length kept
-    at : (k : ℕ) → k ≤ length earlier → slice_get (earlier ++ present ∷ []) k ≡ Some (serial cards start (take (base + k) kept))
+  -- ---- a batch was executed
+  pub serial_line-extended : (kept : Kept) (batch : Batch) → extended (serial_line cards start kept) batch ≡ serial_line cards start (with_batch batch kept)
+  serial_line-extended kept batch =
+      line-same cards _ _ _ _
+      (ap (λ (s : State). states_met cards (serial cards start kept.committed) kept.uncommitted ++ s ∷ []) (serial-append cards start kept.committed kept.uncommitted)
+          ∙ sym (states_met-more cards (serial cards start kept.committed) kept.uncommitted batch))
+      (sym (serial-more cards start (all_kept kept) batch) ∙ ap (serial cards start) (append_assoc kept.committed kept.uncommitted (batch ∷ [])))
 
-  present-is : (base : ℕ) (kept : List Batch) (earlier : List State) (present : State) → IsSerialFrom base kept earlier present → present ≡ serial cards start kept
-  present-is base kept earlier present h =
-      the-same present (serial cards start kept)
-      (sym (get-last earlier present) ∙ h.at (length earlier) (omega arith) ∙ ap (λ bs. Some (serial cards start bs)) (ap (λ n. take n kept) h.counted ∙ take_all (length kept) kept (omega arith)))
+  -- ---- the oldest one was committed
+  committed-on : (done open_ : List Batch)
+      → committed (serial_line cards start (record { committed = done; uncommitted = open_ })) ≡ serial_line cards start (with_committed (record { committed = done; uncommitted = open_ }))
+  committed-on done [] = line-same cards _ _ _ _ refl (ap (serial cards start) (sym (append-nil (done ++ []))))
+  committed-on done (batch ∷ rest) =
+      line-same cards _ _ _ _ (ap (λ (s : State). states_met cards s rest) (sym (serial-more cards start done batch)))
+      (ap (serial cards start) (sym (append_assoc done (batch ∷ []) rest)))
 
-  -- ---- one batch more
-  module _ (base : ℕ) (kept : List Batch) (earlier : List State) (present : State) (batch : Batch) (h : IsSerialFrom base kept earlier present) where
-    more-at : (k : ℕ) → k ≤ length (earlier ++ present ∷ []) → slice_get ((earlier ++ present ∷ []) ++ after_batch cards present batch ∷ []) k ≡ Some (serial cards start (take (base + k) (kept ++ batch ∷ [])))
-    more-at k low =
-        let size : length (earlier ++ present ∷ []) ≡ length earlier + 1 = length_push earlier present in
-        let counted = h.counted in
-        let cases : (k ≤ length earlier) ⊎ (k ≡ length (earlier ++ present ∷ [])) = grind (arith, low, size) in
-        elim cases [
-          | inl before ↦
-              get-front (earlier ++ present ∷ []) (after_batch cards present batch ∷ []) k (omega (arith, size, before)) ∙ h.at k before
-              ∙ ap (λ bs. Some (serial cards start bs)) (sym (take-append-le (base + k) kept (batch ∷ []) (omega (arith, counted, before))))
-          | inr here ↦
-              ap (slice_get ((earlier ++ present ∷ []) ++ after_batch cards present batch ∷ [])) here ∙ get-last (earlier ++ present ∷ []) (after_batch cards present batch)
-              ∙ ap (λ s. Some (after_batch cards s batch)) (present-is base kept earlier present h) ∙ ap (λ s. Some s) (sym (serial-more cards start kept batch))
-              ∙ ap (λ bs. Some (serial cards start bs)) (sym (take_all (base + k) (kept ++ batch ∷ []) (omega (arith, length_push kept batch, here, size, counted))))
-        ]
+  pub serial_line-committed : (kept : Kept) → committed (serial_line cards start kept) ≡ serial_line cards start (with_committed kept)
+  serial_line-committed kept = committed-on kept.committed kept.uncommitted
 
-    serial-executed : IsSerialFrom base (kept ++ batch ∷ []) (earlier ++ present ∷ []) (after_batch cards present batch)
-    serial-executed = record {
-      counted = let size = length_push earlier present in let more = length_push kept batch in let counted = h.counted in omega (arith, size, more, counted);
-      at = more-at;
+-- ---- back at a state
+-- so many of the batches lead to it
+record IsCutAt (cards : Cards) (state : State) (batches : List Batch) (early : List State) (back : State) : Type 0 where
+  met : early ≡ states_met cards state (take (back.sequence - state.sequence) batches)
+  left : back ≡ serial cards state (take (back.sequence - state.sequence) batches)
+
+head-same : (x y : State) (xs ys : List State) → x ∷ xs ≡ y ∷ ys → x ≡ y
+head-same x y xs ys e = cc
+
+tail-same : (x y : State) (xs ys : List State) → x ∷ xs ≡ y ∷ ys → xs ≡ ys
+tail-same x y xs ys e = cc
+
+cut-here : (cards : Cards) (state back : State) (batches : List Batch) → state ≡ back → IsCutAt cards state batches [] back
+cut-here cards state back batches same =
+    let none : back.sequence - state.sequence ≡ 0 = let e = ap (λ (s : State). s.sequence) same in omega (arith, e) in
+    record {
+      met = ap (λ n. states_met cards state (take n batches)) (sym none);
+      left = sym same ∙ ap (λ n. serial cards state (take n batches)) (sym none);
     }
 
-  -- ---- the oldest state dropped
-  serial-committed : (base : ℕ) (kept : List Batch) (earlier : List State) (present : State) → IsSerialFrom base kept earlier present → (next : ℕ) × IsSerialFrom next kept (drop 1 earlier) present
-  serial-committed base kept [] present h = (base, h)
-  serial-committed base kept (s ∷ earlier) present h = (
-    base + 1,
+cut-further : (cards : Cards) (state back first : State) (batch : Batch) (batches : List Batch) (early : List State) → state ≡ first → IsCutAt cards (after_batch cards state batch) batches early back
+    → IsCutAt cards state (batch ∷ batches) (first ∷ early) back
+cut-further cards state back first batch batches early same cut =
+    let count : ℕ = back.sequence - (state.sequence + 1) in
+    let number : back.sequence ≡ state.sequence + 1 + length (take count batches) = ap (λ (s : State). s.sequence) cut.left ∙ sequence-of cards (after_batch cards state batch) (take count batches) in
+    let more : suc count ≡ back.sequence - state.sequence = omega (arith, number) in
     record {
-      counted = let counted = h.counted in omega (arith, counted);
-      at = λ k low. h.at (suc k) (omega (arith, low)) ∙ ap (λ n. Some (serial cards start (take n kept))) (let e : base + suc k ≡ base + 1 + k = omega arith in e);
-    },
-  )
+      met = (λ i. sym same i ∷ cut.met i) ∙ ap (λ n. states_met cards state (take n (batch ∷ batches))) more;
+      left = cut.left ∙ ap (λ n. serial cards state (take n (batch ∷ batches))) more;
+    }
 
-  -- ---- back at a state
-  module _ (base : ℕ) (kept : List Batch) (earlier : List State) (present : State) (early : List State) (back : State) (later : List State)
-      (first : start.sequence ≡ 0) (cut : earlier ++ present ∷ [] ≡ (early ++ back ∷ []) ++ later) (h : IsSerialFrom base kept earlier present) where
-    within : length early ≤ length earlier
-    within =
-        let old = length_push earlier present in
-        let new = length_push early back in
-        let both = length-append (early ++ back ∷ []) later in
-        let same = ap (λ (ss : List State). length ss) cut in
-        omega (arith, old, new, both, same)
+cut-at : (cards : Cards) (state : State) (batches : List Batch) (early : List State) (back : State) (later : List State)
+    → states_met cards state batches ++ serial cards state batches ∷ [] ≡ (early ++ back ∷ []) ++ later → IsCutAt cards state batches early back
+cut-at cards state [] [] back later same = cut-here cards state back [] (head-same state back [] later same)
+cut-at cards state [] (e ∷ early) back later same =
+    let size = length_push early back in
+    let both = length-append (early ++ back ∷ []) later in
+    let rest : [] ≡ (early ++ back ∷ []) ++ later = tail-same state e [] ((early ++ back ∷ []) ++ later) same in
+    let none = ap (λ (ss : List State). length ss) rest in
+    absurd (omega (arith, size, both, none))
+cut-at cards state (batch ∷ batches) [] back later same = cut-here cards state back (batch ∷ batches) (head-same state back _ later same)
+cut-at cards state (batch ∷ batches) (e ∷ early) back later same =
+    cut-further cards state back e batch batches early (head-same state e _ _ same) (cut-at cards (after_batch cards state batch) batches early back later (tail-same state e _ _ same))
 
-    back-at : (k : ℕ) → k ≤ length early → slice_get (early ++ back ∷ []) k ≡ Some (serial cards start (take (base + k) kept))
-    back-at k low =
-        let new = length_push early back in
-        let inside = within in
-        sym (get-front (early ++ back ∷ []) later k (omega (arith, low, new))) ∙ ap (λ (ss : List State). slice_get ss k) (sym cut) ∙ h.at k (omega (arith, low, inside))
+module _ (cards : Cards) (start : State) where
+  pub serial_line-returned : (kept : Kept) (sequence : ℕ) (new : Line) → IsReturned sequence (serial_line cards start kept) new → new ≡ serial_line cards start (up_to start.sequence sequence kept)
+  serial_line-returned kept sequence new back =
+      let base : State = serial cards start kept.committed in
+      let cut = cut-at cards base kept.uncommitted new.earlier new.present back.gone.0
+          (ap (λ (s : State). states_met cards base kept.uncommitted ++ s ∷ []) (sym (serial-append cards start kept.committed kept.uncommitted)) ∙ back.gone.1) in
+      let number : new.present.sequence - base.sequence ≡ sequence - (start.sequence + length kept.committed) =
+          (λ i. back.present i - sequence-of cards start kept.committed i) in
+      let same : new ≡ line_of cards new.earlier new.present = (λ i. line_of (back.cards i) new.earlier new.present) in
+      same
+      ∙ line-same cards _ _ _ _ (cut.met ∙ ap (λ n. states_met cards base (take n kept.uncommitted)) number)
+          (cut.left ∙ ap (λ n. serial cards base (take n kept.uncommitted)) number
+              ∙ sym (serial-append cards start kept.committed (take (sequence - (start.sequence + length kept.committed)) kept.uncommitted)))
 
-    number-of : back.sequence ≡ base + length early
-    number-of =
-        let inside = within in
-        let counted = h.counted in
-        let is : back ≡ serial cards start (take (base + length early) kept) = the-same back _ (sym (get-last early back) ∙ back-at (length early) (omega arith)) in
-        ap (λ (s : State). s.sequence) is ∙ sequence-of cards start (take (base + length early) kept)
-        ∙ (let size : length (take (base + length early) kept) ≡ base + length early = length-take-le (base + length early) kept (omega (arith, inside, counted)) in omega (arith, first, size))
+  -- ---- a call
+  pub serial_line-led : (kept : Kept) (call : Call) (new : Line) → Leads call (serial_line cards start kept) new → new ≡ serial_line cards start (kept_by start call kept)
+  serial_line-led kept (Executed batch r) new leads = leads.1 ∙ serial_line-extended cards start kept batch
+  serial_line-led kept Committed new leads = leads ∙ serial_line-committed cards start kept
+  serial_line-led kept (ReturnedTo sequence) new leads = serial_line-returned kept sequence new leads.0
+  serial_line-led kept Refused new leads = leads
 
-    serial-returned : IsSerialFrom base (take back.sequence kept) early back
-    serial-returned =
-        let inside = within in
-        let counted = h.counted in
-        let number = number-of in
-        record {
-          counted = sym (length-take-le back.sequence kept (omega (arith, inside, counted, number)) ∙ number);
-          at = λ k low. back-at k low ∙ ap (λ bs. Some (serial cards start bs)) (sym (take-take (base + k) back.sequence kept (omega (arith, low, number))));
-        }
+  sound-led : (call : Call) (old new : Line) → IsSoundState old.cards old.present → Leads call old new → IsSoundState new.cards new.present
+  sound-led (Executed batch r) old new sound leads = leads.2
+  sound-led Committed old new sound leads = subst (λ (l : Line). IsSoundState l.cards l.present) (sym leads) sound
+  sound-led (ReturnedTo sequence) old new sound leads = leads.1
+  sound-led Refused old new sound leads = subst (λ (l : Line). IsSoundState l.cards l.present) (sym leads) sound
 
-  -- ---- what the states are
-  serial-each : (base : ℕ) (kept : List Batch) (earlier : List State) (present : State) → start.sequence ≡ 0 → IsSerialFrom base kept earlier present
-      → All (λ (s : State). s ≡ serial cards start (take s.sequence kept)) (earlier ++ present ∷ [])
-  serial-each base kept earlier present first h =
-      all-by-place (λ (s : State). s ≡ serial cards start (take s.sequence kept)) (earlier ++ present ∷ []) (λ k s low at.
-      let size = length_push earlier present in
-      let counted = h.counted in
-      let is : s ≡ serial cards start (take (base + k) kept) = the-same s _ (sym at ∙ h.at k (omega (arith, low, size))) in
-      let few : length (take (base + k) kept) ≡ base + k = length-take-le (base + k) kept (omega (arith, low, size, counted)) in
-      let number : s.sequence ≡ base + k = ap (λ (x : State). x.sequence) is ∙ sequence-of cards start (take (base + k) kept) ∙ (let e : start.sequence + length (take (base + k) kept) ≡ base + k = omega (arith, first, few) in e) in
-      is ∙ ap (λ n. serial cards start (take n kept)) (sym number))
+  -- ---- calls, one after the other
+  pub line-led : (kept : Kept) (calls : List Call) (line : Line) → LeadOn calls (serial_line cards start kept) line → line ≡ serial_line cards start (kept_on start calls kept)
+  line-led kept [] line leads = leads
+  line-led kept (call ∷ calls) line leads =
+      let between = serial_line-led kept call leads.0 leads.1 in
+      line-led (kept_by start call kept) calls line (subst (λ (l : Line). LeadOn calls l line) between leads.2)
 
--- ---- the law
--- a line whose states come after the batches that are kept
-record IsKept (db : Database) (kept : List Batch) (line : Line) : Type 0 where
-  cards : line.cards ≡ db.cards
-  base : ℕ
-  from : IsSerialFrom db.cards (opening db.cards db.rows) base kept line.earlier line.present
+  sound-on : (kept : Kept) (calls : List Call) (line : Line) → IsSoundState cards (serial cards start (all_kept kept)) → LeadOn calls (serial_line cards start kept) line
+      → (count : ℕ) → count ≤ length calls → IsSoundState cards (serial cards start (all_kept (kept_on start (take count calls) kept)))
+  sound-on kept calls line sound leads zero low = sound
+  sound-on kept [] line sound leads (suc count) low = absurd (omega (arith, low))
+  sound-on kept (call ∷ calls) line sound leads (suc count) low =
+      let between = serial_line-led kept call leads.0 leads.1 in
+      let sound_now = sound-led call (serial_line cards start kept) leads.0 sound leads.1 in
+      sound-on (kept_by start call kept) calls line (subst (λ (l : Line). IsSoundState l.cards l.present) between sound_now)
+      (subst (λ (l : Line). LeadOn calls l line) between leads.2) count (omega (arith, low))
 
-kept-executed : (db : Database) (kept : List Batch) (line : Line) (batch : Batch) → IsKept db kept line → IsKept db (kept ++ batch ∷ []) (record { cards = line.cards; earlier = line.earlier ++ line.present ∷ []; present = after_batch line.cards line.present batch })
-kept-executed db kept line batch h = record {
-  cards = h.cards;
-  base = h.base;
-  from = subst (λ (cards : Cards). IsSerialFrom db.cards (opening db.cards db.rows) h.base (kept ++ batch ∷ []) (line.earlier ++ line.present ∷ []) (after_batch cards line.present batch)) (sym h.cards)
-      (serial-executed db.cards (opening db.cards db.rows) h.base kept line.earlier line.present batch h.from);
-}
-
-kept-called : (db : Database) (kept : List Batch) (call : Call) (old new : Line) → IsKept db kept old → Leads call old new → IsKept db (kept_by call kept) new
-kept-called db kept (Executed batch) old new h leads = subst (IsKept db (kept ++ batch ∷ [])) (sym leads) (kept-executed db kept old batch h)
-kept-called db kept Committed old new h leads =
-    let dropped = serial-committed db.cards (opening db.cards db.rows) h.base kept old.earlier old.present h.from in
-    subst (IsKept db kept) (sym leads) (record { cards = h.cards; base = dropped.0; from = dropped.1 })
-kept-called db kept (ReturnedTo sequence) old new h leads =
-    subst (λ n. IsKept db (take n kept) new) leads.present (record {
-      cards = leads.cards ∙ h.cards;
-      base = h.base;
-      from = serial-returned db.cards (opening db.cards db.rows) h.base kept old.earlier old.present new.earlier new.present leads.gone.0 refl leads.gone.1 h.from;
-    })
-kept-called db kept Refused old new h leads = subst (IsKept db kept) (sym leads) h
-
-kept-on : (db : Database) (kept : List Batch) (calls : List Call) (old new : Line) → IsKept db kept old → LeadOn calls old new → IsKept db (kept_after calls kept) new
-kept-on db kept [] old new h leads = subst (IsKept db kept) (sym leads) h
-kept-on db kept (call ∷ calls) old new h leads = kept-on db (kept_by call kept) calls leads.0 new (kept-called db kept call old leads.0 h leads.1) leads.2
-
-opening-kept : (db : Database) → IsKept db [] (opening_line db.cards db.rows)
-opening-kept db = record { cards = refl; base = 0; from = record { counted = refl; at = at } } where
-  at : (k : ℕ) → k ≤ 0 → slice_get (opening db.cards db.rows ∷ []) k ≡ Some (serial db.cards (opening db.cards db.rows) (take (0 + k) []))
-  at zero low = refl
-  at (suc k) low = absurd (omega (arith, low))
+  records-on : (kept : Kept) (calls : List Call) (line : Line) → LeadOn calls (serial_line cards start kept) line
+      → (count : ℕ) (batch : Batch) (r : Record) → slice_get calls count ≡ Some (Executed batch r) → IsRecordOfEither cards (serial cards start (all_kept (kept_on start (take count calls) kept))) batch r
+  records-on kept [] line leads count batch r at = let no : None ≡ Some (Executed batch r) = at in let bad : ⊥ = cc in absurd bad
+  records-on kept (call ∷ calls) line leads zero batch r at =
+      let is : call ≡ Executed batch r = cc in
+      (subst (λ (c : Call). Leads c (serial_line cards start kept) leads.0) is leads.1).0
+  records-on kept (call ∷ calls) line leads (suc count) batch r at =
+      let between = serial_line-led kept call leads.0 leads.1 in
+      records-on (kept_by start call kept) calls line (subst (λ (l : Line). LeadOn calls l line) between leads.2) count batch r at
 
 pub lines_are_serial : LinesAreSerial
-lines_are_serial db calls line leads =
-    let h = kept-on db [] calls (opening_line db.cards db.rows) line (opening-kept db) leads in
-    record {
-      cards = h.cards;
-      each = serial-each db.cards (opening db.cards db.rows) h.base (kept_after calls []) line.earlier line.present refl h.from;
-      present = present-is db.cards (opening db.cards db.rows) h.base (kept_after calls []) line.earlier line.present h.from;
-    }
+lines_are_serial cards start calls line sound leads = record {
+  states_as_serial = line-led cards start none_kept calls line leads;
+  records_as_serial = records-on cards start none_kept calls line leads;
+  sound = sound-on cards start none_kept calls line sound leads;
+}

@@ -1,7 +1,6 @@
 -- Laws of requests that are executed out of their order.
 use Rattle.std.specs.Prelude.{◌≡◌, ◌≢◌, ◌≤◌, ◌<◌, ◌+◌, ℕ, false, List, [], ◌∷◌, length, map, take, Some, slice_get}
 use Rattle.std.specs.FinMap.{find}
-use Rattle.std.specs.List.{All}
 use Rattle.std.specs.Ordering.{nat_cmp}
 use Rattle.serializability.specs.Folds.{after}
 use Rattle.serializability.specs.Footprints.{Footprint, IsApart, IsWithin}
@@ -19,11 +18,12 @@ use Rattle.tpcc_model.specs.Soundness.{IsSound}
 use Rattle.tpcc_model.specs.Steps.{steps_at}
 use Rattle.tpcc_model.specs.Touches.{touch}
 use Rattle.transactions.specs.Laws.{Fits}
-use Rattle.executor.specs.Calls.{Call, LeadOn, kept_after}
+use Rattle.executor.specs.Calls.{Call, Executed, IsRecordOfEither, LeadOn, kept_after}
 use Rattle.executor.specs.Executions.{IsRecordOf}
 use Rattle.executor.specs.Headline.{Headline, all_serially, completed}
 use Rattle.executor.specs.LevelRuns.{IsCutOf, cut_by, levels_by, meets, replies_in_levels, rows_in_levels, strays}
-use Rattle.executor.specs.Lines.{Line, extended, opening_line, states}
+use Rattle.executor.specs.Kept.{all_kept, none_kept, serial_line}
+use Rattle.executor.specs.Lines.{Line, extended, opening_line}
 use Rattle.executor.specs.Paths.{path_of}
 use Rattle.executor.specs.Runs.{IsRunOf}
 use Rattle.executor.specs.States.{AreAllWithin, AreWithinLimits, IsSoundState}
@@ -103,12 +103,17 @@ RunsHaveHeadline = (db : Database) (most : ℕ) (new : Line) (batches : List Bat
     → Headline db.cards (opening db.cards db.rows) batches (map completed end.records.items) new.present
 
 -- ---- the line of an executor
--- each state is the one that one thread leaves after as many of the batches as its number says, the present one after all
-pub record IsSerialLine (db : Database) (batches : List Batch) (line : Line) : Type 0 where
-  pub cards : line.cards ≡ db.cards
-  pub each : All (λ state. state ≡ serial db.cards (opening db.cards db.rows) (take state.sequence batches)) (states line)
-  pub present : line.present ≡ serial db.cards (opening db.cards db.rows) batches
+-- calls that were answered from this state on, which became this line
+pub record IsSerialLine (cards : Cards) (start : State) (calls : List Call) (line : Line) : Type 0 where
+  -- each state is the one that one thread leaves after the batches that are kept up to it
+  pub states_as_serial : line ≡ serial_line cards start (kept_after start calls)
+  -- each record is that of one thread, on the state after those that were kept when the batch came
+  pub records_as_serial : (count : ℕ) (batch : Batch) (r : Record) → slice_get calls count ≡ Some (Executed batch r)
+      → IsRecordOfEither cards (serial cards start (all_kept (kept_after start (take count calls)))) batch r
+  -- before the first call and after each of them the present state is sound
+  pub sound : (count : ℕ) → count ≤ length calls → IsSoundState cards (serial cards start (all_kept (kept_after start (take count calls))))
 
--- whatever calls led to it from the opening line, of the batches that these keep
+-- whatever calls led to it from a sound state alone
 abbrev pub LinesAreSerial : Type 0
-LinesAreSerial = (db : Database) (calls : List Call) (line : Line) → LeadOn calls (opening_line db.cards db.rows) line → IsSerialLine db (kept_after calls []) line
+LinesAreSerial = (cards : Cards) (start : State) (calls : List Call) (line : Line) → IsSoundState cards start
+    → LeadOn calls (serial_line cards start none_kept) line → IsSerialLine cards start calls line

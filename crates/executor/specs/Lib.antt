@@ -5,6 +5,7 @@ pub mod Laws
 pub mod Refusals
 pub mod Lines
 pub mod Stamps
+pub mod Kept
 pub mod Calls
 pub mod Filing
 pub mod PlannedLevels

@@ -1,4 +1,5 @@
 pub mod RunLemmas
+pub mod TwoRuns
 pub mod WholeLemmas
 pub mod StampLemmas
 pub mod StoredLemmas

@@ -7,3 +7,4 @@ pub mod MadeTexts
 pub mod CheckTexts
 pub mod StoredRuns
 pub mod StampText
+pub mod Laws

@@ -4,6 +4,7 @@
 mod check;
 mod crew;
 pub mod fault;
+pub mod laws;
 mod lines;
 mod loaded;
 mod make;

@@ -1,35 +1,116 @@
--- Sessions as calls of an executor.
-use Rattle.std.proofs.Common.{ℕ, List, [], ◌∷◌, inl, inr}
+-- The headline of commands that were answered one after the other.
+use Rattle.std.proofs.Common.{◌≡◌, ◌∙◌, ℕ, zero, suc, ◌+◌, ◌≤◌, Bool, true, false, List, [], ◌∷◌, ◌++◌, length, map, take, Some, None, inl, inr, refl, sym, ap, subst, arith}
+use Rattle.std.specs.List.{slice_get}
+use Rattle.catalog.specs.CardMap.{Cards}
 use Rattle.commands.specs.declared.command.Command.{Command}
 use Rattle.commands.specs.declared.command.Command.TheVariants as command
 use Rattle.commands.specs.declared.command.Control.TheVariants as control
-use Rattle.executor.specs.Calls.{Call, Committed, Executed, LeadOn, Leads, Refused, ReturnedTo, kept_after}
-use Rattle.executor.specs.Laws.{LinesAreSerial}
-use Rattle.executor.specs.Lines.{Line, opening_line}
+use Rattle.executor.specs.Headline.{MeetsConditions}
+use Rattle.executor.specs.Kept.{Kept, all_kept, none_kept, serial_line}
+use Rattle.executor.specs.Lines.{Line}
+use Rattle.executor.specs.States.{IsSoundState}
+use Rattle.executor.proofs.SerialLines.{serial_line-committed, serial_line-extended, serial_line-returned}
 use Rattle.session.specs.Answers.{Answers, AnswersAll}
 use Rattle.session.specs.Laws.{SessionsAreSerial}
+use Rattle.session.specs.SessionHeadline.{AreAnswered, SessionHeadline, Turn, commands_of, kept_by, kept_on, text_of}
+use Rattle.tpcc_model.specs.Database.{Database, database}
+use Rattle.tpcc_model.specs.Serial.{State, serial}
+use Rattle.tpcc_model.specs.Soundness.{IsSound}
 
--- what a command was to the executor
-call-of : (c : Command) (old new : Line) (text : List ℕ) → Answers c old new text → (call : Call) × Leads call old new
-call-of (command.Batch batch) old new text (inl (admitted, line, is)) = (Executed batch, line)
-call-of (command.Batch batch) old new text (inr (e, why, line, is)) = (Refused, line)
-call-of (command.Control control.Commit) old new text (inl (n, at, line, is)) = (Committed, line)
-call-of (command.Control control.Commit) old new text (inr (none, (e, why, line, is))) = (Refused, line)
-call-of (command.Control (control.RollbackTo n)) old new text (inl (back, is)) = (ReturnedTo n, back)
-call-of (command.Control (control.RollbackTo n)) old new text (inr (none, (e, why, line, is))) = (Refused, line)
-call-of (command.Control control.State) old new text (line, is) = (Refused, line)
-call-of (command.Control control.Image) old new text (inl (line, is)) = (Refused, line)
-call-of (command.Control control.Image) old new text (inr (e, why, line, is)) = (Refused, line)
-call-of (command.Control control.At) old new text (line, is) = (Refused, line)
+meets_conditions : (db : Database) → IsSound db → MeetsConditions db.rows
+meets_conditions db sound = record { condition_1 = sound.condition_1; conditions_2_to_4 = sound.districts }
 
-calls-of : (cs : List Command) (old new : Line) (text : List ℕ) → AnswersAll cs old new text → (calls : List Call) × LeadOn calls old new
-calls-of [] old new text (line, is) = ([], line)
-calls-of (c ∷ cs) old new text (between, first, rest, answered, all, parts) =
-    let one = call-of c old between first answered in
-    let more = calls-of cs between new rest all in
-    (one.0 ∷ more.0, (between, one.1, more.1))
+module _ (cards : Cards) (start : State) where
+  -- whether a command was refused, and the line after it
+  led : (kept : Kept) (c : Command) (new : Line) (text : List ℕ) → Answers c (serial_line cards start kept) new text
+      → (refused : Bool) × (new ≡ serial_line cards start (kept_by start c refused kept))
+  led kept (command.Batch batch) new text (inl (admitted, line, is)) = (false, line ∙ serial_line-extended cards start kept batch)
+  led kept (command.Batch batch) new text (inr (e, why, line, is)) = (true, line)
+  led kept (command.Control control.Commit) new text (inl (n, at, line, is)) = (false, line ∙ serial_line-committed cards start kept)
+  led kept (command.Control control.Commit) new text (inr (none, (e, why, line, is))) = (true, line)
+  led kept (command.Control (control.RollbackTo n)) new text (inl (back, is)) = (false, serial_line-returned cards start kept n new back)
+  led kept (command.Control (control.RollbackTo n)) new text (inr (none, (e, why, line, is))) = (true, line)
+  led kept (command.Control control.State) new text (line, is) = (false, line)
+  led kept (command.Control control.At) new text (line, is) = (false, line)
+  led kept (command.Control control.Image) new text (inl (line, is)) = (false, line)
+  led kept (command.Control control.Image) new text (inr (e, why, line, is)) = (true, line)
 
-pub sessions_are_serial : LinesAreSerial → SessionsAreSerial
-sessions_are_serial law db cs line text answered =
-    let calls = calls-of cs (opening_line db.cards db.rows) line text answered in
-    (kept_after calls.0 [], law db calls.0 line calls.1)
+  abbrev line_on : Kept → List Turn → Line
+  line_on kept turns = serial_line cards start (kept_on start turns kept)
+
+  -- the turns that commands had where these batches are kept
+  record AreTurns (kept : Kept) (commands : List Command) (new : Line) (text : List ℕ) : Type 0 where
+    turns : List Turn
+    commands_are : commands_of turns ≡ commands
+    text_is : text_of turns ≡ text
+    line : new ≡ line_on kept turns
+    answers : (count : ℕ) (turn : Turn) → slice_get turns count ≡ Some turn → Answers turn.command (line_on kept (take count turns)) (line_on kept (take (count + 1) turns)) turn.text
+    sound : (count : ℕ) → count ≤ length turns → IsSoundState cards (line_on kept (take count turns)).present
+
+  no-turns : (kept : Kept) (new : Line) (text : List ℕ) → IsSoundState cards (serial cards start (all_kept kept)) → new ≡ serial_line cards start kept → text ≡ [] → AreTurns kept [] new text
+  no-turns kept new text sound line none = record {
+    turns = [];
+    commands_are = refl;
+    text_is = sym none;
+    line = line;
+    answers = λ count turn at. let no : None ≡ Some turn = at in let bad : ⊥ = cc in absurd bad;
+    sound = at;
+  } where
+    at : (count : ℕ) → count ≤ 0 → IsSoundState cards (line_on kept (take count [])).present
+    at zero low = sound
+    at (suc count) low = absurd (omega (arith, low))
+
+  -- one turn before
+  module _ (kept : Kept) (c : Command) (refused : Bool) (first : List ℕ) (answered : Answers c (serial_line cards start kept) (serial_line cards start (kept_by start c refused kept)) first)
+      (sound : IsSoundState cards (serial cards start (all_kept kept))) where
+    abbrev here : Turn
+    here = record { command = c; refused = refused; text = first }
+
+    turn-more : (commands : List Command) (new : Line) (text rest : List ℕ) → AreTurns (kept_by start c refused kept) commands new rest → text ≡ first ++ rest → AreTurns kept (c ∷ commands) new text
+    turn-more commands new text rest are parts = record {
+      turns = here ∷ are.turns;
+      commands_are = ap (λ (cs : List Command). c ∷ cs) are.commands_are;
+      text_is = ap (λ (t : List ℕ). first ++ t) are.text_is ∙ sym parts;
+      line = are.line;
+      answers = answers;
+      sound = sound_at;
+    } where
+      answers : (count : ℕ) (turn : Turn) → slice_get (here ∷ are.turns) count ≡ Some turn → Answers turn.command (line_on kept (take count (here ∷ are.turns))) (line_on kept (take (count + 1) (here ∷ are.turns))) turn.text
+      answers zero turn at =
+          let is : here ≡ turn = cc in
+          subst (λ (t : Turn). Answers t.command (line_on kept (take zero (here ∷ are.turns))) (line_on kept (take (zero + 1) (here ∷ are.turns))) t.text) is answered
+      answers (suc count) turn at =
+          let more : suc (count + 1) ≡ suc count + 1 = omega arith in
+          subst (λ n. Answers turn.command (line_on kept (take (suc count) (here ∷ are.turns))) (line_on kept (take n (here ∷ are.turns))) turn.text) more (are.answers count turn at)
+
+      sound_at : (count : ℕ) → count ≤ length (here ∷ are.turns) → IsSoundState cards (line_on kept (take count (here ∷ are.turns))).present
+      sound_at zero low = sound
+      sound_at (suc count) low = are.sound count (omega (arith, low))
+
+  turns-on : (kept : Kept) (commands : List Command) (new : Line) (text : List ℕ) → IsSoundState cards (serial cards start (all_kept kept)) → AnswersAll commands (serial_line cards start kept) new text
+      → AreTurns kept commands new text
+  turns-on kept [] new text sound (line, none) = no-turns kept new text sound line none
+  turns-on kept (c ∷ commands) new text sound (between, first, rest, answered, sound_now, all, parts) =
+      let (refused, is) = led kept c between first answered in
+      turn-more kept c refused first (subst (λ (l : Line). Answers c (serial_line cards start kept) l first) is answered) sound commands new text rest
+      (turns-on (kept_by start c refused kept) commands new rest (subst (λ (l : Line). IsSoundState l.cards l.present) is sound_now)
+      (subst (λ (l : Line). AnswersAll commands l new rest) is all))
+      parts
+
+pub sessions_are_serial : SessionsAreSerial
+sessions_are_serial commands old new text alone sound answered =
+    let cards = old.cards in
+    let start = old.present in
+    let opened : old ≡ serial_line cards start none_kept = (λ i. record { cards = cards; earlier = alone i; present = start }) in
+    let are = turns-on cards start none_kept commands new text sound (subst (λ (l : Line). AnswersAll commands l new text) opened answered) in
+    record {
+      turns = are.turns;
+      commands_are = are.commands_are;
+      text_is = are.text_is;
+      headline = record {
+        states_as_serial = are.line;
+        answers_as_serial = are.answers;
+        sound = λ count low. (are.sound count low).database;
+        conditions = λ count low. let db : Database = database cards (line_on cards start none_kept (take count are.turns)).present.rows in meets_conditions db (are.sound count low).database;
+      };
+    }

@@ -6,6 +6,7 @@ use Rattle.commands.specs.Commands.{Gives, Hearing, IsOver, StopsBy}
 use Rattle.commands.specs.declared.command.Command.{Command}
 use Rattle.executor.specs.Executions.{refusal_for}
 use Rattle.executor.specs.Lines.{Line, extended}
+use Rattle.executor.specs.States.{IsSoundState}
 use Rattle.records.proofs.IoLemmas.{appends_twice}
 use Rattle.records.specs.Io.{AppendsFront}
 use Rattle.records.specs.declared.fault.ReadError.{ReadError}
@@ -18,7 +19,9 @@ use Rattle.runner.proofs.RunLemmas.{then_kept}
 use Rattle.runner.specs.declared.fault.RunFault.{RunFault}
 use Rattle.runner.specs.declared.fault.RunFault.TheVariants as run_fault
 use Rattle.session.specs.Answers.{Answers, AnswersAll, AnswersBatch}
+use Rattle.session.specs.SessionHeadline.{AreAnswered}
 use Rattle.session.specs.Sessions.{LeavesAnswer, LeavesSession, Served}
+use Rattle.session.proofs.SerialSessions.{sessions_are_serial}
 use Rattle.memory_refusal.specs.declared.Memory.{Memory}
 
 -- ---- commands given
@@ -41,11 +44,11 @@ given-more (Some all) (Some old) (Some new) done c h gives =
     h ∙ ap (λ (r : Hearing). (done ++ r.0, r.1)) gives ∙ ap (λ (cs : List Command). (cs, new.1)) (sym (append_assoc done (c ∷ []) new.0))
 
 -- ---- commands answered
-pub answers-more : (done : List Command) (c : Command) (first mid last : Line) (text more : List ℕ) → AnswersAll done first mid text → Answers c mid last more → AnswersAll (done ++ c ∷ []) first last (text ++ more)
-answers-more [] c first mid last text more all one =
-    (last, more, [], subst (λ (l : Line). Answers c l last more) all.0 one, (refl, refl), ap (λ (t : List ℕ). t ++ more) all.1 ∙ sym (append-nil more))
-answers-more (d ∷ done) c first mid last text more (between, front, rest, answered, all, parts) one =
-    (between, front, rest ++ more, answered, answers-more done c between mid last rest more all one, ap (λ (t : List ℕ). t ++ more) parts ∙ append_assoc front rest more)
+pub answers-more : (done : List Command) (c : Command) (first mid last : Line) (text more : List ℕ) → AnswersAll done first mid text → Answers c mid last more → IsSoundState last.cards last.present → AnswersAll (done ++ c ∷ []) first last (text ++ more)
+answers-more [] c first mid last text more all one sound =
+    (last, more, [], subst (λ (l : Line). Answers c l last more) all.0 one, sound, (refl, refl), ap (λ (t : List ℕ). t ++ more) all.1 ∙ sym (append-nil more))
+answers-more (d ∷ done) c first mid last text more (between, front, rest, answered, kept, all, parts) one sound =
+    (between, front, rest ++ more, answered, kept, answers-more done c between mid last rest more all one sound, ap (λ (t : List ℕ). t ++ more) parts ∙ append_assoc front rest more)
 
 -- a beginning of one text more
 pub front_more : (old mid new : Taken) (text more : List ℕ) → Appends old mid text → AppendsFront mid new more → AppendsFront old new (text ++ more)
@@ -53,24 +56,28 @@ front_more old mid new text more written (front, rest, parts, took) =
     (text ++ front, rest, ap (λ (t : List ℕ). text ++ t) parts ∙ sym (append_assoc text front rest), appends_twice old mid new text front written took)
 
 -- ---- a session that ends
-module _ (line mid : Line) (done : List Command) (text : List ℕ) (old now : Taken) (answered : AnswersAll done line mid text) (written : Appends old now text) where
+module _ (line mid : Line) (done : List Command) (text : List ℕ) (old now : Taken)
+    (alone : line.earlier ≡ []) (sound : IsSoundState line.cards line.present) (answered : AnswersAll done line mid text) (written : Appends old now text) where
+  are_answered : (commands : List Command) → commands ≡ done → AreAnswered commands line mid text
+  are_answered commands same = subst (λ (cs : List Command). AreAnswered cs line mid text) (sym same) (sessions_are_serial done line mid text alone sound answered)
+
   -- where the text ends
   pub served : (all left : Option Hearing) → HasGiven all done left → IsOver left → IfSome all (λ hearing. Served line hearing old now)
   served None left given over = tt
   served (Some all) None given over = absurd given
   served (Some all) (Some left) given over =
       let is : all ≡ (done, clean) = given ∙ ap (λ (r : Hearing). (done ++ r.0, r.1)) over ∙ ap (λ (cs : List Command). (cs, clean)) (append-nil done) in
-      (ap (λ (r : Hearing). r.1) is, (mid, text, subst (λ (cs : List Command). AnswersAll cs line mid text) (sym (ap (λ (r : Hearing). r.0) is)) answered, written))
+      (ap (λ (r : Hearing). r.1) is, (mid, text, are_answered all.0 (ap (λ (r : Hearing). r.0) is), written))
 
   -- where no further command is read
   pub unread : (e : ReadError) (all left : Option Hearing) → HasGiven all done left → StopsBy e left → IfSome all (λ hearing. LeavesSession (run_fault.Read e) line hearing old now)
   unread e None left given stops = tt
   unread e (Some all) None given stops = absurd given
-  unread e (Some all) (Some left) given (inl memory) = inr (inl memory, (done, left.0, ap (λ (r : Hearing). r.0) given, (mid, text, answered, written)))
-  unread e (Some all) (Some left) given (inr (inl read)) = inr (inr read, (done, left.0, ap (λ (r : Hearing). r.0) given, (mid, text, answered, written)))
+  unread e (Some all) (Some left) given (inl memory) = inr (inl memory, (done, left.0, ap (λ (r : Hearing). r.0) given, (mid, text, are_answered done refl, written)))
+  unread e (Some all) (Some left) given (inr (inl read)) = inr (inr read, (done, left.0, ap (λ (r : Hearing). r.0) given, (mid, text, are_answered done refl, written)))
   unread e (Some all) (Some left) given (inr (inr stop)) =
       let is : all ≡ (done, fault e) = given ∙ ap (λ (r : Hearing). (done ++ r.0, r.1)) stop ∙ ap (λ (cs : List Command). (cs, fault e)) (append-nil done) in
-      inl (ap (λ (r : Hearing). r.1) is, (mid, text, subst (λ (cs : List Command). AnswersAll cs line mid text) (sym (ap (λ (r : Hearing). r.0) is)) answered, written))
+      inl (ap (λ (r : Hearing). r.1) is, (mid, text, are_answered all.0 (ap (λ (r : Hearing). r.0) is), written))
 
   -- where the next command isn't answered
   pub unanswered : (e : RunFault) (c : Command) (new : Taken) (all before left : Option Hearing) → HasGiven all done before → Gives c before left → LeavesAnswer e c mid now new
@@ -79,14 +86,14 @@ module _ (line mid : Line) (done : List Command) (text : List ℕ) (old now : Ta
   unanswered e c new (Some all) None left given gives leaves = absurd given
   unanswered e c new (Some all) (Some before) None given gives leaves = absurd gives
   unanswered run_fault.Memory c new (Some all) (Some before) (Some left) given gives leaves =
-      (done, before.0, ap (λ (r : Hearing). r.0) given, (mid, text, answered, then_kept old now new text written leaves))
-  unanswered run_fault.Write c new (Some all) (Some before) (Some left) given gives (last, more, one, front) = (
+      (done, before.0, ap (λ (r : Hearing). r.0) given, (mid, text, are_answered done refl, then_kept old now new text written leaves))
+  unanswered run_fault.Write c new (Some all) (Some before) (Some left) given gives (last, more, one, still, front) = (
     done ++ c ∷ [],
     left.0,
     ap (λ (r : Hearing). r.0) (given-more (Some all) (Some before) (Some left) done c given gives),
     last,
     text ++ more,
-    answers-more done c line mid last text more answered one,
+    sessions_are_serial (done ++ c ∷ []) line last (text ++ more) alone sound (answers-more done c line mid last text more answered one still),
     front_more old now new text more written front,
   )
   unanswered (run_fault.Read e) c new (Some all) (Some before) (Some left) given gives leaves = absurd leaves

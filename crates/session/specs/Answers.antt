@@ -6,6 +6,7 @@ use Rattle.commands.specs.declared.command.Control.TheVariants as control
 use Rattle.executor.specs.Executions.{IsRefusedFor, refusal_for}
 use Rattle.executor.specs.Lines.{HasNone, IsReturned, Line, committed, extended, states}
 use Rattle.executor.specs.Stamps.{stamp_of}
+use Rattle.executor.specs.States.{IsSoundState}
 use Rattle.executor.specs.declared.refusal.Refusal.{Refusal}
 use Rattle.executor.specs.declared.refusal.Refusal.TheVariants as refusal
 use Rattle.requests.specs.declared.request.Batch.{Batch}
@@ -53,7 +54,9 @@ Answers (command.Control control.Image) old new text = AnswersImage old new text
 Answers (command.Control control.At) old new text = (new ≡ old) × (text ≡ at_text (stamp_of old.present))
 
 -- ---- commands, one after the other
+-- each on the line that those before it left, whose present state stays sound
 abbrev pub AnswersAll : List Command → Line → Line → List ℕ → Type 0
 AnswersAll [] old new text = (new ≡ old) × (text ≡ [])
 AnswersAll (c ∷ commands) old new text =
-    (between : Line) × (first rest : List ℕ) × Answers c old between first × AnswersAll commands between new rest × (text ≡ first ++ rest)
+    (between : Line) × (first rest : List ℕ) × Answers c old between first × IsSoundState between.cards between.present
+    × AnswersAll commands between new rest × (text ≡ first ++ rest)

@@ -1,4 +1,5 @@
 pub mod AnswerText
 pub mod Answers
+pub mod SessionHeadline
 pub mod Sessions
 pub mod Laws

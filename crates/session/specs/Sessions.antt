@@ -4,6 +4,7 @@ use Rattle.std.specs.Io.KnownBytes.{Appends, Keeps}
 use Rattle.commands.specs.Commands.{Hearing, commands}
 use Rattle.commands.specs.declared.command.Command.{Command}
 use Rattle.executor.specs.Lines.{Line, opening_line}
+use Rattle.executor.specs.States.{IsSoundState}
 use Rattle.executor.specs.declared.refusal.Refusal.TheVariants as refusal
 use Rattle.loader.specs.Image.{image}
 use Rattle.records.specs.Io.{AppendsFront}
@@ -13,12 +14,13 @@ use Rattle.runner.specs.Runs.{Taken}
 use Rattle.runner.specs.WholeRuns.{IsImageFault}
 use Rattle.runner.specs.declared.fault.RunFault.{RunFault}
 use Rattle.runner.specs.declared.fault.RunFault.TheVariants as run_fault
-use Rattle.session.specs.Answers.{Answers, AnswersAll}
+use Rattle.session.specs.Answers.{Answers}
+use Rattle.session.specs.SessionHeadline.{AreAnswered}
 use Rattle.tpcc_model.specs.Database.{Database}
 
--- these commands were answered, and no other byte was written
+-- these commands were answered, as the headline of sessions says, and no other byte was written
 abbrev pub Answered : List Command → Line → Taken → Taken → Type 0
-Answered commands line old new = (last : Line) × (text : List ℕ) × AnswersAll commands line last text × Appends old new text
+Answered commands line old new = (last : Line) × (text : List ℕ) × AreAnswered commands line last text × Appends old new text
 
 -- all commands were answered, and no fault came behind them
 abbrev pub Served : Line → Hearing → Taken → Taken → Type 0
@@ -31,7 +33,7 @@ AnsweredSome line commands old new = (done rest : List Command) × (commands ≡
 -- a beginning of the answers to the first of the commands was written
 abbrev pub AnsweredFront : Line → List Command → Taken → Taken → Type 0
 AnsweredFront line commands old new =
-    (done rest : List Command) × (commands ≡ done ++ rest) × (last : Line) × (text : List ℕ) × AnswersAll done line last text × AppendsFront old new text
+    (done rest : List Command) × (commands ≡ done ++ rest) × (last : Line) × (text : List ℕ) × AreAnswered done line last text × AppendsFront old new text
 
 -- what a session leaves that ended early: at a fault of the text all commands before it were answered; where the bytes couldn't be
 -- read or memory was refused, all commands so far
@@ -44,14 +46,15 @@ LeavesSession run_fault.Write line hearing old new = AnsweredFront line hearing.
 LeavesSession _ line hearing old new = ⊥
 
 -- ---- one command
--- it was answered, and the answer written
+-- it was answered, which left a sound state, and the answer written
 abbrev pub IsAnswered : Command → Line → Line → Taken → Taken → Type 0
-IsAnswered c line last old new = (text : List ℕ) × Answers c line last text × Appends old new text
+IsAnswered c line last old new = (text : List ℕ) × Answers c line last text × IsSoundState last.cards last.present × Appends old new text
 
 -- what is left where it wasn't: nothing was written, or a beginning of the answer
 abbrev pub LeavesAnswer : RunFault → Command → Line → Taken → Taken → Type 0
 LeavesAnswer run_fault.Memory c line old new = Keeps old new
-LeavesAnswer run_fault.Write c line old new = (last : Line) × (text : List ℕ) × Answers c line last text × AppendsFront old new text
+LeavesAnswer run_fault.Write c line old new =
+    (last : Line) × (text : List ℕ) × Answers c line last text × IsSoundState last.cards last.present × AppendsFront old new text
 LeavesAnswer _ c line old new = ⊥
 
 -- ---- from the bytes of an image and of commands

@@ -2,6 +2,7 @@
 ghost use Rattle.std.specs.Prelude.{◌≡◌, ◌≤◌, IfOk};
 ghost use Rattle.executor.specs.Stamps.{stamp_of};
 ghost use Rattle.runner.specs.StampText.{at_text};
+ghost use Rattle.executor.specs.States.{IsSoundState};
 ghost use Rattle.session.specs.Answers.{Answers, AnswersBatch, AnswersCommit, AnswersImage, AnswersRollback};
 ghost use Rattle.session.specs.AnswerText.{image_answer};
 
@@ -26,7 +27,8 @@ fn answer_batch<R: Threads + Sync, G: Gate>(
     gate: &G,
 ) -> Result<Vec<u8>, Memory>
     requires { 1 ≤ executor.old.present.next }
-    ensures { IfOk result (λ text. AnswersBatch batch.now executor.old executor.new text.items) }
+    ensures text { IfOk result (λ text. AnswersBatch batch.now executor.old executor.new text.items) }
+    ensures sound { IsSoundState executor.new.cards executor.new.present }
 {
     match executor.execute(rt, alloc, batch, workers, gate) {
         Ok(record) => batch_text(alloc, &record),
@@ -35,7 +37,9 @@ fn answer_batch<R: Threads + Sync, G: Gate>(
 }
 
 fn answer_commit(alloc: Global, executor: &mut Executor) -> Result<Vec<u8>, Memory>
-    ensures { IfOk result (λ text. AnswersCommit executor.old executor.new text.items) }
+    requires { IsSoundState executor.old.cards executor.old.present }
+    ensures text { IfOk result (λ text. AnswersCommit executor.old executor.new text.items) }
+    ensures sound { IsSoundState executor.new.cards executor.new.present }
 {
     match executor.commit() {
         Ok(sequence) => commit_text(alloc, sequence),
@@ -44,7 +48,8 @@ fn answer_commit(alloc: Global, executor: &mut Executor) -> Result<Vec<u8>, Memo
 }
 
 fn answer_rollback(alloc: Global, executor: &mut Executor, sequence: u64) -> Result<Vec<u8>, Memory>
-    ensures { IfOk result (λ text. AnswersRollback sequence executor.old executor.new text.items) }
+    ensures text { IfOk result (λ text. AnswersRollback sequence executor.old executor.new text.items) }
+    ensures sound { IsSoundState executor.new.cards executor.new.present }
 {
     match executor.rollback_to(sequence) {
         Ok(()) => told_text(alloc, b"rollback", executor.sequence(), &executor.token()),
@@ -90,8 +95,10 @@ pub(crate) fn answer<R: Threads + Sync, G: Gate>(
     workers: Workers,
     gate: &G,
 ) -> Result<Vec<u8>, Memory>
-    requires { 1 ≤ executor.old.present.next }
-    ensures { IfOk result (λ text. Answers command.now executor.old executor.new text.items) }
+    requires low { 1 ≤ executor.old.present.next }
+    requires sound { IsSoundState executor.old.cards executor.old.present }
+    ensures text { IfOk result (λ text. Answers command.now executor.old executor.new text.items) }
+    ensures sound { IsSoundState executor.new.cards executor.new.present }
 {
     match command {
         Command::Batch(batch) => answer_batch(rt, alloc, executor, batch, workers, gate),

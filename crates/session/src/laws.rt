@@ -1,12 +1,8 @@
-//! Laws of sessions, as contracts of functions that do nothing but call other laws.
+//! Laws of sessions, as contracts of functions that do nothing.
 ghost use Rattle.session.specs.Laws.{SessionsAreSerial};
 
-use executor::laws::line;
-
-/// Whatever commands were answered: there are batches of which each state of the line is the one that one thread leaves after as many
-/// as its number says.
+/// Whatever commands were answered, each on the line that those before it left: the states are those that one thread leaves after the
+/// batches that are kept, each answer is that of such states, and the database stays sound.
 pub fn serial()
     ensures { SessionsAreSerial }
-{
-    line();
-}
+{}

@@ -1,6 +1,7 @@
 //! Sessions on an executor that the caller has.
 ghost use Rattle.std.specs.Prelude.{◌≡◌, ◌+◌, ◌<◌, ◌≤◌, ◌^◌, [], IfErr, IfSome, OnOk, if◌then◌else◌, option_map};
 ghost use Rattle.commands.specs.Commands.{commands};
+ghost use Rattle.executor.specs.States.{IsSoundState};
 ghost use Rattle.runner.specs.Runs.{is_write};
 ghost use Rattle.session.specs.Sessions.{IsOfSession, LeavesSession, Served};
 
@@ -25,6 +26,7 @@ pub fn serve_on<R: Host, C: Read + Drop, S: Sink, G: Gate>(
 ) -> Result<(), RunFault>
     requires alone { executor.old.earlier ≡ [] }
     requires low { 1 ≤ executor.old.present.next }
+    requires sound { IsSoundState executor.old.cards executor.old.present }
     requires count { S.failed sink.old < 2 ^ 63 }
     ensures ok { OnOk result (IfSome (option_map commands (C.remaining input)) (λ hearing.
         Served executor.old hearing (S.taken sink.old) (S.taken sink.new))) }

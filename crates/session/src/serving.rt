@@ -3,6 +3,7 @@ ghost use Rattle.std.specs.Prelude.{◌≡◌, ◌+◌, ◌<◌, ◌≤◌, ◌^
 ghost use Rattle.std.specs.Io.KnownBytes.{Appends};
 ghost use Rattle.commands.specs.Commands.{commands};
 ghost use Rattle.commands.specs.declared.command_reader.TheConstants.{LAST_RECORD};
+ghost use Rattle.executor.specs.States.{IsSoundState};
 ghost use Rattle.records.specs.Io.{AppendsFront};
 ghost use Rattle.runner.specs.Runs.{is_write};
 ghost use Rattle.runner.specs.WholeRuns.{is_image_read};
@@ -42,6 +43,7 @@ fn respond<R: Threads + Sync, S: Sink, G: Gate>(
     gate: &G,
 ) -> Result<(), RunFault>
     requires low { 1 ≤ executor.old.present.next }
+    requires sound { IsSoundState executor.old.cards executor.old.present }
     requires count { S.failed sink.old < 2 ^ 63 }
     ensures ok { OnOk result (IsAnswered command.now executor.old executor.new (S.taken sink.old) (S.taken sink.new)) }
     ensures err { IfErr result (λ e. LeavesAnswer e command.now executor.old (S.taken sink.old) (S.taken sink.new)) }
@@ -68,6 +70,7 @@ fn serve_commands<R: Threads + Sync, C: Read + Drop, S: Sink, G: Gate>(
 ) -> Result<(), RunFault>
     requires alone { executor.old.earlier ≡ [] }
     requires low { 1 ≤ executor.old.present.next }
+    requires sound { IsSoundState executor.old.cards executor.old.present }
     requires room { reader.old.number ≤ LAST_RECORD + 1 }
     requires count { S.failed sink.old < 2 ^ 63 }
     ensures ok { OnOk result (IfSome reader.old.left (λ hearing. Served executor.old hearing (S.taken sink.old) (S.taken sink.new))) }
@@ -110,6 +113,7 @@ pub(crate) fn serve_input<R: Host, C: Read + Drop, S: Sink, G: Gate>(
 ) -> Result<(), RunFault>
     requires alone { executor.old.earlier ≡ [] }
     requires low { 1 ≤ executor.old.present.next }
+    requires sound { IsSoundState executor.old.cards executor.old.present }
     requires count { S.failed sink.old < 2 ^ 63 }
     ensures ok { OnOk result (IfSome (option_map commands (C.remaining input)) (λ hearing.
         Served executor.old hearing (S.taken sink.old) (S.taken sink.new))) }

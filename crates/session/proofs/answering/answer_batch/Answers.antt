@@ -14,8 +14,8 @@ batch_text-requires-clause-high g c =
     let first = c.in-Ok.ensures.record.first in
     omega (arith, count, fits.1, first)
 
-pub returns-in-Ok : goal.returns-in-Ok
-returns-in-Ok g c =
+pub returns-in-Ok-clause-text : goal.returns-in-Ok-clause-text
+returns-in-Ok-clause-text g c =
     let line = c.args.executor.now in
     let batch = c.args.batch.now in
     executed c.batch_text.result batch line c.execute.new.self _ c.in-Ok.ensures.admitted c.in-Ok.ensures.line

@@ -2,6 +2,7 @@ use Rattle.std.proofs.Common.{◌≡◌, ◌≤◌, ◌+◌, ◌-◌, ℕ, List}
 use Rattle.std.specs.Io.KnownBytes.{Appends}
 use Rattle.commands.specs.declared.command.Command.{Command}
 use Rattle.commands.specs.declared.command_reader.TheConstants.{LAST_RECORD}
+use Rattle.executor.specs.States.{IsSoundState}
 use Rattle.session.proofs.NumberLemmas.{AreNumbered}
 use Rattle.session.proofs.SessionLemmas.{HasGiven}
 use Rattle.session.specs.Answers.{AnswersAll}
@@ -11,6 +12,7 @@ use Rattle.session.proofs.serving.serve_commands.Given as goal
 abbrev pub invariant-commands : goal.invariant-commands
 invariant-commands g l = (g.S.Sink.failed l.sink ≡ g.S.Sink.failed l.fn.sink)
     × AreNumbered l.executor
+    × IsSoundState l.executor.cards l.executor.present
     × (l.reader.number ≤ LAST_RECORD + 1)
     × (done : List Command) × (text : List ℕ)
     × HasGiven l.fn.reader.left done l.reader.left
