@@ -38,7 +38,7 @@ module _ (cards : Cards) (start : State) where
   serial_line-extended kept batch =
       line-same cards _ _ _ _
       (ap (λ (s : State). states_met cards (serial cards start kept.committed) kept.uncommitted ++ s ∷ []) (serial-append cards start kept.committed kept.uncommitted)
-          ∙ sym (states_met-more cards (serial cards start kept.committed) kept.uncommitted batch))
+      ∙ sym (states_met-more cards (serial cards start kept.committed) kept.uncommitted batch))
       (sym (serial-more cards start (all_kept kept) batch) ∙ ap (serial cards start) (append_assoc kept.committed kept.uncommitted (batch ∷ [])))
 
   -- ---- the oldest one was committed
@@ -101,14 +101,14 @@ module _ (cards : Cards) (start : State) where
   serial_line-returned kept sequence new back =
       let base : State = serial cards start kept.committed in
       let cut = cut-at cards base kept.uncommitted new.earlier new.present back.gone.0
-          (ap (λ (s : State). states_met cards base kept.uncommitted ++ s ∷ []) (sym (serial-append cards start kept.committed kept.uncommitted)) ∙ back.gone.1) in
+      (ap (λ (s : State). states_met cards base kept.uncommitted ++ s ∷ []) (sym (serial-append cards start kept.committed kept.uncommitted)) ∙ back.gone.1) in
       let number : new.present.sequence - base.sequence ≡ sequence - (start.sequence + length kept.committed) =
-          (λ i. back.present i - sequence-of cards start kept.committed i) in
+      (λ i. back.present i - sequence-of cards start kept.committed i) in
       let same : new ≡ line_of cards new.earlier new.present = (λ i. line_of (back.cards i) new.earlier new.present) in
       same
       ∙ line-same cards _ _ _ _ (cut.met ∙ ap (λ n. states_met cards base (take n kept.uncommitted)) number)
-          (cut.left ∙ ap (λ n. serial cards base (take n kept.uncommitted)) number
-              ∙ sym (serial-append cards start kept.committed (take (sequence - (start.sequence + length kept.committed)) kept.uncommitted)))
+      (cut.left ∙ ap (λ n. serial cards base (take n kept.uncommitted)) number
+      ∙ sym (serial-append cards start kept.committed (take (sequence - (start.sequence + length kept.committed)) kept.uncommitted)))
 
   -- ---- a call
   pub serial_line-led : (kept : Kept) (call : Call) (new : Line) → Leads call (serial_line cards start kept) new → new ≡ serial_line cards start (kept_by start call kept)
