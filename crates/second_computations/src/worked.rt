@@ -49,6 +49,7 @@ cut|1|an order and a delivery|nothing|order and delivery
 cut|1|orders and stock levels|second and third|orders and levels
 cut|1|orders and stock levels|first and third|orders and levels
 cut|1|orders and stock levels|first and second|orders and levels
+cut|1|a delivery between stock levels of orders|nothing|orders, levels and delivery
 cut|2|requests to two warehouses|nothing|two warehouses
 straying|1|ten orders|nothing|ten orders
 straying|1|two deliveries|two orders|two deliveries
@@ -57,6 +58,7 @@ straying|1|an order and a stock level|nothing|order and level
 straying|1|stock levels, the first of a first order|second and third|orders and levels
 straying|1|stock levels, the second of a first order|first and third|orders and levels
 straying|1|stock levels, the third of a first order|first and second|orders and levels
+straying|1|a delivery between stock levels of orders|nothing|orders, levels and delivery
 loans|1|an order|nothing|order
 loans|1|an order with an item twice|nothing|item twice
 loans|1|a payment|nothing|payment

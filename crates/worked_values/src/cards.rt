@@ -64,10 +64,10 @@ fn infos(alloc: Global) -> Option<DistrictInfos> {
     DistrictInfos::new(infos)
 }
 
-fn stock(alloc: Global) -> Option<Card> {
+fn stock(alloc: Global, warehouse: u8, item: u32) -> Option<Card> {
     Some(Card::Stock(StockCard {
-        warehouse: WarehouseId::new(1)?,
-        item: ItemId::new(100_000)?,
+        warehouse: WarehouseId::new(warehouse)?,
+        item: ItemId::new(item)?,
         data: Text::parse(b"ORIGINAL")?,
         district_infos: infos(alloc)?,
     }))
@@ -84,13 +84,13 @@ fn item(number: u32, price: u32) -> Option<Card> {
 
 /// A card's columns as plain values.
 #[derive(Clone, Copy)]
-enum Columns {
+pub enum Columns {
     Warehouse(u8, &'static [u8]),
     District((u8, u8), &'static [u8]),
     /// A customer of a district, with C_LAST, C_FIRST and C_CREDIT.
     Customer((u8, u8), u16, &'static [u8], &'static [u8], Credit),
-    /// The stock of the last item.
-    Stock,
+    /// The stock of a warehouse's item.
+    Stock(u8, u32),
     /// An item and its price.
     Item(u32, u32),
 }
@@ -104,7 +104,7 @@ impl Columns {
             Columns::Customer(place, number, last, first, credit) => {
                 customer(place, number, last, first, credit)
             }
-            Columns::Stock => stock(alloc),
+            Columns::Stock(warehouse, item) => stock(alloc, warehouse, item),
             Columns::Item(number, price) => item(number, price),
         }
     }
@@ -117,7 +117,8 @@ fn push_all(alloc: Global, cards: &mut Vec<Card>, all: &[Columns]) -> Option<()>
     Some(())
 }
 
-fn catalog_of(alloc: Global, all: &[Columns]) -> Option<Result<Catalog, CatalogError>> {
+/// The catalog of these cards. None where a value is outside its limits.
+pub fn catalog_of(alloc: Global, all: &[Columns]) -> Option<Result<Catalog, CatalogError>> {
     let mut cards = Vec::new(alloc);
     push_all(alloc, &mut cards, all)?;
     Some(Catalog::new(alloc, cards))
@@ -236,6 +237,8 @@ const GOOD_CUSTOMER: Columns = Columns::Customer(
     Credit::Good,
 );
 
+const STOCK: Columns = Columns::Stock(1, 100_000);
+
 const ITEM: Columns = Columns::Item(99_999, 99_998);
 
 const CATALOGS: [(&str, &[Columns]); 7] = [
@@ -243,11 +246,11 @@ const CATALOGS: [(&str, &[Columns]); 7] = [
     ("digest of a district", &[DISTRICT]),
     ("digest of a customer of bad credit", &[BAD_CUSTOMER]),
     ("digest of a customer of good credit", &[GOOD_CUSTOMER]),
-    ("digest of a stock", &[Columns::Stock]),
+    ("digest of a stock", &[STOCK]),
     ("digest of an item", &[ITEM]),
     (
         "digest of all kinds",
-        &[ITEM, Columns::Stock, BAD_CUSTOMER, WAREHOUSE, DISTRICT],
+        &[ITEM, STOCK, BAD_CUSTOMER, WAREHOUSE, DISTRICT],
     ),
 ];
 

@@ -50,11 +50,16 @@ impl Database {
         requires { IsBetween 1 100 warehouses }
     {
         let (catalog, store) = make(alloc, warehouses, 45, 100)?;
-        Ok(Database {
+        Ok(Database::of(catalog, store))
+    }
+
+    /// A database of these cards and rows, in which no request was executed.
+    pub fn of(catalog: Catalog, store: PointedStore) -> Database {
+        Database {
             catalog,
             store,
             next: 1,
-        })
+        }
     }
 
     /// The reply to a request with a number, and the rows that it changes.

@@ -190,7 +190,7 @@ S,3,1,10
 ";
 
 /// What each request of a batch declares.
-fn show_batch<R: Threads + Sync + Print>(
+pub fn show_batch<R: Threads + Sync + Print>(
     rt: &R,
     alloc: Global,
     database: &Database,

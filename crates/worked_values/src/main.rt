@@ -5,6 +5,7 @@
 mod batches;
 mod cards;
 mod columns;
+mod counted_ahead;
 mod database;
 mod desks;
 mod eight_points;
@@ -40,6 +41,7 @@ fn main(rt: HostRuntime) -> ExitCode {
         worlds::show(&rt, rt.alloc()),
         desks::show(&rt, rt.alloc()),
         footprints::show(&rt, rt.alloc()),
+        counted_ahead::show(&rt, rt.alloc()),
         executions::show(&rt, rt.alloc()),
         levels::show(&rt, rt.alloc()),
         signatures::show(&rt, rt.alloc()),
