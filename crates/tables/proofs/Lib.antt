@@ -1,0 +1,5 @@
+pub mod KeyRanks
+pub mod RankKeys
+pub mod Tables
+pub mod Shelved
+pub mod Grouped

@@ -1,0 +1,5 @@
+pub mod Ranks
+pub mod Keys
+pub mod ByRank
+pub mod Shelves
+pub mod Leaves

@@ -1,0 +1,98 @@
+//! Tables side by side, one for each district of each warehouse: new rows of a district come at the end of its table.
+ghost use Rattle.std.specs.Prelude.{◌≡◌, ◌<◌, IfOk, OnErr, OnOk, option_copied};
+ghost use Rattle.std.specs.FinMap as map;
+ghost use Rattle.tables.specs.Shelves.{place_of, rows_at};
+
+use crate::table::Table;
+use std::alloc::Global;
+use std::marker::Model;
+use tpcc_rows::memory::Memory;
+
+/// How many tables there are.
+const PLACES: usize = 2048;
+
+/// The place of a rank's table: that of its warehouse and its district.
+fn place_of(rank: u64) -> usize
+    ensures value { result ≡ place_of rank }
+    ensures below { result < 2048 }
+{
+    (rank / 268_435_456 % 2048) as usize
+}
+
+/// A finite map from ranks to rows, each in the table of its district.
+#[derive(Drop)]
+pub struct Shelf<R> {
+    tables: Vec<Table<R>>,
+}
+
+impl<R> Model for Shelf<R> {
+    ghost use Rattle.tables.specs.ByRank.{ByRank, by_rank_code};
+    ghost use Rattle.tables.specs.Shelves.{IsShelf, place_of, union};
+
+    ghost Value = { ByRank R };
+
+    ghost coded = { by_rank_code R.code };
+
+    ghost view = { λ s. union s.tables.items };
+
+    ghost invariant = { λ s. IsShelf 2048 place_of s.tables.items };
+}
+
+impl<R> Shelf<R> {
+    pub fn get(&self, rank: u64) -> Option<&R>
+        ensures { option_copied result ≡ map.get self.now rank }
+    {
+        self.tables[place_of(rank)].get(rank)
+    }
+
+    /// The same, where the rank is expected at the place in its table.
+    pub fn get_near(&self, rank: u64, place: usize) -> Option<&R>
+        ensures { option_copied result ≡ map.get self.now rank }
+    {
+        self.tables[place_of(rank)].get_near(rank, place)
+    }
+
+    /// The rows of the rank's table with their ranks, in rising rank.
+    pub fn slice_at(&self, rank: u64) -> &[(u64, R)]
+        ensures { result.now ≡ map.entries (rows_at place_of self.now (place_of rank)) }
+    {
+        self.tables[place_of(rank)].as_slice()
+    }
+
+    /// How many rows stand in the rank's table.
+    pub fn len_at(&self, rank: u64) -> usize {
+        self.tables[place_of(rank)].len()
+    }
+}
+
+impl<R: Drop> Shelf<R> {
+    /// No rows, and a table for each district.
+    pub fn new(alloc: Global) -> Result<Shelf<R>, Memory>
+        ensures { IfOk result (λ shelf. shelf ≡ map.empty) }
+    {
+        let mut tables = Vec::with_capacity(alloc, PLACES)?;
+        for _ in 0..PLACES {
+            tables.push(Table::new(alloc))?;
+        }
+        Ok(Shelf { tables })
+    }
+
+    /// The rank has this row from now on.
+    pub fn put(&mut self, rank: u64, row: R) -> Result<(), Memory>
+        ensures ok { OnOk result (self.new ≡ map.insert self.old rank row) }
+        ensures err { OnErr result (self.new ≡ self.old) }
+    {
+        let n = place_of(rank);
+        let table = &mut self.tables[n];
+        table.put(rank, row)
+    }
+
+    /// The rank has no row from now on; the answer is the one that it had.
+    pub fn remove(&mut self, rank: u64) -> Option<R>
+        ensures value { result ≡ map.get self.old rank }
+        ensures after { self.new ≡ map.remove self.old rank }
+    {
+        let n = place_of(rank);
+        self.tables[n].remove(rank)
+    }
+}

@@ -1,0 +1,205 @@
+//! Rows of one kind in one piece of memory, in the order of their ranks.
+ghost use Rattle.std.specs.Prelude.{◌≡◌, ◌<◌, ◌≤◌, ◌^◌, Err, IsTrue, Ok, OnErr, OnOk, is_some, length, option_copied, true};
+ghost use Rattle.std.specs.FinMap as map;
+ghost use Rattle.std.specs.List.{HoldsAt, insert, remove, slice_set};
+ghost use Rattle.std.specs.Ordering.{nat_cmp};
+ghost use Rattle.tpcc_rows.specs.Places.{IsPlaceOf, are_in_order};
+
+use std::alloc::Global;
+use std::marker::Model;
+use tpcc_rows::memory::Memory;
+
+/// How far from a guess a row is looked for.
+const NEAR: usize = 64;
+
+/// A finite map from ranks to rows.
+#[derive(Drop)]
+pub struct Table<R> {
+    entries: Vec<(u64, R)>,
+}
+
+impl<R> Model for Table<R> {
+    ghost use Rattle.std.specs.Prelude.{◌≡◌, true};
+    ghost use Rattle.std.specs.FinMap as map;
+    ghost use Rattle.std.specs.Ordering.{nat_cmp};
+    ghost use Rattle.tables.specs.ByRank.{ByRank, by_rank_code};
+    ghost use Rattle.tpcc_rows.specs.Places.{are_in_order};
+
+    ghost Value = { ByRank R };
+
+    ghost coded = { by_rank_code R.code };
+
+    ghost view = { λ s. map.from_sorted s.entries.items };
+
+    ghost invariant = { λ s. are_in_order nat_cmp s.entries.items ≡ true };
+}
+
+/// Where the rank is if no number is left out from the first rank on. Any answer will do: it is looked at, and not relied on.
+fn guess<R>(entries: &[(u64, R)], rank: u64) -> usize {
+    match entries.first() {
+        Some((first, _)) => (rank.saturating_sub(*first) / 16) as usize,
+        None => 0,
+    }
+}
+
+/// Where the rank is, if it isn't far from the place.
+fn near<R>(entries: &[(u64, R)], rank: u64, place: usize) -> usize {
+    let high = place.saturating_add(NEAR).min(entries.len());
+    let low = place.saturating_sub(NEAR).min(high);
+    let within = entries[low..high].partition_point(|entry| entry.0 < rank);
+    low.wrapping_add(within)
+}
+
+/// Whether the rank is at the place.
+fn is_at<R>(entries: &[(u64, R)], rank: u64, place: usize) -> bool
+    ensures { IsTrue result → IsPlaceOf nat_cmp rank entries.now (Ok place) }
+{
+    match entries.get(place) {
+        Some((other, _)) => *other == rank,
+        None => false,
+    }
+}
+
+/// Whether the rank is greater than the last one.
+fn is_behind<R>(entries: &[(u64, R)], rank: u64) -> bool
+    requires { are_in_order nat_cmp entries.now ≡ true }
+    ensures { IsTrue result → IsPlaceOf nat_cmp rank entries.now (Err (length entries.now)) }
+{
+    match entries.last() {
+        Some((last, _)) => *last < rank,
+        None => false,
+    }
+}
+
+/// Where the rank is, or where it would be put.
+fn search<R>(entries: &[(u64, R)], rank: u64) -> Result<usize, usize>
+    requires { are_in_order nat_cmp entries.now ≡ true }
+    ensures { IsPlaceOf nat_cmp rank entries.now result }
+{
+    entries.binary_search_by(|entry| entry.0.cmp(&rank))
+}
+
+/// Where the rank is, or where it would be put: at the guessed place, at the end, near the guess, or found by a search of all.
+fn place_of<R>(entries: &[(u64, R)], rank: u64, guess: usize) -> Result<usize, usize>
+    requires { are_in_order nat_cmp entries.now ≡ true }
+    ensures { IsPlaceOf nat_cmp rank entries.now result }
+{
+    if is_at(entries, rank, guess) {
+        return Ok(guess);
+    }
+    if is_behind(entries, rank) {
+        return Err(entries.len());
+    }
+    let near = near(entries, rank, guess);
+    if is_at(entries, rank, near) {
+        return Ok(near);
+    }
+    search(entries, rank)
+}
+
+/// The row of the rank, where there is one.
+fn found<R>(entries: &[(u64, R)], rank: u64, guess: usize) -> Option<&R>
+    requires { are_in_order nat_cmp entries.now ≡ true }
+    ensures { option_copied result ≡ map.find nat_cmp rank entries.now }
+{
+    match place_of(entries, rank, guess) {
+        Ok(place) => Some(&entries[place].1),
+        Err(_) => None,
+    }
+}
+
+/// The place has this entry from now on.
+fn replace<R: Drop>(entries: &mut Vec<(u64, R)>, place: usize, entry: (u64, R))
+    requires { place < length entries.old.items }
+    ensures { entries.new.items ≡ slice_set entries.old.items place entry }
+{
+    entries[place] = entry;
+}
+
+/// One entry more at the place, before those that stood from there on.
+fn insert<R: Drop>(entries: &mut Vec<(u64, R)>, place: usize, entry: (u64, R)) -> Result<(), Memory>
+    requires { place ≤ length entries.old.items }
+    ensures ok { OnOk result (entries.new.items ≡ insert entries.old.items place entry) }
+    ensures err { OnErr result (entries.new.items ≡ entries.old.items) }
+{
+    entries.insert(place, entry)?;
+    Ok(())
+}
+
+/// One entry fewer: the one at the place, whose row is the answer.
+fn remove<R>(entries: &mut Vec<(u64, R)>, place: usize) -> R
+    requires { place < length entries.old.items }
+    ensures value { HoldsAt (λ entry. entry.1 ≡ result) entries.old.items place }
+    ensures after { entries.new.items ≡ remove entries.old.items place }
+{
+    let (_, row) = entries.remove(place);
+    row
+}
+
+impl<R> Table<R> {
+    /// No rows.
+    pub fn new(alloc: Global) -> Table<R>
+        ensures { result ≡ map.empty }
+    {
+        Table {
+            entries: Vec::new(alloc),
+        }
+    }
+
+    pub fn get(&self, rank: u64) -> Option<&R>
+        ensures { option_copied result ≡ map.get self.now rank }
+    {
+        let guess = guess(&self.entries, rank);
+        found(&self.entries, rank, guess)
+    }
+
+    /// The same, where the rank is expected at the place.
+    pub fn get_near(&self, rank: u64, place: usize) -> Option<&R>
+        ensures { option_copied result ≡ map.get self.now rank }
+    {
+        found(&self.entries, rank, place)
+    }
+
+    /// The rows with their ranks, in rising rank.
+    pub fn as_slice(&self) -> &[(u64, R)]
+        ensures { result.now ≡ map.entries self.now }
+    {
+        self.entries.as_slice()
+    }
+
+    /// How many rows there are.
+    pub fn len(&self) -> usize
+        ensures { result ≡ length (map.entries self.now) }
+    {
+        self.as_slice().len()
+    }
+}
+
+impl<R: Drop> Table<R> {
+    /// The rank has this row from now on.
+    pub fn put(&mut self, rank: u64, row: R) -> Result<(), Memory>
+        ensures ok { OnOk result (self.new ≡ map.insert self.old rank row) }
+        ensures err { OnErr result (self.new ≡ self.old) }
+    {
+        let guess = guess(&self.entries, rank);
+        match place_of(&self.entries, rank, guess) {
+            Ok(place) => {
+                replace(&mut self.entries, place, (rank, row));
+                Ok(())
+            }
+            Err(place) => insert(&mut self.entries, place, (rank, row)),
+        }
+    }
+
+    /// The rank has no row from now on; the answer is the one that it had.
+    pub fn remove(&mut self, rank: u64) -> Option<R>
+        ensures value { result ≡ map.get self.old rank }
+        ensures after { self.new ≡ map.remove self.old rank }
+    {
+        let guess = guess(&self.entries, rank);
+        match place_of(&self.entries, rank, guess) {
+            Ok(place) => Some(remove(&mut self.entries, place)),
+            Err(_) => None,
+        }
+    }
+}
