@@ -1,7 +1,7 @@
-//! A law of merged deltas, as the contract of a function that does nothing.
+//! A law of merged deltas, stated as the contract of an empty function.
 ghost use Rattle.gather.specs.Merged.{OrderIsFree};
 
-/// Deltas without a common key come together in any order.
+/// Deltas without a common key can be merged in any order.
 pub fn any_order()
     ensures { OrderIsFree }
 {}

@@ -1,5 +1,4 @@
-//! What comes together after a level: the changes of several requests as one delta, and their replies in the order of
-//! their numbers.
+//! Merges the results of a level: its requests' deltas into one, and their replies into the order of their numbers.
 #![tactic(auto)]
 
 pub mod laws;

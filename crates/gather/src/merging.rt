@@ -1,4 +1,4 @@
-//! The changes of several deltas as one delta.
+//! Merges deltas.
 ghost use Rattle.std.specs.Prelude.{◌≡◌, IfOk};
 ghost use Rattle.gather.specs.Merged.{AreApart, IsUnion, after_each, merged};
 ghost use Rattle.tpcc_rows.specs.Changing.{after};
@@ -8,7 +8,7 @@ use std::alloc::Global;
 use tpcc_rows::delta::Delta;
 use tpcc_rows::memory::Memory;
 
-/// The changes of all the deltas: of one key the last one counts. The rows are moved, none is copied.
+/// Merges deltas into one; the last change to a key wins. Rows are moved, not copied.
 pub fn merge(alloc: Global, deltas: Vec<Delta>) -> Result<Delta, Memory>
     ensures last { IfOk result (λ delta. delta ≡ merged deltas.items) }
     ensures in_turn { IfOk result (λ delta. (rows : Rows) → after rows delta ≡ after_each rows deltas.items) }

@@ -1,4 +1,4 @@
-//! Replies that come in any order, brought into the order of their requests.
+//! Puts replies that arrive in any order into the order of their requests.
 ghost use Rattle.std.specs.Prelude.{◌≡◌, ◌+◌, ◌<◌, ◌↔◌, map, length, Contains, Err, None, Some, IsErr, IsOk, IfNone, IfOk, IfSome, OnErr, OnOk};
 ghost use Rattle.gather.specs.Books.{Awaits, Expects, HasFiled, blank, with_reply};
 ghost use Rattle.gather.specs.declared.reply_book.FileError.TheVariants as file_error;
@@ -10,7 +10,7 @@ use thiserror::Error;
 use tpcc_rows::id::RequestNumber;
 use tpcc_rows::memory::Memory;
 
-/// Why a reply isn't filed.
+/// Why a reply was not filed.
 #[derive(Clone, Copy, Debug, PartialEq, Eq, Error)]
 pub enum FileError {
     #[error("the book has no place for this number")]
@@ -24,13 +24,12 @@ pub enum FileError {
 #[error("a reply is missing")]
 pub struct Incomplete;
 
-/// A place for the reply to each of so many requests, whose numbers follow each other. All memory is taken when the
-/// book is made.
+/// A slot for the reply to each of `count` consecutively numbered requests. All memory is allocated up front.
 #[derive(Drop)]
 pub struct ReplyBook {
     first: RequestNumber,
     replies: Vec<Option<Reply>>,
-    /// Empty, with room for all replies.
+    /// Empty, with capacity for all replies.
     in_order: Vec<Reply>,
 }
 
@@ -48,7 +47,7 @@ impl Model for ReplyBook {
 }
 
 impl ReplyBook {
-    /// A book for so many requests, the first with this number.
+    /// An empty book for `count` requests, numbered from `first`.
     pub fn new(alloc: Global, first: RequestNumber, count: usize) -> Result<ReplyBook, Memory>
         ensures { IfOk result (λ book. book ≡ blank first count) }
     {
@@ -76,7 +75,7 @@ impl ReplyBook {
         }
     }
 
-    /// Files the reply to the request with this number.
+    /// Files the reply to the request with the given number.
     pub fn file(&mut self, number: RequestNumber, reply: Reply) -> Result<(), FileError>
         ensures ok { IsOk result ↔ Awaits self.old number }
         ensures filed { OnOk result (self.new ≡ with_reply self.old number reply) }

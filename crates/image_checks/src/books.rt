@@ -1,4 +1,4 @@
-//! A book for each district, which its rows are entered into one after the other.
+//! Totals of each district's orders, new orders and order lines, accumulated row by row.
 ghost use Rattle.std.specs.Prelude.{◌≡◌, ◌<◌, ◌+◌, ◌*◌, ◌^◌, ◌+ℤ◌, max, min, pos, ℕ, length, replicate, IfNone, IfOk, IfSome, Some};
 ghost use Rattle.std.specs.Ordering.{int_eq};
 ghost use Rattle.records.specs.Fields.{IsWithin};
@@ -14,25 +14,25 @@ use tpcc_rows::memory::Memory;
 use tpcc_rows::plain::RowStore;
 use tpcc_rows::row::Row;
 
-/// What a district's orders, new orders and order lines come to.
+/// Totals of a district's orders, new orders and order lines.
 #[derive(Clone, Copy)]
 pub(crate) struct Book {
-    /// The greatest O_ID.
+    /// Maximum O_ID.
     last_order: Option<OrderId>,
-    /// The least NO_O_ID.
+    /// Minimum NO_O_ID.
     first_new_order: Option<OrderId>,
-    /// The greatest NO_O_ID.
+    /// Maximum NO_O_ID.
     last_new_order: Option<OrderId>,
     new_orders: i128,
-    /// The sum of O_OL_CNT.
+    /// Sum of O_OL_CNT.
     promised_lines: i128,
     lines: i128,
 }
 
-/// The places of the districts of all warehouses.
+/// Indexes for the districts of all warehouses.
 pub const PLACES: usize = 1_011;
 
-/// A book for each district, at its place.
+/// The totals of each district, at its index.
 #[derive(Drop)]
 pub(crate) struct Books {
     places: Vec<Book>,
@@ -40,7 +40,7 @@ pub(crate) struct Books {
 }
 
 impl Books {
-    /// A book of no rows for each district.
+    /// Totals over no rows, for each district.
     pub(crate) fn new(alloc: Global) -> Result<Books, Memory>
         ensures { IfOk result (λ books. books.places.items ≡ replicate PLACES empty_book) }
     {
@@ -49,7 +49,7 @@ impl Books {
     }
 }
 
-/// The place of a district among those of all warehouses.
+/// The index of a district.
 fn place(warehouse: WarehouseId, district: DistrictId) -> usize
     ensures value { result ≡ warehouse * 10 + district }
     ensures range { result < PLACES }
@@ -57,7 +57,7 @@ fn place(warehouse: WarehouseId, district: DistrictId) -> usize
     usize::from(warehouse.number()) * 10 + usize::from(district.number())
 }
 
-/// The later of two orders, where there are two.
+/// The later of two orders, or the only one.
 fn later(one: Option<OrderId>, other: Option<OrderId>) -> Option<OrderId>
     ensures { result ≡ one_of max one other }
 {
@@ -68,7 +68,7 @@ fn later(one: Option<OrderId>, other: Option<OrderId>) -> Option<OrderId>
     }
 }
 
-/// The earlier of two orders, where there are two.
+/// The earlier of two orders, or the only one.
 fn earlier(one: Option<OrderId>, other: Option<OrderId>) -> Option<OrderId>
     ensures { result ≡ one_of min one other }
 {
@@ -97,7 +97,7 @@ impl Book {
         lines: 0,
     };
 
-    /// The book of an order of so many lines.
+    /// The totals of one order, of `lines` lines.
     fn of_order(order: OrderId, lines: LineNumber) -> Book
         ensures value { result ≡ record empty_book { last_order = Some order; promised_lines = pos lines } }
         ensures small { IsOfRows 1 result }
@@ -109,7 +109,7 @@ impl Book {
         }
     }
 
-    /// The book of a new order.
+    /// The totals of one new order.
     fn of_new_order(order: OrderId) -> Book
         ensures { result ≡ record empty_book { first_new_order = Some order; last_new_order = Some order; new_orders = pos 1 } }
     {
@@ -121,7 +121,7 @@ impl Book {
         }
     }
 
-    /// The book of an order line.
+    /// The totals of one order line.
     fn of_line() -> Book
         ensures { result ≡ record empty_book { lines = pos 1 } }
     {
@@ -131,7 +131,7 @@ impl Book {
         }
     }
 
-    /// The book of the rows of both books.
+    /// The sum of two totals.
     fn and(self, other: Book) -> Book
         requires one { IsOfRows (2 ^ 63) self }
         requires other { IsOfRows (2 ^ 63) other }
@@ -147,7 +147,7 @@ impl Book {
         }
     }
 
-    /// Whether the next order's number follows on the last order, and on the last new order.
+    /// Whether `next` is one more than the last order (or 1 without one), and than the last new order, if there is one.
     pub(crate) fn goes_before(self, next: OrderId) -> bool
         ensures { result ≡ follows_on next self.last_order self.last_new_order }
     {
@@ -159,7 +159,7 @@ impl Book {
             .is_none_or(|order| order.number() == last)
     }
 
-    /// Whether the new orders are as many as their numbers span.
+    /// Whether there are as many new orders as their numbers span.
     pub(crate) fn has_no_gap(self) -> bool
         ensures { result ≡ are_without_gap self.first_new_order self.last_new_order self.new_orders }
     {
@@ -172,7 +172,7 @@ impl Book {
         }
     }
 
-    /// Whether there are as many lines as the orders promise.
+    /// Whether there are as many order lines as the orders' O_OL_CNT say.
     pub(crate) fn has_all_lines(self) -> bool
         ensures { result ≡ int_eq self.promised_lines self.lines }
     {
@@ -180,7 +180,7 @@ impl Book {
     }
 }
 
-/// The district of an order, a new order or an order line, and the book of that row alone.
+/// The district of an order, a new order or an order line, and the totals of that row.
 fn entry(key: &RowKey, row: &Row) -> Option<(WarehouseId, DistrictId, Book)>
     ensures none { IfNone result ((w d : ℕ) → book_of_row w d (key.now, row.now) ≡ empty_book) }
     ensures some { IfSome result (IsEntry (key.now, row.now)) }
@@ -218,7 +218,7 @@ fn entry(key: &RowKey, row: &Row) -> Option<(WarehouseId, DistrictId, Book)>
     }
 }
 
-/// Enters a row into the book of its district.
+/// Adds a row to the totals of its district.
 pub(crate) fn enter(books: &mut Books, key: &RowKey, row: &Row)
     requires { AreOfRows (2 ^ 63) books.old.places.items }
     ensures books { IsEntered books.old.places.items (key.now, row.now) books.new.places.items }
@@ -230,7 +230,7 @@ pub(crate) fn enter(books: &mut Books, key: &RowKey, row: &Row)
     }
 }
 
-/// The books of all districts.
+/// The totals of all districts.
 pub(crate) fn books_of(alloc: Global, rows: &RowStore) -> Result<Books, Memory>
     ensures { IfOk result (λ books. AreBooks books.places.items rows.now) }
 {
@@ -242,7 +242,7 @@ pub(crate) fn books_of(alloc: Global, rows: &RowStore) -> Result<Books, Memory>
     Ok(books)
 }
 
-/// The book of a district.
+/// The totals of a district.
 pub(crate) fn book_of(books: &Books, warehouse: WarehouseId, district: DistrictId) -> Book
     ensures { (rows : Rows) → AreBooks books.now.places.items rows → result ≡ book_of warehouse district rows }
 {

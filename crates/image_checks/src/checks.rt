@@ -1,4 +1,4 @@
-//! Parents and consistency conditions.
+//! Checks of parents and of the consistency conditions.
 ghost use Rattle.std.specs.Prelude.{◌≡◌, ◌&&◌, ◌<◌, ◌^◌, ◌+ℤ◌, ℕ, pos, IfErr, IfNone, IfSome, OnOk, Ok, Err, option_and_then, option_copied};
 ghost use Rattle.std.specs.FinMap as map;
 ghost use Rattle.std.specs.List.{list_all};
@@ -26,7 +26,7 @@ use tpcc_rows::number::Cents;
 use tpcc_rows::plain::RowStore;
 use tpcc_rows::row::{HistoryRow, Row};
 
-/// A sum for each warehouse, at its number.
+/// A sum for each warehouse, indexed by its number.
 pub(crate) type Sums = [i128; 101];
 
 fn has_card(catalog: &Catalog, key: CardKey) -> bool
@@ -53,7 +53,7 @@ fn has_ten_districts(catalog: &Catalog, warehouse: WarehouseId) -> bool
         .all(|district| has_district(catalog, warehouse, *district))
 }
 
-/// Whether the cards and the rows are there that a card goes with. Whether the rows of a district are is passed.
+/// Whether a card's parents are there. `has_rows` says whether a district's two rows are.
 pub(crate) fn card_has_parents(
     catalog: &Catalog,
     has_rows: bool,
@@ -104,7 +104,7 @@ fn has_stock(catalog: &Catalog, warehouse: WarehouseId, item: ItemId) -> bool
     has_card(catalog, CardKey::Stock { warehouse, item })
 }
 
-/// The key of the order that a new order or an order line goes with.
+/// The key of the order that a new order or an order line belongs to.
 pub(crate) fn order_key(key: &RowKey) -> Option<RowKey>
     ensures { result ≡ order_key key.now }
 {
@@ -130,7 +130,7 @@ pub(crate) fn order_key(key: &RowKey) -> Option<RowKey>
     }
 }
 
-/// Whether the row is there, is an order's, and has at least so many lines.
+/// Whether there is an order, with at least `number` lines.
 fn has_line(order: Option<&Row>, number: LineNumber) -> bool
     ensures { result ≡ has_line number (option_and_then as_order (option_copied order.entry)) }
 {
@@ -140,7 +140,7 @@ fn has_line(order: Option<&Row>, number: LineNumber) -> bool
     }
 }
 
-/// Whether the customer of a payment and the district where it was paid are there.
+/// Whether a payment's customer, and the district where it was paid, are there.
 fn has_payment(catalog: &Catalog, row: &HistoryRow) -> bool
     ensures { result ≡ (has_card catalog.now (card_key.Customer row.now.customer_warehouse row.now.customer_district row.now.customer)
         && has_card catalog.now (card_key.District row.now.warehouse row.now.district)) }
@@ -153,8 +153,7 @@ fn has_payment(catalog: &Catalog, row: &HistoryRow) -> bool
     ) && has_district(catalog, row.warehouse, row.district)
 }
 
-/// Whether the cards and the order are there that a row goes with, besides a card that comes in its own record. The order is passed, if
-/// it is there.
+/// Whether a row's parents are there, apart from a card in its own record. `order` is the order it belongs to, if there.
 pub(crate) fn row_has_parents(
     catalog: &Catalog,
     order: Option<&Row>,
@@ -204,7 +203,7 @@ fn has_row(rows: &RowStore, key: RowKey) -> bool
     rows.get(&key).is_some()
 }
 
-/// Whether the rows are there that the card of a district goes with.
+/// Whether a district's two rows are there.
 fn has_own_rows(rows: &RowStore, key: &CardKey) -> bool
     ensures { result ≡ has_own_rows rows.now key.now }
 {
@@ -227,7 +226,7 @@ fn has_own_rows(rows: &RowStore, key: &CardKey) -> bool
     }
 }
 
-/// Whether the cards and the rows are there that the cards go with.
+/// Whether the parents of all cards are there.
 fn cards_have_parents(catalog: &Catalog, rows: &RowStore) -> bool
     ensures { result ≡ list_all (card_has_parents (database catalog.now rows.now)) (map.entries catalog.now) }
 {
@@ -240,7 +239,7 @@ fn cards_have_parents(catalog: &Catalog, rows: &RowStore) -> bool
     true
 }
 
-/// The order that a row goes with, where it has one that is there.
+/// The order that a row belongs to, if any.
 fn order_of<'a>(rows: &'a RowStore, key: &RowKey) -> Option<&'a Row>
     ensures { option_copied result ≡ order_of rows.now key.now }
 {
@@ -248,7 +247,7 @@ fn order_of<'a>(rows: &'a RowStore, key: &RowKey) -> Option<&'a Row>
     rows.get(&order)
 }
 
-/// Whether the cards and the rows are there that the rows go with.
+/// Whether the parents of all rows are there.
 fn rows_have_parents(catalog: &Catalog, rows: &RowStore) -> bool
     ensures { result ≡ list_all (row_has_parents (database catalog.now rows.now)) (map.entries rows.now) }
 {
@@ -276,7 +275,7 @@ fn plus(sum: i128, amount: i64) -> i128
     sum + i128::from(amount)
 }
 
-/// The warehouse of a district, and what its row of D_YTD adds to the warehouse's sum.
+/// The warehouse of a D_YTD row, and what the row adds to that warehouse's sum.
 fn share(key: &RowKey, row: &Row) -> Option<(WarehouseId, Cents)>
     ensures none { IfNone result ((w : ℕ) → district_share w key.now row.now ≡ pos 0) }
     ensures some { IfSome result (IsShare key.now row.now) }
@@ -289,7 +288,7 @@ fn share(key: &RowKey, row: &Row) -> Option<(WarehouseId, Cents)>
     }
 }
 
-/// Adds D_YTD of a district to the sum of its warehouse.
+/// Adds a district's D_YTD to the sum of its warehouse.
 pub(crate) fn add_share(sums: &mut Sums, key: &RowKey, row: &Row)
     requires { AreWithin (2 ^ 63) sums.old }
     ensures sums { (w : ℕ) → w < 101 → sum_at sums.new w ≡ sum_at sums.old w +ℤ district_share w key.now row.now }
@@ -302,7 +301,7 @@ pub(crate) fn add_share(sums: &mut Sums, key: &RowKey, row: &Row)
     }
 }
 
-/// The sum of D_YTD over the districts of each warehouse.
+/// The sum of each warehouse's D_YTD.
 #[tactic(auto, unfolding(tpcc_rows::specs::Totals::total))]
 fn district_sums(rows: &RowStore) -> Sums
     ensures { AreSums result rows.now }
@@ -326,7 +325,7 @@ pub(crate) fn ytd_agrees(sums: &Sums, key: &RowKey, row: &Row) -> bool
     }
 }
 
-/// Whether W_YTD of each warehouse is the sum of D_YTD over its districts.
+/// Whether each warehouse's W_YTD is the sum of its districts' D_YTD.
 #[tactic(auto, unfolding(crate::specs::Checks::ytds_agree))]
 fn ytds_agree(rows: &RowStore) -> bool
     ensures { result ≡ ytds_agree rows.now }
@@ -340,7 +339,7 @@ fn ytds_agree(rows: &RowStore) -> bool
     true
 }
 
-/// Whether the tables are sound, whose values are within their limits.
+/// Checks that tables, whose values are within their limits, are sound.
 pub fn check(alloc: Global, catalog: &Catalog, rows: &RowStore) -> Result<(), LoadError>
     ensures ok { OnOk result (checked (database catalog.now rows.now) ≡ Ok (database catalog.now rows.now)) }
     ensures err { IfErr result (λ e. StopsBy e (checked (database catalog.now rows.now))) }

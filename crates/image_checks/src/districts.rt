@@ -1,4 +1,4 @@
-//! The consistency conditions of each district's orders.
+//! The consistency conditions on each district's orders.
 ghost use Rattle.std.specs.Prelude.{◌≡◌};
 ghost use Rattle.tpcc_rows.specs.RowMap.{Rows};
 ghost use Rattle.image_checks.specs.Books.{AreBooks};
@@ -24,7 +24,7 @@ pub(crate) fn next_order_agrees(books: &Books, key: &RowKey, row: &Row) -> bool
     }
 }
 
-/// Whether D_NEXT_O_ID - 1 of each district is its greatest O_ID, and its greatest NO_O_ID where it has one.
+/// Whether each district's D_NEXT_O_ID - 1 is its maximum O_ID, and its maximum NO_O_ID if it has new orders.
 #[tactic(auto, unfolding(crate::specs::Districts::next_orders_agree))]
 pub(crate) fn next_orders_agree(books: &Books, rows: &RowStore) -> bool
     requires { AreBooks books.now.places.items rows.now }
@@ -49,7 +49,7 @@ pub(crate) fn span_agrees(books: &Books, key: &RowKey, row: &Row) -> bool
     }
 }
 
-/// Whether the numbers of each district's new orders are without a gap.
+/// Whether the numbers of each district's new orders have no gap.
 #[tactic(auto, unfolding(crate::specs::Districts::spans_agree))]
 pub(crate) fn spans_agree(books: &Books, rows: &RowStore) -> bool
     requires { AreBooks books.now.places.items rows.now }
@@ -73,7 +73,7 @@ pub(crate) fn line_count_agrees(books: &Books, key: &RowKey, row: &Row) -> bool
     }
 }
 
-/// Whether the sum of O_OL_CNT of each district is the number of its order lines.
+/// Whether each district has as many order lines as its orders' O_OL_CNT add up to.
 #[tactic(auto, unfolding(crate::specs::Districts::line_counts_agree))]
 pub(crate) fn line_counts_agree(books: &Books, rows: &RowStore) -> bool
     requires { AreBooks books.now.places.items rows.now }

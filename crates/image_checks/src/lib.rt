@@ -1,4 +1,4 @@
-//! The tests of a database that was read: each row has its parents, and the consistency conditions hold (TPC-C clause 3.3.2).
+//! Checks of a loaded database: every parent is there, and the consistency conditions hold (TPC-C clause 3.3.2).
 #![tactic(auto)]
 
 mod books;

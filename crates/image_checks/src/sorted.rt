@@ -1,4 +1,4 @@
-//! The same tests of rows in the order of their keys, which stand in one piece of memory.
+//! The same checks on rows in one list, in key order.
 ghost use Rattle.std.specs.Prelude.{◌≡◌, IfErr, IfOk, IsTrue, OnOk, Ok, Err, option_copied, true};
 ghost use Rattle.std.specs.FinMap as map;
 ghost use Rattle.std.specs.List.{list_all};
@@ -24,7 +24,7 @@ use tpcc_rows::key::RowKey;
 use tpcc_rows::memory::Memory;
 use tpcc_rows::row::Row;
 
-/// Whether the key's row is at the place.
+/// Whether the key's row is at index `place`.
 fn is_at(rows: &[(RowKey, Row)], key: &RowKey, place: usize) -> bool
     ensures { IsTrue result → IsPlaceOf row_key_cmp key.now rows.now (Ok place) }
 {
@@ -34,7 +34,7 @@ fn is_at(rows: &[(RowKey, Row)], key: &RowKey, place: usize) -> bool
     }
 }
 
-/// Where the key's row is, or where one would stand. The guessed place and the one behind it are looked at first.
+/// The index of the key's row, or where it would be inserted. Index `guess` and the next one are tried first.
 fn place_of(rows: &[(RowKey, Row)], key: &RowKey, guess: usize) -> Result<usize, usize>
     requires { are_in_order row_key_cmp rows.now ≡ true }
     ensures { IsPlaceOf row_key_cmp key.now rows.now result }
@@ -49,7 +49,7 @@ fn place_of(rows: &[(RowKey, Row)], key: &RowKey, guess: usize) -> Result<usize,
     rows.binary_search_by(|entry| entry.0.cmp(key))
 }
 
-/// The row of a key, where there is one. Its place is the next guess.
+/// The row of a key, if any. Its index is the next guess.
 fn found<'a>(rows: &'a [(RowKey, Row)], key: &RowKey, guess: &mut usize) -> Option<&'a Row>
     requires { are_in_order row_key_cmp rows.now ≡ true }
     ensures { option_copied result ≡ map.get (rows_in rows.now) key.now }
@@ -63,7 +63,7 @@ fn found<'a>(rows: &'a [(RowKey, Row)], key: &RowKey, guess: &mut usize) -> Opti
     }
 }
 
-/// The order that a row goes with, where it has one that is there.
+/// The order that a row belongs to, if any.
 fn order_of<'a>(rows: &'a [(RowKey, Row)], key: &RowKey, guess: &mut usize) -> Option<&'a Row>
     requires { are_in_order row_key_cmp rows.now ≡ true }
     ensures { option_copied result ≡ order_of (rows_in rows.now) key.now }
@@ -80,7 +80,7 @@ fn has_row(rows: &[(RowKey, Row)], key: RowKey) -> bool
     found(rows, &key, &mut guess).is_some()
 }
 
-/// Whether the rows are there that the card of a district goes with.
+/// Whether a district's two rows are there.
 fn has_own_rows(rows: &[(RowKey, Row)], key: &CardKey) -> bool
     requires { are_in_order row_key_cmp rows.now ≡ true }
     ensures { result ≡ has_own_rows (rows_in rows.now) key.now }
@@ -104,7 +104,7 @@ fn has_own_rows(rows: &[(RowKey, Row)], key: &CardKey) -> bool
     }
 }
 
-/// Whether the cards and the rows are there that the cards go with.
+/// Whether the parents of all cards are there.
 fn cards_have_parents(catalog: &Catalog, rows: &[(RowKey, Row)]) -> bool
     requires { are_in_order row_key_cmp rows.now ≡ true }
     ensures { result ≡ list_all (card_has_parents (database catalog.now (rows_in rows.now))) (map.entries catalog.now) }
@@ -118,8 +118,7 @@ fn cards_have_parents(catalog: &Catalog, rows: &[(RowKey, Row)]) -> bool
     true
 }
 
-/// Whether the cards and the rows are there that the rows go with. Rows that stand together mostly go with one order, or with
-/// orders that stand together.
+/// Whether the parents of all rows are there. Neighbouring rows mostly belong to the same order, or to neighbouring ones.
 fn rows_have_parents(catalog: &Catalog, rows: &[(RowKey, Row)]) -> bool
     requires { are_in_order row_key_cmp rows.now ≡ true }
     ensures { result ≡ list_all (row_has_parents (database catalog.now (rows_in rows.now))) rows.now }
@@ -143,7 +142,7 @@ fn parents_there(catalog: &Catalog, rows: &[(RowKey, Row)]) -> bool
     cards_have_parents(catalog, rows) && rows_have_parents(catalog, rows)
 }
 
-/// The sum of D_YTD over the districts of each warehouse.
+/// The sum of each warehouse's D_YTD.
 fn district_sums(rows: &[(RowKey, Row)]) -> Sums
     requires { are_in_order row_key_cmp rows.now ≡ true }
     ensures { AreSums result (rows_in rows.now) }
@@ -155,7 +154,7 @@ fn district_sums(rows: &[(RowKey, Row)]) -> Sums
     sums
 }
 
-/// Whether W_YTD of each warehouse is the sum of D_YTD over its districts.
+/// Whether each warehouse's W_YTD is the sum of its districts' D_YTD.
 fn ytds_agree(rows: &[(RowKey, Row)]) -> bool
     requires { are_in_order row_key_cmp rows.now ≡ true }
     ensures { result ≡ ytds_agree (rows_in rows.now) }
@@ -164,7 +163,7 @@ fn ytds_agree(rows: &[(RowKey, Row)]) -> bool
     rows.iter().all(|(key, row)| ytd_agrees(&sums, key, row))
 }
 
-/// The books of all districts.
+/// The totals of all districts.
 fn books_of(alloc: Global, rows: &[(RowKey, Row)]) -> Result<Books, Memory>
     requires { are_in_order row_key_cmp rows.now ≡ true }
     ensures { IfOk result (λ books. AreBooks books.places.items (rows_in rows.now)) }
@@ -176,7 +175,7 @@ fn books_of(alloc: Global, rows: &[(RowKey, Row)]) -> Result<Books, Memory>
     Ok(books)
 }
 
-/// Whether D_NEXT_O_ID - 1 of each district is its greatest O_ID, and its greatest NO_O_ID where it has one.
+/// Whether each district's D_NEXT_O_ID - 1 is its maximum O_ID, and its maximum NO_O_ID if it has new orders.
 fn next_orders_agree(books: &Books, rows: &[(RowKey, Row)]) -> bool
     requires order { are_in_order row_key_cmp rows.now ≡ true }
     requires books { AreBooks books.now.places.items (rows_in rows.now) }
@@ -186,7 +185,7 @@ fn next_orders_agree(books: &Books, rows: &[(RowKey, Row)]) -> bool
         .all(|(key, row)| next_order_agrees(books, key, row))
 }
 
-/// Whether the numbers of each district's new orders are without a gap.
+/// Whether the numbers of each district's new orders have no gap.
 fn spans_agree(books: &Books, rows: &[(RowKey, Row)]) -> bool
     requires order { are_in_order row_key_cmp rows.now ≡ true }
     requires books { AreBooks books.now.places.items (rows_in rows.now) }
@@ -195,7 +194,7 @@ fn spans_agree(books: &Books, rows: &[(RowKey, Row)]) -> bool
     rows.iter().all(|(key, row)| span_agrees(books, key, row))
 }
 
-/// Whether the sum of O_OL_CNT of each district is the number of its order lines.
+/// Whether each district has as many order lines as its orders' O_OL_CNT add up to.
 fn line_counts_agree(books: &Books, rows: &[(RowKey, Row)]) -> bool
     requires order { are_in_order row_key_cmp rows.now ≡ true }
     requires books { AreBooks books.now.places.items (rows_in rows.now) }
@@ -205,7 +204,7 @@ fn line_counts_agree(books: &Books, rows: &[(RowKey, Row)]) -> bool
         .all(|(key, row)| line_count_agrees(books, key, row))
 }
 
-/// Whether the tables are sound, whose values are within their limits: as `check`, of rows in the order of their keys.
+/// Checks that tables, whose values are within their limits, are sound: `check` for rows in key order.
 pub fn check_sorted(
     alloc: Global,
     catalog: &Catalog,

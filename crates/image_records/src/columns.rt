@@ -1,4 +1,4 @@
-//! The columns of an image that no batch has.
+//! Columns that only images have.
 ghost use Rattle.std.specs.Prelude.{◌≡◌, ◌+◌, ◌<◌, ◌^◌};
 ghost use Rattle.csv.specs.Records.{field_at, fields_of};
 ghost use Rattle.image_records.specs.Columns.{credit_of, texts_at};
@@ -24,7 +24,7 @@ pub(crate) fn credit(fields: &ByteRecord, i: usize) -> Result<Credit, Slip>
     Err(Slip::BadField)
 }
 
-/// S_DIST_01 to S_DIST_10, from this place on.
+/// S_DIST_01 to S_DIST_10, from field `first` on.
 pub(crate) fn district_infos(
     alloc: Global,
     fields: &ByteRecord,

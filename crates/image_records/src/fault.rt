@@ -1,4 +1,4 @@
-//! Why an image gives no database.
+//! Why an image can't be loaded.
 ghost use Rattle.std.specs.Prelude.{◌≡◌};
 ghost use Rattle.image_records.specs.Faults.{code_of, fault_of, name_of, place_of};
 ghost use Rattle.image_records.specs.declared.fault.LoadError.TheVariants as load_error;
@@ -8,40 +8,40 @@ use std::alloc::{AllocError, AllocFailed};
 use thiserror::Error;
 use tpcc_rows::memory::Memory;
 
-/// Why an image gives no database.
+/// Why an image can't be loaded.
 #[derive(Clone, Copy, Debug, PartialEq, Eq, Error)]
 pub enum LoadError {
-    /// The record of this number, counted from 1, is none of its kind, or of a kind that isn't wanted there.
+    /// The record with this number, counted from 1, is malformed, or of a kind that doesn't belong there.
     #[error("record {0}: no record of an image, or out of its place")]
     BadRecord(u64),
-    /// The record of this number has a key that came before.
+    /// The record with this number has a key that came before.
     #[error("record {0}: its key came before")]
     Duplicate(u64),
-    /// A record that another one refers to isn't there.
+    /// A record refers to one that isn't there.
     #[error("a record refers to one that isn't there")]
     MissingParent,
-    /// The consistency condition of this number (TPC-C clause 3.3.2) doesn't hold.
+    /// The consistency condition with this number (TPC-C clause 3.3.2) doesn't hold.
     #[error("consistency condition {0} doesn't hold")]
     Inconsistent(u8),
-    /// The record of this number has a number outside its limits.
+    /// The record with this number has a number outside its limits.
     #[error("record {0}: a number is outside its limits")]
     LimitReached(u64),
-    /// Memory was refused.
+    /// An allocation failed.
     #[error("memory was refused")]
     Memory,
-    /// The source failed.
+    /// The source couldn't be read.
     #[error("the image couldn't be read")]
     Read,
     /// The image has no end record.
     #[error("the image has no end record")]
     Truncated,
-    /// The image has more bytes than the limit.
+    /// The image is longer than the limit.
     #[error("the image is too long")]
     InputTooLong,
 }
 
 impl LoadError {
-    /// The number by which the fault is reported, 1 to 9.
+    /// The number that the fault is reported by, 1 to 9.
     pub fn code(self) -> u8
         ensures { result ≡ code_of self }
     {
@@ -58,7 +58,7 @@ impl LoadError {
         }
     }
 
-    /// The name by which the fault is reported.
+    /// The name that the fault is reported by.
     pub fn name(self) -> &'static str
         ensures { result.now ≡ name_of self }
     {
@@ -75,7 +75,7 @@ impl LoadError {
         }
     }
 
-    /// The number of the record at fault, where the fault is one of a record.
+    /// The number of the bad record, if the fault is a record's.
     pub fn record(self) -> Option<u64>
         ensures { result ≡ place_of self }
     {
@@ -117,7 +117,7 @@ impl From<Memory> for LoadError {
     }
 }
 
-/// The fault of the record of this number.
+/// The fault of the record with this number.
 pub fn fault(number: u64, slip: Slip) -> LoadError
     ensures { result ≡ fault_of number slip }
 {

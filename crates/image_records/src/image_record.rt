@@ -1,4 +1,4 @@
-//! What the records of an image say, between the first record and the end record.
+//! The records of an image between the first record and the end record.
 ghost use Rattle.std.specs.Prelude.{◌≡◌};
 ghost use Rattle.csv.specs.Records.{fields_of};
 ghost use Rattle.image_records.specs.Faults.{Reads};
@@ -22,7 +22,7 @@ use tpcc_rows::row::{
     WarehouseRow,
 };
 
-/// What one record adds to a database.
+/// The contents of one record.
 #[derive(Drop)]
 pub enum ImageRecord {
     Warehouse {
@@ -42,7 +42,7 @@ pub enum ImageRecord {
         district: DistrictId,
         row: DistrictNextRow,
     },
-    /// A district's card and both its rows.
+    /// A district's card and its two rows.
     WholeDistrict {
         card: DistrictCard,
         ytd: DistrictYtdRow,
@@ -133,7 +133,7 @@ fn whole_district_record(fields: &ByteRecord) -> Result<ImageRecord, Slip>
     Ok(ImageRecord::WholeDistrict { card, ytd, next })
 }
 
-/// What the record of a district says.
+/// A district's record.
 fn district_record(version: Version, fields: &ByteRecord) -> Result<ImageRecord, Slip>
     ensures { result ≡ district_record_at version (fields_of fields.now) }
 {
@@ -143,7 +143,7 @@ fn district_record(version: Version, fields: &ByteRecord) -> Result<ImageRecord,
     }
 }
 
-/// How many fields the record of a district has.
+/// The number of fields of a district's record.
 fn district_count(version: Version) -> usize
     ensures { result ≡ district_count version }
 {
@@ -313,7 +313,7 @@ fn history_record(fields: &ByteRecord) -> Result<ImageRecord, Slip>
     Ok(ImageRecord::History { number, row })
 }
 
-/// Whether a record is of the kind with this first field. It has so many fields then.
+/// Whether a record's first field is `kind`; if so it must have `count` fields.
 fn is_kind(fields: &ByteRecord, kind: &[u8], count: usize) -> Result<bool, Slip>
     ensures { result ≡ is_kind kind.now count (fields_of fields.now) }
 {
@@ -326,7 +326,7 @@ fn is_kind(fields: &ByteRecord, kind: &[u8], count: usize) -> Result<bool, Slip>
     Ok(true)
 }
 
-/// What the record says of a district's row, which has a record of its own in version 2 alone.
+/// The record of a district's row, which only version 2 has.
 fn district_row_record(version: Version, fields: &ByteRecord) -> Result<ImageRecord, Slip>
     ensures { result ≡ district_row_at version (fields_of fields.now) }
 {
@@ -343,7 +343,7 @@ fn district_row_record(version: Version, fields: &ByteRecord) -> Result<ImageRec
     Err(Slip::UnknownKind)
 }
 
-/// What the record says of a row without a card.
+/// The record of a row that has no card.
 fn row_record(version: Version, fields: &ByteRecord) -> Result<ImageRecord, Slip>
     ensures { result ≡ row_record_at version (fields_of fields.now) }
 {
@@ -362,7 +362,7 @@ fn row_record(version: Version, fields: &ByteRecord) -> Result<ImageRecord, Slip
     district_row_record(version, fields)
 }
 
-/// What a record says that is neither the first nor the end record.
+/// A record that is neither the first nor the end record.
 pub fn image_record(
     alloc: Global,
     version: Version,

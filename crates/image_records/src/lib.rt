@@ -1,4 +1,4 @@
-//! What the records of an image say, and why an image gives no database.
+//! Parses the records of an image, and names the faults of an image.
 #![tactic(auto)]
 
 mod columns;

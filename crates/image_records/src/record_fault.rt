@@ -1,11 +1,11 @@
-//! Why a record isn't taken in.
+//! Why a record can't be read.
 ghost use Rattle.std.specs.Prelude.{◌≡◌};
 ghost use Rattle.image_records.specs.declared.record_fault.RecordFault.TheVariants as record_fault;
 
 use records::fault::Slip;
 use std::alloc::{AllocError, AllocFailed};
 
-/// Why a record isn't taken in: what is wrong with it, or that memory was refused.
+/// Why a record can't be read: what is wrong with it, or that an allocation failed.
 #[derive(Clone, Copy)]
 pub enum RecordFault {
     Slip(Slip),

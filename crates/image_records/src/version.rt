@@ -1,4 +1,4 @@
-//! The versions of the format of an image.
+//! The versions of the image format.
 ghost use Rattle.std.specs.Prelude.{◌≡◌};
 ghost use Rattle.csv.specs.Records.{field_at, fields_of};
 ghost use Rattle.image_records.specs.Versions.{version_of, version_told};
@@ -6,16 +6,16 @@ ghost use Rattle.image_records.specs.Versions.{version_of, version_told};
 use csv::ByteRecord;
 use records::fields::has_text;
 
-/// A version of the format of an image.
+/// A version of the image format.
 #[derive(Clone, Copy, Debug, PartialEq, Eq)]
 pub enum Version {
-    /// The record of a district has its card and its two rows.
+    /// A district's record has its card and its two rows.
     One,
-    /// The record of a district has its card; each of its rows has a record of its own.
+    /// A district's record has its card; each of its two rows has a record of its own.
     Two,
 }
 
-/// The version whose number is in this field.
+/// The version that a field names.
 fn version_told(fields: &ByteRecord, i: usize) -> Option<Version>
     ensures { result ≡ version_told (field_at (fields_of fields.now) i) }
 {
@@ -28,7 +28,7 @@ fn version_told(fields: &ByteRecord, i: usize) -> Option<Version>
     None
 }
 
-/// The version of an image that begins with this record: `eve-tpcc,1` or `eve-tpcc,2`.
+/// The version that an image's first record names: `eve-tpcc,1` or `eve-tpcc,2`.
 pub fn version_of(fields: &ByteRecord) -> Option<Version>
     ensures { result ≡ version_of (fields_of fields.now) }
 {

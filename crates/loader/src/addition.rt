@@ -1,4 +1,4 @@
-//! What records add to cards and rows.
+//! What a record adds to the cards and rows.
 ghost use Rattle.std.specs.Prelude.{IfOk};
 ghost use Rattle.image_records.specs.declared.image_record.ImageRecord.TheVariants as says;
 ghost use Rattle.loader.specs.Additions.{IsSaidBy};
@@ -14,7 +14,7 @@ use tpcc_rows::row::{
     WarehouseRow,
 };
 
-/// A card, a row, a card and the row that goes with it, or a district's card and its two rows.
+/// A card, a row, a card with its row, or a district's card with its two rows.
 #[derive(Drop)]
 pub(crate) enum Addition {
     Card(Card),

@@ -1,4 +1,4 @@
-//! Rows that come in any order.
+//! Rows in any order.
 ghost use Rattle.std.specs.Prelude.{◌≡◌, ◌<◌, ◌++◌, ◌∷◌, [], IfOk, OnOk, is_some, length, true};
 ghost use Rattle.std.specs.FinMap as map;
 ghost use Rattle.std.specs.List.{list_all};
@@ -13,8 +13,8 @@ use tpcc_rows::key::RowKey;
 use tpcc_rows::memory::Memory;
 use tpcc_rows::row::Row;
 
-/// A finite map from keys to rows, each row of its key's kind: a list, in which the last row of a key counts, and the set of the keys. In
-/// a map to the rows themselves, those that come between others would leave its nodes half empty.
+/// A finite map from keys to rows, each row of its key's kind: a list, in which a key's last row counts, and the set of
+/// keys. A tree of the rows themselves would be left with half-empty nodes.
 #[derive(Drop)]
 pub(crate) struct AnyOrderRows {
     rows: Vec<(RowKey, Row)>,
@@ -34,7 +34,7 @@ impl Model for AnyOrderRows {
     ghost invariant = { λ s. AreListed s.rows.items s.keys };
 }
 
-/// One row more, for which there is room.
+/// Appends a row, for which there is capacity.
 fn push(rows: &mut Vec<(RowKey, Row)>, row: (RowKey, Row))
     requires { length rows.old.items < rows.old.cap }
     ensures { rows.new.items ≡ rows.old.items ++ row ∷ [] }
@@ -42,7 +42,7 @@ fn push(rows: &mut Vec<(RowKey, Row)>, row: (RowKey, Row))
     rows.push(row).unwrap();
 }
 
-/// Puts rows in the order of their keys. Those of a key stay in their order.
+/// Sorts rows by key. The sort is stable.
 fn sort(rows: &mut Vec<(RowKey, Row)>) -> Result<(), Memory>
     requires { list_all (λ row. fits row.0 row.1) rows.old.items ≡ true }
     ensures all { OnOk result (listed rows.new.items ≡ listed rows.old.items) }
@@ -82,7 +82,7 @@ impl AnyOrderRows {
         self.keys.contains(key)
     }
 
-    /// The key has this row from now on.
+    /// Puts a row under its key.
     pub(crate) fn put(&mut self, key: &RowKey, row: Row) -> Result<(), Memory>
         requires { fits key.now row ≡ true }
         ensures { OnOk result (self.new ≡ map.insert self.old key.now row) }
@@ -93,7 +93,7 @@ impl AnyOrderRows {
         Ok(())
     }
 
-    /// The rows in a list, put in the order of their keys.
+    /// The rows as a list in key order.
     pub(crate) fn into_list(self) -> Result<Vec<(RowKey, Row)>, Memory>
         ensures all { IfOk result (λ rows. listed rows.items ≡ self) }
         ensures kinds { IfOk result (λ rows. list_all (λ row. fits row.0 row.1) rows.items ≡ true) }

@@ -1,4 +1,4 @@
-//! Rows as they are gathered.
+//! The rows of the records read so far.
 ghost use Rattle.std.specs.Prelude.{◌≡◌, IfOk, None, Ok, OnErr, OnOk, Some, is_some, true};
 ghost use Rattle.std.specs.FinMap as map;
 ghost use Rattle.loader.specs.Gathered.{gathered};
@@ -12,10 +12,10 @@ use tpcc_rows::key::RowKey;
 use tpcc_rows::memory::Memory;
 use tpcc_rows::row::Row;
 
-/// The rows that have come.
+/// The rows read so far.
 #[derive(Drop)]
 pub(crate) enum Gathered {
-    /// Those of each kind came in the order of their keys.
+    /// Those of each kind came in key order.
     InOrder(KindLists),
     AnyOrder(AnyOrderRows),
 }
@@ -28,7 +28,7 @@ impl Gathered {
         Ok(Gathered::InOrder(KindLists::new(alloc)?))
     }
 
-    /// The rows, to which any others may come.
+    /// The same rows, open to rows in any order.
     fn into_any_order(self, alloc: Global) -> Result<AnyOrderRows, Memory>
         ensures { IfOk result (λ rows. rows ≡ gathered self) }
     {
@@ -41,7 +41,7 @@ impl Gathered {
         }
     }
 
-    /// Takes a row that comes in order, or gives it back.
+    /// Appends a row that comes in order, or hands it back.
     pub(crate) fn push(&mut self, key: &RowKey, row: Row) -> Result<Option<Row>, Memory>
         requires { fits key.now row ≡ true }
         ensures fresh { result ≡ Ok None → map.get (gathered self.old) key.now ≡ None }
@@ -65,8 +65,8 @@ impl Gathered {
         }
     }
 
-    /// Takes a row that comes late, in place of the one that its key has. From now on all may come in any order. Where memory is refused
-    /// for that, the others are lost.
+    /// Puts a row that comes out of order under its key. From then on rows may come in any order. If an allocation fails, the
+    /// other rows are lost.
     pub(crate) fn insert(&mut self, alloc: Global, key: RowKey, row: Row) -> Result<(), Memory>
         requires { fits key row ≡ true }
         ensures { OnOk result (gathered self.new ≡ map.insert (gathered self.old) key row) }

@@ -1,4 +1,4 @@
-//! Cards and rows as they are gathered, mostly in the order of their keys.
+//! The cards and rows of the records read so far.
 ghost use Rattle.std.specs.Prelude.{◌≡◌, IfErr, IfOk, IsSome, None, OnOk, false, true};
 ghost use Rattle.std.specs.FinMap as map;
 ghost use Rattle.catalog.specs.CardKinds.{card_key};
@@ -22,8 +22,8 @@ use tpcc_rows::key::RowKey;
 use tpcc_rows::memory::Memory;
 use tpcc_rows::row::{DistrictNextRow, DistrictYtdRow, Row};
 
-/// The cards and the rows of the records so far. Rows that come in the order of their keys within each kind, as those of
-/// a stored image do, are kept in a list for each kind; from the first late one on, all are in one list, beside a set of their keys.
+/// The cards and rows of the records read so far. Rows that come in key order within each kind, as a stored image's do,
+/// are kept in one list per kind; from the first one out of order on, all are in one list, beside the set of their keys.
 #[derive(Drop)]
 pub struct GatheredTables {
     cards: CatalogBuilder,
@@ -43,7 +43,7 @@ impl GatheredTables {
         })
     }
 
-    /// The key has this row from now on.
+    /// Puts a row under its key.
     fn put_row(&mut self, key: RowKey, row: Row) -> Result<(), Memory>
         requires { fits key row ≡ true }
         ensures cards { self.new.cards ≡ self.old.cards }
@@ -55,7 +55,7 @@ impl GatheredTables {
         Ok(())
     }
 
-    /// One card more, and the row that goes with it.
+    /// Adds a card and its row.
     fn add_both(&mut self, card: Card, key: RowKey, row: Row) -> Result<(), CatalogError>
         requires { fits key row ≡ true }
         ensures cards { OnOk result (self.new.cards ≡ map.insert self.old.cards (card_key card) card) }
@@ -69,7 +69,7 @@ impl GatheredTables {
         Ok(())
     }
 
-    /// The card of one district more, and its two rows.
+    /// Adds a district's card and its two rows.
     fn add_whole_district(
         &mut self,
         card: DistrictCard,
@@ -97,7 +97,7 @@ impl GatheredTables {
         Ok(())
     }
 
-    /// One row more, without a card.
+    /// Adds a row that has no card.
     fn add_row(&mut self, key: RowKey, row: Row) -> Result<(), CatalogError>
         requires { fits key row ≡ true }
         ensures cards { self.new.cards ≡ self.old.cards }
@@ -115,7 +115,7 @@ impl GatheredTables {
         Ok(())
     }
 
-    /// Takes in what a record says; `Twice` where its key came before. After an error the tables are of no use.
+    /// Adds a record's contents; `Twice` if its key came before. After an error the tables are useless.
     pub fn add(&mut self, said: ImageRecord) -> Result<(), CatalogError>
         ensures ok { OnOk result (gathered_database self.new ≡ with_record (gathered_database self.old) said) }
         ensures fresh { OnOk result (is_taken (gathered_database self.old) said ≡ false) }

@@ -1,4 +1,4 @@
-//! A database from the bytes of an image.
+//! Loads a database from the bytes of an image.
 ghost use Rattle.std.specs.Prelude.{◌≡◌, ◌≢◌, ◌⊎◌, ◌+◌, ◌<◌, ◌≤◌, ◌^◌, [], length, Ok, Err, IfOk, IfErr, IfSome, IsErrOf, OnOk};
 ghost use Rattle.tpcc_model.specs.Soundness.{IsSound};
 ghost use Rattle.rollback.specs.Marks.{AreClean};
@@ -18,10 +18,10 @@ use rollback::PointedStore;
 use std::alloc::Global;
 use tpcc_rows::memory::Memory;
 
-/// The most bytes of an image.
+/// Maximum size of an image, in bytes.
 const MOST_BYTES: usize = 4_294_967_295;
 
-/// The cards and the rows of a text, which goes before the rows are joined in one list.
+/// The cards and rows of an image. Its text is freed before the rows are joined into one list.
 #[inline(never)]
 fn read_text(alloc: Global, text: Vec<u8>) -> Result<(Catalog, UnpagedRows), LoadError>
     requires { length text.items ≤ most_bytes }
@@ -37,7 +37,7 @@ fn read_text(alloc: Global, text: Vec<u8>) -> Result<(Catalog, UnpagedRows), Loa
     Ok((catalog, rows))
 }
 
-/// The cards and the rows of the database that `load` gives. Its faults are `load`'s, but for memory that is refused for the pages.
+/// The cards and rows of the database that `load` returns. Fails as `load` does, except where allocating pages fails.
 pub fn read_image<S: Source>(
     alloc: Global,
     source: &mut S,
@@ -49,7 +49,7 @@ pub fn read_image<S: Source>(
     ensures err { IfErr result (λ e.
         IsOfReading e ⊎ IfSome (S.left source.old) (λ bytes. image bytes ≡ Err e)) }
 
-    // Each error of the input only for its reason, and no failure but the one that is answered.
+    // Each fault is reported only if it is there, and no other failure is.
     ensures too_long { IsErrOf result LoadError.InputTooLong
         → IfSome (S.left source.old) (λ bytes. most_bytes < length bytes) }
     ensures read { IsErrOf result LoadError.Read → S.failed source.new ≡ S.failed source.old + 1 }
@@ -64,9 +64,8 @@ pub fn read_image<S: Source>(
     read_text(alloc, text)
 }
 
-/// The database of the bytes that a source has left, of at most 4,294,967,295 bytes. The first record at fault is
-/// answered before a missing end record, that before a missing parent, and that before the least condition that
-/// doesn't hold.
+/// The database of the image that a source has left, of at most 4,294,967,295 bytes. The first bad record is reported
+/// before a missing end record, that before a missing parent, and that before the lowest-numbered condition that fails.
 pub fn load<S: Source>(alloc: Global, source: &mut S) -> Result<(Catalog, PointedStore), LoadError>
     requires { S.failed source.old < 2 ^ 63 }
     ensures ok { IfOk result (λ db. IfSome (S.left source.old) (λ bytes. image bytes ≡ Ok (loaded db))) }
@@ -77,7 +76,7 @@ pub fn load<S: Source>(alloc: Global, source: &mut S) -> Result<(Catalog, Pointe
     ensures err { IfErr result (λ e.
         IsOfReading e ⊎ IfSome (S.left source.old) (λ bytes. image bytes ≡ Err e)) }
 
-    // Each error of the input only for its reason, and no failure but the one that is answered.
+    // Each fault is reported only if it is there, and no other failure is.
     ensures too_long { IsErrOf result LoadError.InputTooLong
         → IfSome (S.left source.old) (λ bytes. most_bytes < length bytes) }
     ensures read { IsErrOf result LoadError.Read → S.failed source.new ≡ S.failed source.old + 1 }

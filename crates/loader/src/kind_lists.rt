@@ -1,4 +1,4 @@
-//! Rows that come in the order of their keys within each kind, as those of a stored image do.
+//! Rows that come in key order within each kind, as a stored image's do.
 ghost use Rattle.std.specs.Prelude.{◌≡◌, ◌<◌, Err, None, Ok, IfOk, IsTrue, OnErr, Some, is_some, length, true};
 ghost use Rattle.std.specs.FinMap as map;
 ghost use Rattle.image_checks.specs.Sorted.{rows_in};
@@ -14,10 +14,10 @@ use tpcc_rows::key::RowKey;
 use tpcc_rows::memory::Memory;
 use tpcc_rows::row::Row;
 
-/// How many kinds of rows there are.
+/// The number of kinds of rows.
 const KINDS: usize = 9;
 
-/// A finite map from keys to rows, each row of its key's kind, which takes a row behind all others of its kind.
+/// A finite map from keys to rows, each row of its key's kind, which can append a row after the others of its kind.
 #[derive(Drop)]
 pub(crate) struct KindLists {
     lists: Vec<Vec<(RowKey, Row)>>,
@@ -38,7 +38,7 @@ impl Model for KindLists {
     ghost invariant = { λ s. AreKindLists (each (λ list. list.items) s.lists.items) };
 }
 
-/// The kind of a key, in the order of keys.
+/// A key's kind, numbered in key order.
 fn kind(key: &RowKey) -> usize
     ensures value { result ≡ kind key.now }
     ensures small { result < KINDS }
@@ -56,7 +56,7 @@ fn kind(key: &RowKey) -> usize
     }
 }
 
-/// Whether the key is greater than that of the last row.
+/// Whether the key is greater than the last row's.
 fn is_behind(rows: &[(RowKey, Row)], key: &RowKey) -> bool
     requires { are_in_order row_key_cmp rows.now ≡ true }
     ensures { IsTrue result → IsPlaceOf row_key_cmp key.now rows.now (Err (length rows.now)) }
@@ -67,7 +67,7 @@ fn is_behind(rows: &[(RowKey, Row)], key: &RowKey) -> bool
     }
 }
 
-/// Whether the keys rise from row to row.
+/// Whether the keys are strictly ascending.
 pub(crate) fn is_in_order(rows: &[(RowKey, Row)]) -> bool
     ensures { IsTrue result → are_in_order row_key_cmp rows.now ≡ true }
 {
@@ -79,7 +79,7 @@ pub(crate) fn is_in_order(rows: &[(RowKey, Row)]) -> bool
     true
 }
 
-/// Where the key's row is, or where one would stand.
+/// The index of the key's row, or where it would be inserted.
 fn place_of(rows: &[(RowKey, Row)], key: &RowKey) -> Result<usize, usize>
     requires { are_in_order row_key_cmp rows.now ≡ true }
     ensures { IsPlaceOf row_key_cmp key.now rows.now result }
@@ -95,7 +95,7 @@ fn has(rows: &[(RowKey, Row)], key: &RowKey) -> bool
     place_of(rows, key).is_ok()
 }
 
-/// How many rows the lists have.
+/// The number of rows in the lists.
 fn count(lists: &[Vec<(RowKey, Row)>]) -> usize {
     let mut count = 0usize;
     for list in lists {
@@ -105,7 +105,7 @@ fn count(lists: &[Vec<(RowKey, Row)>]) -> usize {
 }
 
 impl KindLists {
-    /// No rows, and a list for each kind.
+    /// An empty list for each kind.
     pub(crate) fn new(alloc: Global) -> Result<KindLists, Memory>
         ensures { IfOk result (λ lists. lists ≡ map.empty) }
     {
@@ -116,7 +116,7 @@ impl KindLists {
         Ok(KindLists { lists })
     }
 
-    /// Takes a row behind all others of its kind, or gives it back.
+    /// Appends a row that comes after the others of its kind, or hands it back.
     pub(crate) fn push(&mut self, key: &RowKey, row: Row) -> Result<Option<Row>, Memory>
         requires { fits key.now row ≡ true }
         ensures fresh { result ≡ Ok None → map.get self.old key.now ≡ None }
@@ -140,7 +140,7 @@ impl KindLists {
         has(&self.lists[kind(key)], key)
     }
 
-    /// The rows in the order of their keys.
+    /// The rows in key order.
     pub(crate) fn into_rows(self, alloc: Global) -> Result<SortedRows, Memory>
         ensures { IfOk result (λ rows. rows ≡ self) }
     {

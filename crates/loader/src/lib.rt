@@ -1,5 +1,5 @@
-//! Databases from the bytes of images: the records are read one after the other into cards and rows, and then the
-//! parents and the consistency conditions are tested.
+//! Loads a database from the bytes of an image: reads the records into cards and rows, then checks that every parent is
+//! there and that the consistency conditions hold.
 #![tactic(auto)]
 
 mod addition;

@@ -1,4 +1,4 @@
-//! Rows that stand in a map.
+//! Rows in a map.
 ghost use Rattle.std.specs.Prelude.{◌≡◌, [], IfOk, true};
 ghost use Rattle.std.specs.FinMap as map;
 ghost use Rattle.std.specs.List.{list_all};
@@ -12,7 +12,7 @@ use tpcc_rows::memory::Memory;
 use tpcc_rows::plain::RowStore;
 use tpcc_rows::row::Row;
 
-/// The rows in a list, in the order of their keys.
+/// The rows as a list in key order.
 fn listed(alloc: Global, rows: RowStore) -> Result<Vec<(RowKey, Row)>, Memory>
     ensures all { IfOk result (λ list. list.items ≡ map.entries rows) }
     ensures kinds { IfOk result (λ list. list_all (λ row. fits row.0 row.1) list.items ≡ true) }
@@ -24,8 +24,8 @@ fn listed(alloc: Global, rows: RowStore) -> Result<Vec<(RowKey, Row)>, Memory>
     Ok(list)
 }
 
-/// The rows on the pages of their leaves, of which none has changed, without a point. They stand in a list between, since pages take
-/// their room at once, and so can have that of the map once it is gone.
+/// The rows on their leaves' pages, all clean, without a point. They pass through a list, so that the map is freed before
+/// the pages are allocated.
 pub fn on_pages(alloc: Global, rows: RowStore) -> Result<PointedStore, Memory>
     ensures rows { IfOk result (λ store. store.rows ≡ rows) }
     ensures points { IfOk result (λ store. store.points ≡ []) }

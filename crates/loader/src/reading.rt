@@ -1,4 +1,4 @@
-//! The tables of the records of an image.
+//! Reads the records of an image into tables.
 ghost use Rattle.std.specs.Prelude.{◌≡◌, ◌+◌, ◌<◌, ◌≤◌, ◌^◌, [], length, Ok, IfOk, IfErr, OnOk};
 ghost use Rattle.csv.specs.Records.{fields_of};
 ghost use Rattle.records.specs.Records.{IsGoing, records_in, records_left};
@@ -20,7 +20,7 @@ use records::fields::has_text;
 use records::reading::{next_record, records_of};
 use std::alloc::Global;
 
-/// Whether the record of this number gives the number of records between the first and this one.
+/// Whether the end record, which has this number, gives the number of records between the first record and itself.
 fn counts(number: u64, fields: &ByteRecord) -> bool
     requires { 2 ≤ number }
     ensures { result ≡ counts number (fields_of fields.now) }
@@ -32,7 +32,7 @@ fn counts(number: u64, fields: &ByteRecord) -> bool
     has_text(fields, 1, buffer.format(number - 2).as_bytes())
 }
 
-/// Takes in the record of this number.
+/// Adds the record with this number.
 fn place(
     alloc: Global,
     version: Version,
@@ -57,7 +57,7 @@ fn place(
     }
 }
 
-/// Sees that nothing comes after the end record. `number` is that of the next record.
+/// Checks that nothing follows the end record. `number` is the next record's.
 fn end(reader: &mut Reader<&[u8]>, fields: &mut ByteRecord, number: u64) -> Result<(), LoadError>
     requires { IsGoing reader.old }
     ensures ok { OnOk result (records_left reader.old ≡ []) }
@@ -69,7 +69,7 @@ fn end(reader: &mut Reader<&[u8]>, fields: &mut ByteRecord, number: u64) -> Resu
     Ok(())
 }
 
-/// Takes in the records after the first, up to the end.
+/// Adds the records after the first, up to the end record.
 #[tactic(auto, unfolding(crate::specs::Image::read_from))]
 fn read_rest(
     alloc: Global,
@@ -98,7 +98,7 @@ fn read_rest(
     Err(LoadError::Truncated)
 }
 
-/// Takes in all records.
+/// Adds all records.
 #[tactic(auto, unfolding(crate::specs::Image::read_all))]
 fn read_records(
     alloc: Global,
@@ -121,7 +121,7 @@ fn read_records(
     read_rest(alloc, version, reader, fields, tables)
 }
 
-/// The tables of a text, unchecked. It has a frame of its own, so that its room isn't added to that of the checks.
+/// The tables of a text, unchecked. Never inlined, so that its stack frame isn't added to that of the checks.
 #[inline(never)]
 pub(crate) fn read_tables(alloc: Global, text: &[u8]) -> Result<GatheredTables, LoadError>
     requires { length text.now < 2 ^ 32 }

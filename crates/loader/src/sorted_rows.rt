@@ -1,4 +1,4 @@
-//! Rows that stand in the order of their keys.
+//! Rows in key order.
 ghost use Rattle.std.specs.Prelude.{◌≡◌, [], IfOk, true};
 ghost use Rattle.std.specs.FinMap as map;
 ghost use Rattle.std.specs.List.{list_all};
@@ -17,7 +17,7 @@ use tpcc_rows::key::RowKey;
 use tpcc_rows::memory::Memory;
 use tpcc_rows::row::Row;
 
-/// A finite map from keys to rows, each row of its key's kind: a list in the order of the keys.
+/// A finite map from keys to rows, each row of its key's kind: a list in key order.
 #[derive(Drop)]
 pub(crate) struct SortedRows {
     rows: Vec<(RowKey, Row)>,
@@ -52,7 +52,7 @@ impl SortedRows {
         self.rows.as_slice()
     }
 
-    /// The rows in a list.
+    /// The rows as a list.
     pub(crate) fn into_list(self) -> Vec<(RowKey, Row)>
         ensures all { with_each result.items map.empty ≡ self }
         ensures kinds { list_all (λ row. fits row.0 row.1) result.items ≡ true }
@@ -60,7 +60,7 @@ impl SortedRows {
         self.rows
     }
 
-    /// The rows on the pages of their leaves, of which none has changed, without a point.
+    /// The rows on their leaves' pages, all clean, without a point.
     pub(crate) fn on_pages(self, alloc: Global) -> Result<PointedStore, Memory>
         ensures rows { IfOk result (λ store. store.rows ≡ self) }
         ensures points { IfOk result (λ store. store.points ≡ []) }

@@ -1,4 +1,4 @@
-//! Rows that are still to be put on the pages of their leaves.
+//! Rows that aren't on pages yet.
 ghost use Rattle.std.specs.Prelude.{◌≡◌, [], IfErr, IfOk, Ok, OnOk, true};
 ghost use Rattle.std.specs.FinMap as map;
 ghost use Rattle.std.specs.List.{list_all};
@@ -25,7 +25,7 @@ use tpcc_rows::memory::Memory;
 use tpcc_rows::plain::RowStore;
 use tpcc_rows::row::Row;
 
-/// Rows in the order of their keys, or in a map.
+/// Rows in key order, or in a map.
 #[derive(Drop)]
 pub(crate) enum Unpaged {
     Sorted(SortedRows),
@@ -49,7 +49,7 @@ impl Model for UnpagedRows {
     ghost view = { λ s. unpaged s.rows };
 }
 
-/// The rows of a list that was put in the order of their keys. Where a key has two of them, which no image brings, they go to a map.
+/// The rows of a sorted list. If a key has two, which no image has, they go to a map.
 fn of_list(alloc: Global, rows: Vec<(RowKey, Row)>) -> Result<Unpaged, Memory>
     requires { list_all (λ row. fits row.0 row.1) rows.items ≡ true }
     ensures { IfOk result (λ unpaged_rows. unpaged unpaged_rows ≡ with_each rows.items map.empty) }
@@ -72,7 +72,7 @@ impl UnpagedRows {
         Ok(UnpagedRows { rows })
     }
 
-    /// Whether the rows are sound with the cards.
+    /// Checks that cards and rows together are sound.
     pub(crate) fn check(&self, alloc: Global, catalog: &Catalog) -> Result<(), LoadError>
         ensures ok { OnOk result (checked (database catalog.now self.now) ≡ Ok (database catalog.now self.now)) }
         ensures err { IfErr result (λ e. StopsBy e (checked (database catalog.now self.now))) }
@@ -84,7 +84,7 @@ impl UnpagedRows {
         }
     }
 
-    /// The rows on the pages of their leaves, of which none has changed, without a point.
+    /// The rows on their leaves' pages, all clean, without a point.
     pub fn on_pages(self, alloc: Global) -> Result<PointedStore, Memory>
         ensures rows { IfOk result (λ store. store.rows ≡ self) }
         ensures points { IfOk result (λ store. store.points ≡ []) }

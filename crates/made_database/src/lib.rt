@@ -1,4 +1,4 @@
-//! Databases that are made, of as many warehouses, customers and items as are asked for.
+//! Generates a database with a given number of warehouses, customers a district and items.
 #![tactic(auto)]
 
 mod made_records;

@@ -1,4 +1,4 @@
-//! The records of a made database.
+//! The records of a generated database.
 ghost use Rattle.std.specs.Prelude.{◌≡◌, ◌+◌, ◌<◌, ◌≤◌, ◌^◌, ◌++◌, IfOk, decimal, length, map};
 ghost use Rattle.tpcc_rows.specs.Limits.{ten};
 ghost use Rattle.tpcc_rows.specs.Texts.{ArePrintable};
@@ -15,7 +15,7 @@ use tpcc_rows::number::{Cents, Count, Price, Rate, StockQuantity};
 use tpcc_rows::row::{CustomerRow, DistrictNextRow, DistrictYtdRow, StockRow, WarehouseRow};
 use tpcc_rows::text::Text;
 
-/// A word and a number behind it.
+/// A word followed by a number.
 fn numbered<const N: usize>(word: &[u8], number: u32) -> Text<N>
     requires printable { ArePrintable word.now }
     requires small { number < 10 ^ 9 }
@@ -44,7 +44,7 @@ pub(crate) fn made_warehouse(warehouse: WarehouseId) -> ImageRecord
     ImageRecord::Warehouse { card, row }
 }
 
-/// `D,w,d,name,tax`, `Y,w,d,ytd` and `X,w,d,next`, all in one.
+/// `D,w,d,name,tax`, `Y,w,d,ytd` and `X,w,d,next` in one.
 #[tactic(auto, unfolding(crate::specs::Made::made_district))]
 pub(crate) fn made_district(warehouse: WarehouseId, district: DistrictId) -> ImageRecord
     ensures { result ≡ made_district warehouse district }
@@ -64,7 +64,7 @@ pub(crate) fn made_district(warehouse: WarehouseId, district: DistrictId) -> Ima
     ImageRecord::WholeDistrict { card, ytd, next }
 }
 
-/// C_DATA of a customer of bad credit.
+/// C_DATA of a customer with bad credit.
 fn long_note() -> Text<500>
     ensures { result ≡ long_note }
 {

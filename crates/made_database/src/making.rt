@@ -1,4 +1,4 @@
-//! Databases that are made of numbers.
+//! Generates a database.
 ghost use Rattle.std.specs.Prelude.{◌≡◌, ◌+◌, ◌≤◌, [], IfOk, OnOk, false};
 ghost use Rattle.catalog.specs.declared.card.CardKey.TheVariants as card_key;
 ghost use Rattle.tpcc_model.specs.Soundness.{IsSound};
@@ -19,7 +19,7 @@ use std::alloc::Global;
 use tpcc_rows::id::{CustomerId, DistrictId, ItemId, WarehouseId};
 use tpcc_rows::memory::Memory;
 
-/// Takes in what a record says, whose key hasn't come before.
+/// Adds a record, whose key is new.
 fn add(tables: &mut GatheredTables, said: ImageRecord) -> Result<(), Memory>
     requires { is_taken (gathered_database tables.old) said ≡ false }
     ensures { OnOk result (gathered_database tables.new ≡ with_record (gathered_database tables.old) said) }
@@ -207,8 +207,8 @@ fn fill(
     add_items(tables, items)
 }
 
-/// A database of so many warehouses with ten districts each, so many customers in each district, and so many items, of
-/// which each warehouse has a stock. There are no orders and no history.
+/// A database with the given numbers of warehouses, of customers in each of a warehouse's ten districts, and of items,
+/// each in stock in each warehouse; no orders, no history.
 pub fn make(
     alloc: Global,
     warehouses: u8,

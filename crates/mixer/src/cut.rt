@@ -1,4 +1,4 @@
-//! The cut of a batch.
+//! The levels of a batch.
 ghost use Rattle.std.specs.Prelude.{◌≡◌, ◌<◌, ◌≤◌, [], IfOk, length, map, option_copied, replicate, slice_get};
 ghost use Rattle.std.specs.List.{All};
 ghost use Rattle.serializability.specs.Levels.{levels, cut};
@@ -11,7 +11,7 @@ use std::marker::Model;
 use tpcc_rows::footprint::Footprint;
 use tpcc_rows::memory::Memory;
 
-/// The levels of a batch from the lowest up, each with the places of its requests in rising order.
+/// The levels of a batch, lowest first, each with its requests' places in ascending order.
 #[derive(Drop)]
 pub struct Cut {
     levels: Vec<Vec<usize>>,
@@ -26,14 +26,14 @@ impl Model for Cut {
 }
 
 impl Cut {
-    /// How many levels there are.
+    /// The number of levels.
     pub fn depth(&self) -> usize
         ensures { result ≡ length self.now }
     {
         self.levels.len()
     }
 
-    /// The places of a level; None above the last one.
+    /// The places on a level; `None` above the highest.
     pub fn level(&self, level: usize) -> Option<&[usize]>
         ensures { option_copied result ≡ slice_get self.now level }
     {
@@ -42,7 +42,7 @@ impl Cut {
     }
 }
 
-/// So many levels without a place.
+/// `depth` empty levels.
 fn empty_levels(alloc: Global, depth: usize) -> Result<Vec<Vec<usize>>, Memory>
     ensures { IfOk result (λ v. map (λ places. places.items) v.items ≡ replicate depth []) }
 {
@@ -53,7 +53,7 @@ fn empty_levels(alloc: Global, depth: usize) -> Result<Vec<Vec<usize>>, Memory>
     Ok(levels)
 }
 
-/// Each place goes behind the others of its level.
+/// Lists the places by level.
 fn cut_of(alloc: Global, levels: &[usize]) -> Result<Cut, Memory>
     requires { All (λ level. level < 1024) levels.now }
     ensures { IfOk result (λ c. c ≡ cut levels.now) }
@@ -65,7 +65,7 @@ fn cut_of(alloc: Global, levels: &[usize]) -> Result<Cut, Memory>
     Ok(Cut { levels: cut })
 }
 
-/// The cut of a batch by the footprints that its requests declare, in their order.
+/// Cuts a batch into levels by its requests' footprints, given in batch order.
 pub fn mix(alloc: Global, footprints: &[Footprint]) -> Result<Cut, Memory>
     requires { length footprints.now ≤ 1024 }
     ensures { IfOk result (λ c. c ≡ cut (levels (meets_by bit) footprints.now)) }

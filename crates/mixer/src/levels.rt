@@ -1,4 +1,4 @@
-//! The level of each request, and how many levels there are.
+//! The level of each request, and the number of levels.
 ghost use Rattle.std.specs.Prelude.{◌≡◌, ◌<◌, ◌≤◌, IfOk, length};
 ghost use Rattle.std.specs.List.{All};
 ghost use Rattle.serializability.specs.Levels.{levels, depth};
@@ -25,7 +25,7 @@ pub(crate) fn levels_of(alloc: Global, footprints: &[Footprint]) -> Result<Vec<u
     Ok(levels)
 }
 
-/// How many levels there are.
+/// The number of levels.
 pub(crate) fn depth_of(levels: &[usize]) -> usize
     requires { All (λ level. level < 1024) levels.now }
     ensures { result ≡ depth levels.now }

@@ -1,5 +1,5 @@
-//! A batch cut into levels by the footprints that its requests declare: requests of one level have no conflict, and of two
-//! that have one the earlier stands in a lower level. A request is compared with the levels so far, by signatures.
+//! Cuts a batch into levels by its requests' declared footprints: no two requests of a level conflict, and of two that
+//! conflict the earlier is on the lower level. Each request is compared with whole levels, by signatures.
 #![tactic(auto)]
 
 mod cut;

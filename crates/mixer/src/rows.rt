@@ -1,4 +1,4 @@
-//! The levels of the requests before one, as two rows of signatures: what a level reads, and what it writes.
+//! The levels built so far, as two lists of signatures: what each level reads, and what it writes.
 ghost use Rattle.std.specs.Prelude.{◌≡◌, ℕ, ◌+◌, ◌<◌, ◌≤◌, ◌++◌, ◌∷◌, [], List, IfOk, length, max};
 ghost use Rattle.serializability.specs.BitSets.{IsSignatureOf};
 ghost use Rattle.serializability.specs.LevelRows.{IsRow, level_above};
@@ -13,14 +13,14 @@ use std::alloc::Global;
 use tpcc_rows::footprint::Footprint;
 use tpcc_rows::memory::Memory;
 
-/// For each level so far the bits of all that its requests read, and of all that they write.
+/// For each level so far, the union of its requests' read signatures and of their write signatures.
 #[derive(Drop)]
 pub(crate) struct Rows {
     reads: Vec<Signature>,
     writes: Vec<Signature>,
 }
 
-/// One more than a level; the lowest where there is none.
+/// The level above, or level 0 above none.
 fn level_above(level: Option<usize>) -> usize
     requires { level_above level ≤ 1024 }
     ensures { result ≡ level_above level }
@@ -31,7 +31,7 @@ fn level_above(level: Option<usize>) -> usize
     }
 }
 
-/// Joins a signature to that of a level, which may be the next one.
+/// Adds a signature to a level's, which may be a new level on top.
 fn join(row: &mut Vec<Signature>, level: usize, own: Signature) -> Result<(), Memory>
     ensures row { IfOk result (λ _. (bits : Declared → List ℕ) (done : Done) (f : Declared)
         → level ≤ length row.old.items → IsRow bits row.old.items done → IsSignatureOf own (bits f) → IsRow bits row.new.items (done ++ (level, f) ∷ [])) }
@@ -58,7 +58,7 @@ impl Rows {
         }
     }
 
-    /// One more than the greatest level that writes what the request reads, or reads what it writes.
+    /// One above the highest level that writes what the request reads, or reads what it writes.
     fn level_of(&self, own: &Signed) -> usize
         requires reads { length self.now.reads.items ≤ 1024 }
         requires writes { length self.now.writes.items ≤ 1024 }
@@ -70,7 +70,7 @@ impl Rows {
         behind_writes.max(behind_reads)
     }
 
-    /// The level of the next request, which joins the rows.
+    /// Puts the next request on its level, and returns that.
     pub(crate) fn place(&mut self, footprint: &Footprint) -> Result<usize, Memory>
         requires reads { length self.old.reads.items < 1024 }
         requires writes { length self.old.writes.items < 1024 }

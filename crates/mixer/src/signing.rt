@@ -1,17 +1,17 @@
-//! Footprints as signatures.
+//! Signatures of footprints.
 ghost use Rattle.mixer.specs.LevelRows.{IsSigned};
 
 use signatures_simd::Signature;
 use tpcc_rows::footprint::Footprint;
 
-/// The bits of what a request reads, what it writes among it, and of what it writes.
+/// The signatures of what a request reads (which includes what it writes) and of what it writes.
 #[derive(Drop)]
 pub(crate) struct Signed {
     pub(crate) reads: Signature,
     pub(crate) writes: Signature,
 }
 
-/// A footprint reads what it writes, so the bits of what it reads are those of all its granules.
+/// Signs a footprint. It reads whatever it writes, so its read signature covers all its granules.
 pub(crate) fn sign(footprint: &Footprint) -> Signed
     ensures { IsSigned result footprint.now }
 {

@@ -1,4 +1,4 @@
-//! The image of a database.
+//! Writes a database as an image.
 #![tactic(auto)]
 
 mod row_keys;

@@ -1,5 +1,4 @@
-//! The keys of the rows that are said by themselves, in their order: the rows stand on pages, of which each is in order by
-//! itself.
+//! The keys of the rows that have a record of their own, in order: pages are sorted each by itself, not all together.
 ghost use Rattle.std.specs.Prelude.{◌≡◌, ◌<◌, ◌^◌, filter_map, IfOk, OnOk};
 ghost use Rattle.std.specs.BTreeSet.{btree_set_len};
 ghost use Rattle.std.specs.FinMap as finmap;
@@ -14,7 +13,7 @@ use tpcc_rows::codes::LEAVES;
 use tpcc_rows::key::RowKey;
 use tpcc_rows::memory::Memory;
 
-/// Whether the row of a key is said by itself.
+/// Whether a key's row has a record of its own.
 fn stands_alone(key: &RowKey) -> bool
     ensures { result ≡ stands_alone key.now }
 {
@@ -42,7 +41,7 @@ fn add_keys(keys: &mut BTreeSet<RowKey>, page: &LeafRows) -> Result<(), Memory>
     Ok(())
 }
 
-/// The keys of all pages.
+/// Those keys, of all pages.
 pub(crate) fn keys_in_order(alloc: Global, rows: &PointedStore) -> Result<BTreeSet<RowKey>, Memory>
     ensures said { IfOk result (λ keys. (part : RowPart) → filter_map (said_at part rows.now.rows) keys.keys
         ≡ rows_said part (finmap.entries rows.now.rows)) }

@@ -1,4 +1,4 @@
-//! The image of a database.
+//! Writes a database as an image.
 ghost use Rattle.std.specs.Prelude.{◌≡◌, ◌++◌, filter_map, length, map, IfOk, OnErr, OnOk};
 ghost use Rattle.std.specs.FinMap as finmap;
 ghost use Rattle.records.specs.Spelling.{text_of_records};
@@ -19,8 +19,8 @@ use std::collections::BTreeSet;
 use tpcc_rows::key::RowKey;
 use tpcc_rows::memory::Memory;
 
-/// The cards by their place in an image: the rows of the districts stand before the customers, and the items before the
-/// stocks, where in the order of keys they stand behind them.
+/// Groups of cards as they follow each other in an image: unlike in key order, the districts' rows come before the
+/// customers, and the items before the stocks.
 #[derive(Clone, Copy)]
 pub enum CardPart {
     WarehousesAndDistricts,
@@ -42,7 +42,7 @@ fn stands_in(part: CardPart, key: &CardKey) -> bool
     }
 }
 
-/// Writes the records of the cards of a part, with their rows, and counts them. `fields` is where each record is made.
+/// Writes the records of a part's cards, with their rows, and counts them. `fields` is a buffer for each record.
 fn write_cards(
     writer: &mut Writer<Vec<u8>>,
     fields: &mut ByteRecord,
@@ -67,7 +67,7 @@ fn write_cards(
     Ok(count)
 }
 
-/// Writes the records of the rows at keys, those of a part of an image, and counts them.
+/// Writes the records of a part's rows, and counts them.
 fn write_rows(
     writer: &mut Writer<Vec<u8>>,
     fields: &mut ByteRecord,
@@ -138,10 +138,10 @@ fn whole_text(alloc: Global, catalog: &Catalog, rows: &PointedStore) -> Result<V
     written_text(writer)
 }
 
-/// Writes the image of a database at the end, in version 2: the first record, then the warehouses, the districts, their
-/// sums, their next numbers, the customers, the items, the stocks, the orders, the new orders, the order lines and the
-/// history, each in rising key, and the end record. Of a warehouse's, a customer's or a stock's card without its row
-/// nothing is written. A refusal changes nothing.
+/// Appends the image of a database, in version 2: the first record; then the warehouses, the districts, their D_YTD, their
+/// D_NEXT_O_ID, the customers, the items, the stocks, the orders, the new orders, the order lines and the history, each in
+/// key order; and the end record. A warehouse's, a customer's or a stock's card without its row is left out. If an
+/// allocation fails, nothing is appended.
 pub fn store_image(
     alloc: Global,
     catalog: &Catalog,

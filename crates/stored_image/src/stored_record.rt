@@ -1,4 +1,4 @@
-//! The records of an image as they are written.
+//! Writes the records of an image.
 ghost use Rattle.std.specs.Prelude.{◌≡◌, ◌∷◌, [], IfOk, OnOk, Some, None, if◌then◌else◌, map, option_copied, option_map};
 ghost use Rattle.catalog.specs.StockCards.{district_info};
 ghost use Rattle.csv.specs.Records.{fields_of, partial_of};
@@ -21,17 +21,16 @@ use tpcc_rows::row::{
     StockRow, WarehouseRow,
 };
 
-/// The rows that are said by themselves, by their place in an image: those of the districts stand before the customers,
-/// where in the order of keys they stand behind all others.
+/// Groups of rows as they follow each other in an image: unlike in key order, the districts' rows come first.
 #[derive(Clone, Copy)]
 pub enum RowPart {
-    /// The rows of the districts.
+    /// The districts' rows.
     Districts,
     /// The orders, the new orders, the order lines and the history.
     Others,
 }
 
-/// Begins a record of a kind.
+/// Begins a record of the given kind.
 fn begin(fields: &mut ByteRecord, kind: &[u8]) -> Result<(), Memory>
     ensures kind { OnOk result (fields_of fields.new ≡ kind.now ∷ []) }
     ensures whole { OnOk result (partial_of fields.new ≡ []) }
@@ -264,7 +263,7 @@ fn stock_row(rows: &PointedStore, warehouse: WarehouseId, item: ItemId) -> Optio
     rows.get(&RowKey::Stock { warehouse, item })?.as_stock()
 }
 
-/// The record of a card, with its row where it has one of its own. False where that row isn't there.
+/// The record of a card, together with its row if it has one. False if that row is missing.
 pub(crate) fn card_record(
     fields: &mut ByteRecord,
     rows: &PointedStore,
@@ -294,7 +293,7 @@ pub(crate) fn card_record(
     Ok(true)
 }
 
-/// The record of a row of the districts. False where the row is another one.
+/// The record of a district's row. False if the row is another kind's.
 fn district_row_record(fields: &mut ByteRecord, key: &RowKey, row: &Row) -> Result<bool, Memory>
     ensures { IfOk result (λ said. option_map written_record (row_said row_part.Districts (key.now, row.now))
         ≡ (if said then Some (fields_of fields.new) else None)) }
@@ -319,7 +318,7 @@ fn district_row_record(fields: &mut ByteRecord, key: &RowKey, row: &Row) -> Resu
     Ok(true)
 }
 
-/// The record of an order, a new order, an order line or a row of the history. False where the row is another one.
+/// The record of an order, a new order, an order line or a history row. False if the row is another kind's.
 fn other_row_record(fields: &mut ByteRecord, key: &RowKey, row: &Row) -> Result<bool, Memory>
     ensures { IfOk result (λ said. option_map written_record (row_said row_part.Others (key.now, row.now))
         ≡ (if said then Some (fields_of fields.new) else None)) }
@@ -356,7 +355,7 @@ fn other_row_record(fields: &mut ByteRecord, key: &RowKey, row: &Row) -> Result<
     Ok(true)
 }
 
-/// The record of a row of a part of an image. False where the row is in the other one, or is said with its card.
+/// The record of one of a part's rows. False if the row is the other part's, or is in its card's record.
 fn row_record(
     fields: &mut ByteRecord,
     part: RowPart,
@@ -372,7 +371,7 @@ fn row_record(
     }
 }
 
-/// The record of the row at a key, in a part of an image. False where the part has none.
+/// The record of a key's row, if it is one of the part's. False otherwise.
 pub(crate) fn record_at(
     fields: &mut ByteRecord,
     rows: &PointedStore,

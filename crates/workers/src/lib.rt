@@ -1,5 +1,5 @@
-//! The run of a level: requests that declared to be apart, each executed on the rows that its footprint lends, by workers
-//! on several threads.
+//! Executes one level: requests with disjoint footprints, each on the rows that its footprint lends, by one or more
+//! worker threads.
 #![tactic(auto)]
 
 mod alone;
