@@ -21,7 +21,7 @@ replies_by engine next = batch_replies engine.catalog (met_by engine next) next.
 abbrev pub rows_by : Engine → NextBatch → Rows
 rows_by engine next = batch_rows engine.catalog (met_by engine next) next.batch.now
 
--- how it is executed, and its record: by workers where there are any
+-- its path, and its record: by workers if there are any
 abbrev pub path_by_workers : {W : Type 0} → Option W → Engine → NextBatch → Path
 path_by_workers workers engine next = path_in workers engine.catalog (met_by engine next) next.batch.now
 

@@ -19,7 +19,7 @@ use Rattle.executor.specs.Paths.{path_of}
 use Rattle.executor.specs.declared.path.Path.{Path}
 use Rattle.executor.specs.declared.record.Record.{Record}
 
--- a completed batch: its number, that of its first request, the replies, the token after it, and how it was executed
+-- a completed batch: its number, that of its first request, the replies, the token after it, and its path
 pub record Completed : Type 0 where
   pub sequence : ℕ
   pub first : ℕ

@@ -1,4 +1,4 @@
--- How a batch is executed: as its verdict and its requests' touches have it, whoever executes it.
+-- The path of a batch, by its verdict and its requests' touches: what its levels do, however the batch is executed.
 use Rattle.std.specs.Prelude.{Bool, true, false}
 use Rattle.catalog.specs.CardMap.{Cards}
 use Rattle.requests.specs.declared.request.Batch.{Batch}

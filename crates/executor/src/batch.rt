@@ -1,4 +1,4 @@
-//! A batch on an engine, whose rows can go back.
+//! Executes a batch on an engine, whose rows can be rolled back.
 ghost use Rattle.std.specs.Prelude.{◌≡◌, ◌+◌, ◌<◌, ◌≤◌, ◌++◌, ◌∷◌, [], IfOk, IsTrue, OnErr, OnOk, Some, length, slice_get};
 ghost use Rattle.catalog.specs.CardBytes.{catalog_digest};
 ghost use Rattle.executor.specs.Engines.{IsRecordBy, met_by, path_by_workers, replies_by, rows_by};
@@ -29,7 +29,7 @@ use tpcc_rows::memory::Memory;
 use transactions::ExecError;
 use workers::{Gate, Workers};
 
-/// The present rows become the newest point, for which there is a place.
+/// Saves the present rows as the newest point, for which there is capacity.
 fn mark(store: &mut PointedStore)
     requires { length store.old.points < POINTS }
     ensures points { store.new.points ≡ store.old.points ++ store.old.rows ∷ [] }
@@ -39,7 +39,7 @@ fn mark(store: &mut PointedStore)
     store.mark().unwrap();
 }
 
-/// The rows are again those of the newest point, which stays.
+/// Restores the newest point's rows, keeping it.
 fn rewind(store: &mut PointedStore, point: usize)
     requires { length store.old.points ≡ point + 1 }
     ensures rows { slice_get store.old.points point ≡ Some store.new.rows }
@@ -49,7 +49,7 @@ fn rewind(store: &mut PointedStore, point: usize)
     store.rewind(point).unwrap();
 }
 
-/// How many threads the leaves are hashed on at most: as many as there are workers, or one.
+/// Maximum number of threads that hash leaves: one per worker, or one.
 fn threads_of(workers: &Option<Workers>) -> usize {
     match workers {
         Some(workers) => workers.count(),
@@ -57,14 +57,14 @@ fn threads_of(workers: &Option<Workers>) -> usize {
     }
 }
 
-/// The path of a batch whose verdict asks for no rerun.
+/// The path of a batch whose verdict is `commit`.
 fn path_of(strayed: bool) -> Path
     ensures { result ≡ path_by verdict.Commit strayed }
 {
     if strayed { Path::Reran } else { Path::Parallel }
 }
 
-/// Whether the verdict asks for a rerun and no gate listens: what the levels do is then thrown away unseen.
+/// Whether the verdict is `rerun` and no gate listens: the levels would be rolled back unobserved.
 fn is_rerun_untold<G: Gate>(asked: Verdict, gate: &G) -> bool
     ensures { IsTrue result → asked ≡ verdict.Rerun }
 {
@@ -75,9 +75,9 @@ fn is_rerun_untold<G: Gate>(asked: Verdict, gate: &G) -> bool
 }
 
 impl Engine {
-    /// The replies to a batch on the rows of the newest point, and its path. N workers execute it, where there are any, and it is
-    /// executed once more, one request after the other, where a request strays in a level or the verdict asks for a rerun. Where
-    /// it does and no gate listens, it is executed once.
+    /// The replies to a batch that meets the newest point's rows, and its path. Without workers it is executed in order. With
+    /// workers it is rolled back and re-executed in order if a request strays in a level, or if the verdict is `rerun`; if it
+    /// is and no gate listens, it is executed once, in order.
     fn replies_of<R: Threads + Sync, G: Gate>(
         &mut self,
         rt: &R,
@@ -121,8 +121,8 @@ impl Engine {
         Ok((replies, path))
     }
 
-    /// The token of a batch that met the state with this stamp, made these replies and left the present rows, of which no leaf
-    /// is dirty from now on. The dirty leaves are hashed on so many threads at most.
+    /// The token of a batch that met the state with this stamp, gave these replies and left the present rows. Hashes the dirty
+    /// leaves, on at most `threads` threads, after which none is dirty.
     fn token_of<R: Threads + Sync>(
         &mut self,
         rt: &R,
@@ -150,7 +150,7 @@ impl Engine {
         parts.token()
     }
 
-    /// Executes a batch on the rows of the newest point, and records it.
+    /// Executes a batch that meets the newest point's rows, and returns its record.
     fn recorded<R: Threads + Sync, G: Gate>(
         &mut self,
         rt: &R,
@@ -180,8 +180,8 @@ impl Engine {
         })
     }
 
-    /// Executes a batch. The rows that it met are a new point; where memory was refused, they are the present ones again, and
-    /// no point is new.
+    /// Executes a batch, and saves the rows that it met as a new point. If an allocation fails, the rows are restored and no
+    /// point is added.
     pub fn execute<R: Threads + Sync, G: Gate>(
         &mut self,
         rt: &R,

@@ -1,7 +1,7 @@
-//! Who runs the levels of a batch.
+//! What executes the levels of a batch.
 use workers::Workers;
 
-/// So many workers, on threads, and the gate that is told of each execution.
+/// The workers, their threads, and the gate that observes each execution.
 #[derive(Drop)]
 pub(crate) struct Crew<'a, R, G> {
     pub rt: &'a R,

@@ -1,4 +1,4 @@
-//! A database on which batches are executed.
+//! A database that batches are executed on.
 ghost use Rattle.std.specs.Prelude.{◌≡◌};
 ghost use Rattle.catalog.specs.CardBytes.{catalog_digest};
 ghost use Rattle.merkle.specs.Nodes.{IsOfClean};
@@ -7,7 +7,7 @@ use catalog::Catalog;
 use merkle::Tree;
 use rollback::PointedStore;
 
-/// The cards of a database with their digest, and its rows with their tree, whose hashes of the dirty leaves may be old.
+/// A database's cards with their digest, and its rows with their tree, whose hashes of dirty leaves may be stale.
 #[derive(Drop)]
 pub(crate) struct Engine {
     pub catalog: Catalog,

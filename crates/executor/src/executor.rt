@@ -1,4 +1,4 @@
-//! The execution of batches on one database.
+//! Executes batches on one database.
 ghost use Rattle.std.specs.Prelude.{◌≡◌, ◌↔◌, ◌<◌, ◌==◌, [], ◌∷◌, IfErr, IfOk, IsErr, OnErr, OnOk, None, Some, length, map, slice_get, take};
 ghost use Rattle.std.specs.List.{position};
 ghost use Rattle.catalog.specs.CardBytes.{catalog_digest};
@@ -35,12 +35,12 @@ use tpcc_rows::id::END_OF_NUMBERS;
 use tpcc_rows::memory::Memory;
 use workers::{Gate, NoGate, Workers};
 
-/// A database between two batches, and the states before its uncommitted ones. A batch is uncommitted from its execution
-/// until it is committed.
+/// A database between batches, and the states before its uncommitted batches, to which it can be rolled back. A batch is
+/// uncommitted from its execution until it is committed or rolled back.
 #[derive(Drop)]
 pub struct Executor {
     engine: Engine,
-    /// What was kept at each point of the store, the oldest first.
+    /// The stamp of each point of the store, oldest first.
     earlier: ArrayVec<Stamp, POINTS>,
     present: Stamp,
 }
@@ -61,7 +61,7 @@ impl Model for Executor {
     ghost invariant = { λ e. IsExecutor e.engine e.earlier.items e.present };
 }
 
-/// The first of the stamps that has this number.
+/// The index of the first stamp with this number.
 fn point_among(stamps: &[Stamp], sequence: u64) -> Option<usize>
     ensures { result ≡ position (λ stamp. stamp.sequence == sequence) stamps.now }
 {
@@ -69,7 +69,7 @@ fn point_among(stamps: &[Stamp], sequence: u64) -> Option<usize>
 }
 
 impl Executor {
-    /// A database before any batch. The number of its first request is one more than the greatest of HISTORY.
+    /// A database before any batch. Its first request's number is one more than the greatest in HISTORY.
     #[inline(never)]
     pub fn new<R: Threads + Sync>(
         rt: &R,
@@ -93,7 +93,7 @@ impl Executor {
         Ok(Executor::of_parts(catalog, digest, store, tree))
     }
 
-    /// A database before any batch, of the digest of its cards and the tree of its rows, numbered as by `new`.
+    /// A database before any batch, from its cards' digest and its rows' tree; numbers start as in `new`.
     #[inline(never)]
     pub fn of_parts(catalog: Catalog, digest: [u8; 32], store: PointedStore, tree: Tree) -> Executor
         requires sound { IsSound (database catalog store.rows) }
@@ -128,7 +128,7 @@ impl Executor {
         }
     }
 
-    /// Keeps threads that hash beside the one that calls, for batches by so many workers.
+    /// Starts threads that help the calling one with hashing, for batches executed by `workers`.
     pub fn keep_threads<R: Host>(&mut self, rt: R, alloc: Global, workers: Workers)
         ensures { self.new ≡ self.old }
     {
@@ -147,7 +147,7 @@ impl Executor {
         &self.engine.store
     }
 
-    /// The number of the last batch; 0 before the first.
+    /// The number of the last batch, or 0 before the first.
     pub fn sequence(&self) -> u64
         ensures { result ≡ self.now.present.sequence }
     {
@@ -168,7 +168,7 @@ impl Executor {
         self.present.next
     }
 
-    /// Where the present state stands.
+    /// The stamp of the present state.
     pub fn stamp(&self) -> Stamp
         ensures value { result ≡ stamp_of self.now.present }
         ensures within { IsWithinLimits result }
@@ -176,8 +176,8 @@ impl Executor {
         self.present
     }
 
-    /// The present state stands here from now on, so that a database which was stored goes on as if it had stayed. The numbers of
-    /// requests only rise.
+    /// Gives the present state this stamp, so that a database that was stored and loaded continues as if it had never stopped.
+    /// Request numbers can only go up.
     pub fn resume(&mut self, stamp: &Stamp) -> Result<(), NumbersTaken>
         requires alone { self.old.earlier ≡ [] }
         requires within { IsWithinLimits stamp.now }
@@ -205,7 +205,7 @@ impl Executor {
         let _ = &self.engine;
     }
 
-    /// Why the batch isn't executed, whatever memory there is.
+    /// Why the batch is refused, apart from lack of memory.
     fn refusal_for(&self, batch: &Batch) -> Option<Refusal>
         ensures { result ≡ refusal_for POINTS self.now batch.now }
     {
@@ -258,9 +258,9 @@ impl Executor {
         Ok(record)
     }
 
-    /// Executes a batch on N workers: level by level, cut by what its requests declare, where threads pay or the gate is to be
-    /// told, and else in its order. Where a request strays in a level, or the verdict asks for it, the rows go back and the requests
-    /// run once more, one after the other. The gate is told of each execution.
+    /// Executes a batch: level by level if threads pay or the gate listens, else in order. If a request strays in a level, or
+    /// if the verdict is `rerun`, the batch is rolled back and re-executed in order; with that verdict and no gate listening it
+    /// is executed once, in order. Replies, rows, token and path are the same in every case. The gate observes each execution.
     pub fn execute<R: Threads + Sync, G: Gate>(
         &mut self,
         rt: &R,
@@ -281,7 +281,7 @@ impl Executor {
         self.execute_by(rt, alloc, batch, Some(workers), gate)
     }
 
-    /// Executes a batch, one request after the other.
+    /// Executes a batch one request after the other.
     pub fn execute_sequential<R: Threads + Sync>(
         &mut self,
         rt: &R,
@@ -298,7 +298,7 @@ impl Executor {
         self.execute_by(rt, alloc, batch, None, &NoGate)
     }
 
-    /// Commits the oldest uncommitted batch; the answer is its number. It takes no memory.
+    /// Commits the oldest uncommitted batch, and returns its number. Allocates nothing.
     pub fn commit(&mut self) -> Result<u64, Refusal>
         ensures line { OnOk result (self.new ≡ committed self.old) }
         ensures sequence { IfOk result (λ sequence. slice_get (map (λ state. state.sequence) (states self.old)) 1 ≡ Some sequence) }
@@ -318,14 +318,14 @@ impl Executor {
         Ok(committed)
     }
 
-    /// The point at which the state of this number is kept.
+    /// The index of the point that holds the state with this number.
     fn point_of(&self, sequence: u64) -> Option<usize>
         ensures { result ≡ position (λ state. state.sequence == sequence) self.now.earlier }
     {
         point_among(self.earlier.as_slice(), sequence)
     }
 
-    /// The state at the point is the present one from now on. It and the later ones are points no more.
+    /// Makes a point's state the present one, and drops that point and the later ones.
     fn go_back(&mut self, point: usize)
         requires { point < length self.old.earlier }
         ensures cards { self.new.cards ≡ self.old.cards }
@@ -337,8 +337,8 @@ impl Executor {
         self.earlier.truncate(point);
     }
 
-    /// Goes back to the state after the batch of this number: the last committed one, or one that is uncommitted. The later
-    /// batches are forgotten. It takes no memory.
+    /// Rolls back to the state after the batch with this number, which is the last committed one or an uncommitted one. Later
+    /// batches are forgotten. Allocates nothing.
     pub fn rollback_to(&mut self, sequence: u64) -> Result<(), Refusal>
         ensures line { OnOk result (IsReturned sequence self.old self.new) }
         ensures none { IsErr result ↔ HasNone sequence self.old }

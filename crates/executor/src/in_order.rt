@@ -1,4 +1,4 @@
-//! The requests of a batch, executed in its order by one thread, each on the rows that it declared.
+//! Executes a batch in order on one thread, each request on the rows that it declared.
 ghost use Rattle.std.specs.Prelude.{◌≡◌, ◌||◌, IfOk, OnOk};
 ghost use Rattle.serializability.specs.Levels.{job_strays};
 ghost use Rattle.executor.specs.InOrder.{job_of, plan_replies_in_turn, plan_rows_in_turn, plan_strays_in_turn};
@@ -23,14 +23,14 @@ use tpcc_rows::number::Moment;
 use transactions::{ExecError, execute};
 use worker_rows::Loan;
 
-/// What the requests of a batch did: the replies in their order, and whether the batch strays.
+/// The replies to a batch, in order, and whether it strays.
 #[derive(Drop)]
 pub(crate) struct Pass {
     pub replies: Vec<Reply>,
     pub strayed: bool,
 }
 
-/// A request of a batch, with its number, its moment and what it declared.
+/// A request of a batch, with its number, moment and declared footprint.
 #[derive(Clone, Copy)]
 struct Declared<'a> {
     number: RequestNumber,
@@ -39,7 +39,7 @@ struct Declared<'a> {
     footprint: &'a Footprint,
 }
 
-/// The outcome of a request, on the rows that it declared, unless one strayed before it or it strays there; then on all rows.
+/// The outcome of a request: on the rows that it declared, or on all rows once one has strayed, itself included.
 fn executed_within(
     alloc: Global,
     catalog: &Catalog,
@@ -67,8 +67,8 @@ fn executed_within(
     executed(alloc, catalog, request, number, moment, store)
 }
 
-/// Executes the requests of a batch one after the other, and makes the changes of each before the next. Where memory was
-/// refused, a beginning of the changes is made.
+/// Executes the requests of a batch one after the other, and applies the changes of each before the next. If an allocation
+/// fails, some of the changes have been applied.
 #[tactic(auto, unfolding(tpcc_rows::specs::Changing::after))]
 pub(crate) fn execute_in_order(
     alloc: Global,

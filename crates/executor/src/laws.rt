@@ -1,52 +1,52 @@
-//! Laws of requests that are executed out of their order, as contracts of functions that do nothing but call other laws.
+//! Laws of execution out of order, stated as contracts of functions that at most call other laws.
 ghost use Rattle.executor.specs.Laws.{BatchesKeep, CutsAreWhole, DeclaredLevelsAreSerial, ExecutionsHaveHeadline, LevelsAreSerial, LinesAreSerial, MeetOnlyAbove, OpeningIsSound, RequestsSwap, RunsHaveHeadline, SerialBatchesHaveHeadline};
 ghost use Rattle.executor.specs.InOrder.{StraysAreInTurn};
 
 use transactions::laws::{framed_machine, keeps};
 
-/// Two requests of which neither writes what the other reads may be stepped in either order: they touch and reply the same,
-/// and leave the same rows.
+/// Two requests, neither of which writes what the other reads, commute: in either order they touch and reply the same, and
+/// leave the same rows.
 pub fn swap()
     ensures { RequestsSwap }
 {
     framed_machine();
 }
 
-/// Levels in which no request touches more than its footprint reply and leave what the requests do one after the other,
-/// though later requests may run in lower levels than earlier ones; and the database stays sound.
+/// Executing levels in which no request strays gives the replies and rows of executing the requests in order, though a later
+/// request may be on a lower level than an earlier one; and the database stays sound.
 pub fn levels()
     ensures { LevelsAreSerial }
 {
     framed_machine();
 }
 
-/// So it is with the levels of a batch by what its requests declare: by what they touch as the batch begins.
+/// The same of the levels of a batch by its requests' declared footprints.
 pub fn declared_levels()
     ensures { DeclaredLevelsAreSerial }
 {
     levels();
 }
 
-/// Some request of a batch touches more than it declared, on the rows as its level begins, exactly where some request does on the
-/// rows that those before it in the batch leave.
+/// Some request of a batch touches more than it declared on the rows that its level starts from, if and only if some request
+/// does on the rows that the requests before it leave.
 pub fn strays_in_turn()
     ensures { StraysAreInTurn }
 {
     framed_machine();
 }
 
-/// Of two requests of a batch that meet, the later one has the greater level.
+/// Of two conflicting requests of a batch, the later one is on the higher level.
 pub fn levels_rise()
     ensures { MeetOnlyAbove }
 {}
 
-/// Each place of a batch stands in one level of its cut; a level has at least one place, and its places rise.
+/// Each request of a batch is on exactly one level; no level is empty, and its places are ascending.
 pub fn cuts()
     ensures { CutsAreWhole }
 {}
 
-/// Before any batch and after each one the database is sound, all four consistency conditions included, and no row of the
-/// history has the number of a request that is yet to come.
+/// Before the first batch and after each one the database is sound, all four consistency conditions included, and no history
+/// row has the number of a future request.
 pub fn sound_states()
     ensures opening { OpeningIsSound }
     ensures after { BatchesKeep }
@@ -55,8 +55,8 @@ pub fn sound_states()
 }
 
 /// The replies, tables and token after each completed batch are those of one thread executing the requests one after the
-/// other in batch order, and the four consistency conditions hold after every one: of any list of batches within their
-/// limits, of what `execute` answers, and of what `run` answers.
+/// other in batch order, and the four consistency conditions hold after every one: for any list of batches within their
+/// limits, for what `execute` returns, and for what `run` returns.
 pub fn headline()
     ensures serial { SerialBatchesHaveHeadline }
     ensures executions { ExecutionsHaveHeadline }
@@ -65,8 +65,8 @@ pub fn headline()
     sound_states();
 }
 
-/// Whatever batches were executed, committed and gone back from: each state of an executor's line is the one that one thread
-/// leaves after the batches that were kept up to it.
+/// After any executions, commits and rollbacks, each state of an executor's line is the one that one thread leaves after the
+/// batches kept up to it.
 pub fn line()
     ensures { LinesAreSerial }
 {}

@@ -1,4 +1,4 @@
-//! The levels of a batch by what its requests declared.
+//! The levels of a batch by its requests' declared footprints.
 ghost use Rattle.std.specs.Prelude.{◌≡◌, ◌+◌, ◌<◌, ◌≤◌, All, length};
 ghost use Rattle.std.specs.List.Sorted.{IsStrictlyIncreasing};
 ghost use Rattle.executor.specs.declared.next_batch.TheConstants.{MOST_REQUESTS};
@@ -7,7 +7,7 @@ ghost use Rattle.tpcc_rows.specs.declared.id.TheConstants.{END_OF_NUMBERS};
 use requests::request::Batch;
 use tpcc_rows::footprint::Footprint;
 
-/// A batch that isn't empty, whose first request has the number `first`, and what each of its requests declared.
+/// A batch that isn't empty, the number of its first request, and the footprint that each request declared.
 #[derive(Clone, Copy)]
 pub(crate) struct Plan<'a> {
     pub batch: &'a Batch,
@@ -20,7 +20,7 @@ pub(crate) struct Plan<'a> {
     pub ghost high: { first + length batch.now.requests ≤ END_OF_NUMBERS },
 }
 
-/// The requests at some places of a batch.
+/// One level of a batch: the places of its requests.
 #[derive(Clone, Copy)]
 pub(crate) struct Level<'a> {
     pub plan: Plan<'a>,

@@ -1,6 +1,7 @@
-//! The execution of batches. Where threads pay, or a gate is to be told, a batch is cut into levels by what its requests declare,
-//! and run level by level; where a request strays, the rows go back to what they were before the batch, and its requests run once
-//! more, one after the other. Any other batch runs in its order from the first. Each way gives what one thread gives.
+//! Executes batches. If threads pay, or the gate listens, a batch is cut into levels by its requests' declared footprints and
+//! executed level by level; if a request strays, the rows are rolled back and the requests re-executed in order. Any other
+//! batch is executed in order at once. The result is one thread's in every case. So is the batch's path, which says what the
+//! levels do, or would do, not how the batch was executed.
 #![tactic(auto)]
 
 mod batch;

@@ -1,4 +1,4 @@
-//! The limits of requests, which they keep, as the laws ask for them.
+//! The limits of requests, in the form that the laws require.
 ghost use Rattle.std.specs.List.{All};
 ghost use Rattle.transactions.specs.Requests.{IsRequest};
 

@@ -1,4 +1,4 @@
-//! A batch that is to be executed next.
+//! The batch to execute next.
 ghost use Rattle.std.specs.Prelude.{◌+◌, ◌<◌, ◌≤◌, length};
 ghost use Rattle.executor.specs.declared.next_batch.TheConstants.{LAST_NUMBER, MOST_REQUESTS};
 ghost use Rattle.tpcc_rows.specs.declared.id.TheConstants.{END_OF_NUMBERS};
@@ -8,14 +8,14 @@ use crate::limits::requests_within;
 use crate::stamp::Stamp;
 use requests::request::Batch;
 
-/// The last number of a request, and of a batch.
+/// Maximum number of a request, and of a batch.
 pub const LAST_NUMBER: u64 = 999_999_999_999_999;
 
-/// A batch has at most so many requests.
+/// Maximum number of requests in a batch.
 pub const MOST_REQUESTS: usize = 1024;
 
-/// A batch that is short enough, and what is kept of the state that it meets beside its rows: its number and those of its
-/// requests are within their limits.
+/// A batch that isn't too long, with the stamp of the state that it meets; its number and its requests' are within their
+/// limits.
 #[derive(Clone, Copy)]
 pub(crate) struct NextBatch<'a> {
     pub batch: &'a Batch,

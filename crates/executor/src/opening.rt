@@ -1,4 +1,4 @@
-//! What a database has before any batch: the number of the first request, and the digest of the catalog beside what else is made.
+//! What an executor starts with: the number of the first request, and the catalog's digest, computed beside other work.
 ghost use Rattle.std.specs.Prelude.{◌≡◌, ◌≤◌, unwrap_or};
 ghost use Rattle.catalog.specs.CardBytes.{catalog_digest};
 ghost use Rattle.tpcc_model.specs.Serial.{history_pick, next_number};
@@ -15,7 +15,7 @@ use tpcc_rows::codes::LEAVES;
 use tpcc_rows::id::END_OF_NUMBERS;
 use tpcc_rows::key::RowKey;
 
-/// The greatest number of HISTORY on a page, 0 where there is none.
+/// The greatest HISTORY number on a page, or 0.
 #[tactic(auto, unfolding(tpcc_rows::specs::Picks::picked))]
 fn last_on_page(page: &LeafRows) -> u64
     ensures value { result ≡ unwrap_or (greatest (picked history_pick page.now)) 0 }
@@ -30,7 +30,7 @@ fn last_on_page(page: &LeafRows) -> u64
     last
 }
 
-/// One more than the greatest number of HISTORY, 1 where there is none.
+/// One more than the greatest HISTORY number, or 1.
 #[tactic(auto, unfolding(tpcc_model::specs::Serial::next_number))]
 pub(crate) fn next_number(store: &PointedStore) -> u64
     ensures value { result ≡ next_number store.now.rows }
@@ -43,16 +43,16 @@ pub(crate) fn next_number(store: &PointedStore) -> u64
     last + 1
 }
 
-/// How many cards a catalog has at least whose digest is worth the start of a thread.
+/// Minimum number of cards for which hashing the catalog on a thread of its own pays.
 const FEWEST_CARDS: usize = 8_192;
 
-/// Whether the digest of a catalog is worth a thread of its own.
+/// Whether hashing the catalog on a thread of its own pays.
 fn pays<R: Threads + Sync>(rt: &R, catalog: &Catalog) -> bool {
     catalog.len() >= FEWEST_CARDS
         && thread::available_parallelism(rt).map_or(1, NonZeroUsize::get) > 1
 }
 
-/// The digest of a catalog, and then what else is to be made.
+/// The catalog's digest, and then the result of `other`.
 #[inline(never)]
 fn behind_digest<F: FnOnce() -> T, T>(catalog: &Catalog, other: F) -> ([u8; 32], T)
     requires { F.pre other }
@@ -62,8 +62,8 @@ fn behind_digest<F: FnOnce() -> T, T>(catalog: &Catalog, other: F) -> ([u8; 32],
     (catalog.digest(), other())
 }
 
-/// The digest of a catalog, and what else is to be made: this is made meanwhile where there are many cards, several processors, and
-/// memory for a thread. It has a frame of its own, since what is made may be large.
+/// The catalog's digest and the result of `other`: concurrently if there are many cards, several processors, and memory for
+/// a thread. Never inlined, since the result may be large.
 #[inline(never)]
 pub fn beside_digest<R: Threads + Sync, F: FnOnce() -> T, T>(
     rt: &R,

@@ -1,4 +1,4 @@
-//! The requests of a batch, executed level by level.
+//! Executes a batch level by level, where threads pay.
 ghost use Rattle.std.specs.Prelude.{◌≡◌, ◌+◌, ◌<◌, ◌≤◌, All, IfErr, IfOk, IfSome, OnOk, false, length, map, ℕ};
 ghost use Rattle.std.specs.FinMap.{find};
 ghost use Rattle.std.specs.List.{AllPairs};
@@ -32,7 +32,7 @@ use tpcc_rows::memory::Memory;
 use transactions::ExecError;
 use workers::{Gate, LevelEnd, PlaceOutcome, run_level};
 
-/// Files the replies of a level of a batch, whose first request has this number. The changes are left, in their order.
+/// Files the replies of a level, where `first` is the number of the batch's first request; returns the changes, in order.
 fn file_replies(
     alloc: Global,
     first: u64,
@@ -56,7 +56,7 @@ fn file_replies(
     Ok(deltas)
 }
 
-/// Runs a level, files its replies and makes its changes. Where a request strays, nothing is changed.
+/// Executes a level, files its replies and applies its changes. If a request strays, nothing is changed.
 fn settle_level<R: Threads + Sync, G: Gate>(
     alloc: Global,
     crew: &Crew<'_, R, G>,
@@ -98,16 +98,16 @@ fn settle_level<R: Threads + Sync, G: Gate>(
     }
 }
 
-/// Threads pay where the levels of a batch have so many requests on average: to start one takes as long as to execute a dozen or
-/// more, and each level starts its own.
+/// Minimum average level size for which threads pay: starting one takes as long as executing a dozen requests or more, and
+/// each level starts its own.
 const REQUESTS_A_LEVEL: usize = 128;
 
-/// Whether so many requests are cut into levels that are too thin for threads.
+/// Whether the levels are too small for threads to pay.
 fn is_thin(cut: &Cut, requests: usize) -> bool {
     cut.depth() > requests / REQUESTS_A_LEVEL
 }
 
-/// The cut of a batch that runs in levels; None where it is executed in its order, since no thread pays and nobody is told.
+/// The levels to execute a batch by; `None` if threads don't pay and no gate listens.
 fn cut_of<R, G: Gate>(
     alloc: Global,
     crew: &Crew<'_, R, G>,
@@ -126,7 +126,7 @@ fn cut_of<R, G: Gate>(
     Ok(Some(cut))
 }
 
-/// Runs the levels of a batch, one after the other, until one strays.
+/// Executes the levels of a batch one after the other, until a request strays.
 fn run_levels<R: Threads + Sync, G: Gate>(
     alloc: Global,
     crew: &Crew<'_, R, G>,
@@ -159,9 +159,9 @@ fn run_levels<R: Threads + Sync, G: Gate>(
     Ok(book)
 }
 
-/// Executes the requests of a batch level by level, as they declare on the rows that the batch meets. It ends where one
-/// strays; then, and where memory was refused, the rows are those of no one state. Where no thread pays and nobody is told,
-/// the batch is executed in its order, to its end.
+/// Executes a batch level by level, by the footprints that its requests declare on the rows that it meets. Stops if a request
+/// strays; then, and if an allocation fails, the rows are in no defined state. If threads don't pay and no gate listens, the
+/// batch is executed in order instead, to its end.
 pub(crate) fn execute_parallel<R: Threads + Sync, G: Gate>(
     alloc: Global,
     crew: &Crew<'_, R, G>,

@@ -1,14 +1,15 @@
-//! The path of a batch: what its levels do.
+//! The path of a batch: what its levels do, or would do.
 
-/// What the levels of a batch do, whether it was executed level by level or in its order.
+/// What the levels of a batch do, or would do if it were executed by them. It doesn't tell how the batch was executed: counting
+/// `Reran` counts the batches that stray, not re-executions.
 #[derive(Clone, Copy, Debug, PartialEq, Eq)]
 pub enum Path {
     /// No request strays.
     Parallel,
-    /// A request strays.
+    /// Some request strays.
     Reran,
-    /// The verdict asks for a rerun, whether a request strays or not.
+    /// The batch's verdict is `rerun`, whether any request strays or not.
     Verdict,
-    /// The batch has no levels: it was to be executed one request after the other.
+    /// The batch was given to `execute_sequential`, which has no levels.
     Sequential,
 }

@@ -1,9 +1,8 @@
-//! What a batch did.
+//! The record of a batch.
 use crate::path::Path;
 use requests::reply::Reply;
 
-/// What a batch did: its number, the number of its first request, the replies in the order of its requests, its token, and
-/// its path.
+/// The result of a batch: its number, its first request's number, the replies in request order, its token, and its path.
 #[derive(Drop)]
 pub struct Record {
     pub sequence: u64,

@@ -1,4 +1,4 @@
-//! Why a call of the executor is refused.
+//! Why the executor refuses a call.
 ghost use Rattle.std.specs.Prelude.{◌≡◌};
 ghost use Rattle.executor.specs.Refusals.{refusal_code, refusal_name};
 ghost use Rattle.executor.specs.declared.refusal.Refusal.TheVariants as refusal;
@@ -6,22 +6,22 @@ ghost use Rattle.executor.specs.declared.refusal.Refusal.TheVariants as refusal;
 use thiserror::Error;
 use tpcc_rows::memory::Memory;
 
-/// Why a call of the executor is refused.
+/// Why the executor refuses a call.
 #[derive(Clone, Copy, Debug, PartialEq, Eq, Error)]
 pub enum Refusal {
-    /// Memory was refused.
+    /// An allocation failed.
     #[error("memory was refused")]
     Memory,
     /// The batch has more than 1,024 requests.
     #[error("the batch has more than 1,024 requests")]
     BatchTooLong,
-    /// As many batches are uncommitted as may be.
+    /// The maximum number of batches is uncommitted.
     #[error("as many batches are uncommitted as may be")]
     PointsFull,
-    /// No batch is uncommitted, or no state has the number that is asked for.
+    /// No batch is uncommitted, or no state has the number asked for.
     #[error("there is no such batch to commit, or no such state to go back to")]
     NoSuchPoint,
-    /// The number of the batch or of one of its requests would pass the limit.
+    /// The batch's number or that of one of its requests would exceed the limit.
     #[error("the numbers of requests or of batches are used up")]
     NumbersExhausted,
 }
@@ -35,7 +35,7 @@ impl From<Memory> for Refusal {
 }
 
 impl Refusal {
-    /// The number by which the refusal is reported.
+    /// The number that the refusal is reported by.
     pub fn code(self) -> u8
         ensures { result ≡ refusal_code self }
     {
@@ -48,7 +48,7 @@ impl Refusal {
         }
     }
 
-    /// The name by which the refusal is reported.
+    /// The name that the refusal is reported by.
     pub fn name(self) -> &'static str
         ensures { result.now ≡ refusal_name self }
     {

@@ -1,4 +1,4 @@
-//! Batches that are executed and committed one after the other.
+//! Executes and commits batches one after the other.
 ghost use Rattle.std.specs.Prelude.{◌≡◌, map};
 ghost use Rattle.executor.specs.Headline.{Headline, completed};
 ghost use Rattle.executor.specs.Runs.{IsRunOf, alone};
@@ -13,7 +13,7 @@ use std::alloc::Global;
 use std::thread::Threads;
 use workers::{Gate, Workers};
 
-/// How a run of batches ended: the records of those that were executed, and why the next one wasn't; None after the last.
+/// How a run ended: the records of the executed batches, and why the next one was refused; `None` after the last batch.
 #[derive(Drop)]
 pub struct RunEnd {
     pub records: Vec<Record>,
@@ -21,8 +21,8 @@ pub struct RunEnd {
 }
 
 impl Executor {
-    /// Executes each batch on N workers, and commits it and all that weren't, until one is refused. Room for all records
-    /// is made first.
+    /// Executes batches until one is refused, committing every uncommitted batch after each. Space for all records is allocated
+    /// first.
     pub fn run<R: Threads + Sync, G: Gate>(
         &mut self,
         rt: &R,
@@ -60,7 +60,7 @@ impl Executor {
         }
     }
 
-    /// Commits all batches that aren't.
+    /// Commits every uncommitted batch.
     fn commit_all(&mut self)
         ensures { self.new ≡ alone self.old }
     {

@@ -1,4 +1,4 @@
-//! The requests of a batch, executed one after the other.
+//! Executes a batch one request after the other.
 ghost use Rattle.std.specs.Prelude.{◌≡◌, IfOk, OnOk};
 ghost use Rattle.executor.specs.Lines.{state_of};
 ghost use Rattle.rollback.specs.Pointed.{KeepsCleanLeaves};
@@ -21,7 +21,7 @@ use transactions::{ExecError, execute};
 use worker_rows::Whole;
 use workers::Gate;
 
-/// The outcome of a request on all rows, where nothing strays.
+/// The outcome of a request on all rows, where no request strays.
 pub(crate) fn executed(
     alloc: Global,
     catalog: &Catalog,
@@ -39,8 +39,8 @@ pub(crate) fn executed(
     }
 }
 
-/// Executes the requests of a batch one after the other, and makes the changes of each before the next. Where memory was
-/// refused, a beginning of the changes is made. The gate is told of each execution.
+/// Executes the requests of a batch one after the other, and applies the changes of each before the next. If an allocation
+/// fails, some of the changes have been applied. The gate observes each execution.
 #[tactic(auto, unfolding(tpcc_rows::specs::Changing::after))]
 pub(crate) fn execute_sequential<G: Gate>(
     alloc: Global,

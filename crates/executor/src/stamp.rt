@@ -1,7 +1,7 @@
-//! Where a state stands.
+//! The stamp of a state.
 use thiserror::Error;
 
-/// What is kept of a state beside its rows: the number of the last batch, that of the next request, and the token of that batch.
+/// What identifies a state: the number of the last batch, the number of the next request, and the last batch's token.
 #[derive(Clone, Copy, Default)]
 pub struct Stamp {
     pub sequence: u64,
@@ -9,10 +9,10 @@ pub struct Stamp {
     pub token: [u8; 32],
 }
 
-/// Numbers from which a state was to go on belong to requests that were.
+/// The numbers to resume from are already taken by earlier requests.
 #[derive(Clone, Copy, Debug, PartialEq, Eq, Error)]
 #[error("the next request has the number {least} or a greater one")]
 pub struct NumbersTaken {
-    /// The least number that the next request may have.
+    /// The lowest number that the next request may have.
     pub least: u64,
 }

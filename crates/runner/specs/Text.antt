@@ -28,7 +28,7 @@ path_word path.Reran = codes "reran"
 path_word path.Verdict = codes "verdict"
 path_word path.Sequential = codes "sequential"
 
--- the record of a batch: its number, how it was executed, and its token
+-- the record of a batch: its number, its path, and its token
 abbrev pub batch_record_fields : ℕ → Path → List ℕ → Fields
 batch_record_fields sequence path token = codes "batch" ∷ decimal sequence ∷ path_word path ∷ token_digits token ∷ []
 

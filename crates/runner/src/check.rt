@@ -1,4 +1,4 @@
-//! From the bytes of an image to the line that says what it holds.
+//! `check`: from the bytes of an image to a line that sums it up.
 ghost use Rattle.std.specs.Prelude.{◌≡◌, ◌+◌, ◌<◌, ◌^◌, IfErr, IfOk, IfSome, OnOk, if◌then◌else◌};
 ghost use Rattle.std.specs.Io.KnownBytes.{Appends};
 ghost use Rattle.runner.specs.CheckTexts.{ChecksImage, LeavesCheck, check_text, warehouse_count};
@@ -18,7 +18,7 @@ use std::alloc::Global;
 use std::thread::Threads;
 use tpcc_rows::memory::Memory;
 
-/// How many warehouses there are.
+/// The number of warehouses.
 fn warehouse_count(catalog: &Catalog) -> usize
     ensures { result ≡ warehouse_count catalog.now }
 {
@@ -52,7 +52,7 @@ fn line_of(alloc: Global, executor: &Executor) -> Result<Vec<u8>, Memory>
     Ok(line)
 }
 
-/// Loads an image, and writes a line with the numbers of its warehouses and of its rows, and its token.
+/// Loads an image, and writes a line with its numbers of warehouses and rows, and its token.
 pub fn check_text<R: Threads + Sync, I: Source, S: Sink>(
     rt: &R,
     alloc: Global,

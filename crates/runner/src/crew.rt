@@ -1,9 +1,9 @@
-//! Who runs batches.
+//! What executes batches.
 
 use std::alloc::Global;
 use workers::Workers;
 
-/// So many workers, on threads, the memory that they take, and the gate that is told of each execution.
+/// The workers, their threads and allocator, and the gate that observes each execution.
 #[derive(Drop)]
 pub(crate) struct Crew<'a, R, G> {
     pub rt: &'a R,

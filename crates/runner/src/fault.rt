@@ -1,4 +1,4 @@
-//! Why a run ends early, and the line that says so.
+//! Why a run ends early, and the line that reports it.
 ghost use Rattle.std.specs.Prelude.{◌≡◌, ◌++◌, OnOk, OnErr};
 ghost use Rattle.runner.specs.FaultText.{code_of, condition_of, fault_text, name_of, part_of, place_of};
 
@@ -12,25 +12,25 @@ use tpcc_rows::memory::Memory;
 /// Why a run ends early.
 #[derive(Clone, Copy, Debug, PartialEq, Eq, Error)]
 pub enum RunFault {
-    /// The image gives no database.
+    /// The image can't be loaded.
     #[error("the image: {0}")]
     Load(LoadError),
-    /// The batches can't be read, or not any further.
+    /// The batches can't be read, or no further.
     #[error("the batches: {0}")]
     Read(ReadError),
-    /// A batch isn't executed.
+    /// A batch was refused.
     #[error("the run: {0}")]
     Exec(Refusal),
-    /// The sink failed.
+    /// The output couldn't be written.
     #[error("the output couldn't be written")]
     Write,
-    /// Memory was refused while the text of a batch was made.
+    /// An allocation failed while a batch's text was made.
     #[error("memory was refused for the output")]
     Memory,
 }
 
 impl RunFault {
-    /// Where the fault is: `image`, `batches`, `run` or `output`.
+    /// The part at fault: `image`, `batches`, `run` or `output`.
     pub fn part(self) -> &'static str
         ensures { result.now ≡ part_of self }
     {
@@ -42,7 +42,7 @@ impl RunFault {
         }
     }
 
-    /// The number by which the fault is reported.
+    /// The number that the fault is reported by.
     pub fn code(self) -> u8
         ensures { result ≡ code_of self }
     {
@@ -55,7 +55,7 @@ impl RunFault {
         }
     }
 
-    /// The name by which the fault is reported.
+    /// The name that the fault is reported by.
     pub fn name(self) -> &'static str
         ensures { result.now ≡ name_of self }
     {
@@ -68,7 +68,7 @@ impl RunFault {
         }
     }
 
-    /// The number of the record at fault, where the fault is one of a record.
+    /// The number of the bad record, if the fault is a record's.
     pub fn record(self) -> Option<u64>
         ensures { result ≡ place_of self }
     {
@@ -79,7 +79,7 @@ impl RunFault {
         }
     }
 
-    /// The number of the consistency condition that doesn't hold, where that is the fault.
+    /// The number of the consistency condition that doesn't hold, if that is the fault.
     pub fn condition(self) -> Option<u8>
         ensures { result ≡ condition_of self }
     {
@@ -90,8 +90,8 @@ impl RunFault {
     }
 }
 
-/// Appends the line that reports a fault: `eve-tpcc: <part>: <code> <Name>`, behind it `(<k>)` where condition k of the database
-/// doesn't hold, or ` at record <n>` where the fault has a record, and a line feed. A refusal changes nothing.
+/// Appends the line that reports a fault: `eve-tpcc: <part>: <code> <Name>`, then `(<k>)` if consistency condition k doesn't
+/// hold, or ` at record <n>` if the fault is a record's, and a line feed. If an allocation fails, nothing is appended.
 pub fn fault_line(fault: &RunFault, out: &mut Vec<u8>) -> Result<(), Memory>
     ensures ok { OnOk result (out.new.items ≡ out.old.items ++ fault_text fault.now) }
     ensures err { OnErr result (out.new.items ≡ out.old.items) }

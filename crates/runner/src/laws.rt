@@ -1,8 +1,8 @@
-//! Laws of runs, as contracts of functions that do nothing.
+//! Laws of runs, stated as contracts of empty functions.
 ghost use Rattle.runner.specs.Laws.{TwoRunsAgree};
 
-/// Two runs of the same image and batches write the same, however many workers each has and whoever is told of its executions: what
-/// one wrote begins what the other wrote, and where both complete the texts are equal.
+/// Two runs of the same image and batches write the same, whatever their workers and gates: the text of one is a prefix of the
+/// other's, and if both complete, the texts are equal.
 pub fn two_runs()
     ensures { TwoRunsAgree }
 {}

@@ -1,4 +1,4 @@
-//! The executor between bytes: an image and batches come in, the text of the replies goes out.
+//! Runs from bytes to bytes: image and batches in, replies out.
 #![tactic(auto)]
 
 mod check;

@@ -1,4 +1,4 @@
-//! The line of a fault, in a value of fixed size: it is there where memory is refused, too.
+//! The line of a fault, in a buffer of fixed size, so that it needs no memory.
 ghost use Rattle.std.specs.Prelude.{◌≡◌, ◌≤◌, ◌+◌, ◌*◌, ◌++◌, length};
 ghost use Rattle.runner.specs.FaultText.{fault_text, line_text, number_text, store_fault_text, stored_fault_text};
 
@@ -7,28 +7,28 @@ use crate::store_fault::{StoreFault, StoredRunFault};
 use itoa::Buffer;
 use tpcc_rows::row_buf::ByteBuf;
 
-/// More than the longest line has.
+/// More bytes than any line has.
 const LINE_BYTES: usize = 200;
 
-/// What two lines have at most.
+/// Maximum size of two lines.
 const TWO_LINES: usize = 2 * LINE_BYTES;
 
-/// The most bytes of the name of a part.
+/// Maximum length of a part's name.
 const PART_BYTES: usize = 10;
 
-/// The most bytes of the name of a fault.
+/// Maximum length of a fault's name.
 const NAME_BYTES: usize = 20;
 
-/// The most bytes of a text on one side of a number.
+/// Maximum length of the text on one side of a number.
 const SIDE_BYTES: usize = 20;
 
-/// The most bytes of a number with a text on each side.
+/// Maximum length of a number with a text on each side.
 const NUMBER_BYTES: usize = 60;
 
-/// Room for the two lines of a run that ended early and whose image wasn't written either.
+/// A buffer for two lines: those of a run that ended early and whose image couldn't be written either.
 pub type FaultLine = ByteBuf<TWO_LINES>;
 
-/// Appends the number, where there is one, between two texts.
+/// Appends a number between two texts, if there is one.
 fn push_number(line: &mut FaultLine, before: &str, number: Option<u64>, after: &str)
     requires room { length line.old + NUMBER_BYTES ≤ TWO_LINES }
     requires before { length before.now ≤ SIDE_BYTES }
@@ -44,7 +44,7 @@ fn push_number(line: &mut FaultLine, before: &str, number: Option<u64>, after: &
     line.push(after.as_bytes());
 }
 
-/// Appends the line of a fault of this part, with this number and this name.
+/// Appends the line of a fault, by its part, code and name.
 fn push_line(
     line: &mut FaultLine,
     part: &str,
@@ -70,7 +70,7 @@ fn push_line(
     line.push(b"\n");
 }
 
-/// Appends the line of a fault of a run.
+/// Appends the line of a run's fault.
 fn push_run(line: &mut FaultLine, fault: RunFault)
     requires { length line.old ≤ LINE_BYTES }
     ensures text { line.new ≡ line.old ++ fault_text fault }
@@ -80,7 +80,7 @@ fn push_run(line: &mut FaultLine, fault: RunFault)
     push_line(line, part, code, name, fault.condition(), fault.record());
 }
 
-/// Appends the line of an image that wasn't written.
+/// Appends the line of an image that couldn't be written.
 fn push_store(line: &mut FaultLine, fault: StoreFault)
     requires { length line.old ≤ LINE_BYTES }
     ensures { line.new ≡ line.old ++ store_fault_text fault }
@@ -88,7 +88,7 @@ fn push_store(line: &mut FaultLine, fault: StoreFault)
     push_line(line, "store", fault.code(), fault.name(), None, None);
 }
 
-/// The line that reports a fault of a run, as `fault_line` appends it.
+/// The line that reports a run's fault, as `fault_line` appends it.
 pub(crate) fn run_line(fault: RunFault) -> FaultLine
     ensures { result ≡ fault_text fault }
 {
@@ -97,8 +97,8 @@ pub(crate) fn run_line(fault: RunFault) -> FaultLine
     line
 }
 
-/// The line that reports a fault, or the two lines: the part of an image that isn't written is `store`, and where the run itself ended
-/// early, its line stands behind the run's.
+/// The line or lines that report a fault: the part of an image that couldn't be written is `store`, and its line follows that
+/// of the run, if that ended early too.
 pub fn stored_line(fault: &StoredRunFault) -> FaultLine
     ensures { result ≡ stored_fault_text fault.now }
 {

@@ -1,4 +1,4 @@
-//! Runs on an executor that the caller has: what it holds before, and where its state stands behind the run, is the caller's to see.
+//! Runs on an executor that the caller owns, and can inspect before and after.
 ghost use Rattle.std.specs.Prelude.{◌≡◌, ◌+◌, ◌<◌, ◌≤◌, ◌^◌, [], IfErr, IfOk, IfSome, OnOk, if◌then◌else◌};
 ghost use Rattle.executor.specs.States.{IsSoundState};
 ghost use Rattle.runner.specs.Runs.{is_write};
@@ -16,8 +16,8 @@ use records::io::{Sink, Source};
 use std::alloc::Global;
 use workers::{Gate, Workers};
 
-/// Reads all bytes of batches, and then reads, executes, commits and writes batch after batch on the state that an executor has. The
-/// answer is the number of batches.
+/// Reads all bytes of the batches; then parses, executes, commits and writes batch after batch, from the executor's present
+/// state on. Returns the number of batches.
 pub fn run_on<R: Host, B: Source, S: Sink, G: Gate>(
     rt: &R,
     alloc: Global,
@@ -51,8 +51,8 @@ pub fn run_on<R: Host, B: Source, S: Sink, G: Gate>(
     run_read(&crew, executor, batches, sink)
 }
 
-/// Runs batches on the state that an executor has as `run_on` does, and then writes the image of the state whose token was written last,
-/// which is the executor's from then on.
+/// Runs batches as `run_on` does, and then writes the image of the state whose token was written last, which is then the
+/// executor's present one.
 pub fn run_and_store_on<R: Host, B: Source, S: Sink, K: Sink, G: Gate>(
     rt: &R,
     alloc: Global,

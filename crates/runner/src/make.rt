@@ -1,4 +1,4 @@
-//! From three numbers to the bytes of an image.
+//! `make`: from three numbers to the bytes of an image.
 ghost use Rattle.std.specs.Prelude.{◌≡◌, ◌+◌, ◌<◌, ◌^◌, IfErr, IfOk, OnOk, if◌then◌else◌};
 ghost use Rattle.std.specs.Io.KnownBytes.{Appends};
 ghost use Rattle.made_database.specs.Made.{made};
@@ -15,7 +15,7 @@ use std::alloc::Global;
 use stored_image::store_image;
 use tpcc_rows::memory::Memory;
 
-/// The image of the database that is made of these numbers.
+/// The image of the database generated from these numbers.
 fn made_text(alloc: Global, warehouses: u8, customers: u16, items: u32) -> Result<Vec<u8>, Memory>
     requires warehouses { IsBetween 1 100 warehouses }
     requires customers { IsBetween 1 3000 customers }
@@ -28,7 +28,7 @@ fn made_text(alloc: Global, warehouses: u8, customers: u16, items: u32) -> Resul
     Ok(text)
 }
 
-/// Writes the image of the database of so many warehouses, customers in each district, and items.
+/// Writes the image of the generated database with these numbers of warehouses, of customers in each district, and of items.
 pub fn make_text<S: Sink>(
     alloc: Global,
     warehouses: u8,

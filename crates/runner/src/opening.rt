@@ -1,4 +1,4 @@
-//! From the bytes of an image to an executor before any batch.
+//! From the bytes of an image to an executor.
 ghost use Rattle.std.specs.Prelude.{◌≡◌, ◌+◌, ◌<◌, ◌≤◌, ◌^◌, [], IfErr, IfOk, IfSome, if◌then◌else◌};
 ghost use Rattle.executor.specs.Lines.{opening_line};
 ghost use Rattle.executor.specs.States.{IsSoundState};
@@ -23,7 +23,7 @@ use rollback::PointedStore;
 use std::alloc::Global;
 use std::thread::Threads;
 
-/// The rows on their pages.
+/// Puts the rows on pages.
 fn paged(alloc: Global, rows: UnpagedRows) -> Result<PointedStore, RunFault>
     ensures rows { IfOk result (λ store. store.rows ≡ rows) }
     ensures points { IfOk result (λ store. store.points ≡ []) }
@@ -35,7 +35,7 @@ fn paged(alloc: Global, rows: UnpagedRows) -> Result<PointedStore, RunFault>
     }
 }
 
-/// The parts of an executor in a box: a frame that passes them on by value has room for them several times, 15 KB each.
+/// An executor in a box: passed on by value, it would be on the stack several times, at 15 KB each.
 #[inline(never)]
 fn boxed(
     alloc: Global,
@@ -51,7 +51,7 @@ fn boxed(
     }
 }
 
-/// The tree of rows on their pages.
+/// Builds the tree of rows on pages.
 fn treed<R: Threads + Sync>(rt: &R, alloc: Global, store: &PointedStore) -> Result<Tree, RunFault>
     ensures tree { IfOk result (λ tree. IsOf tree store.now.rows) }
     ensures err { IfErr result (λ e. e ≡ run_fault.Exec refusal.Memory) }
@@ -62,7 +62,7 @@ fn treed<R: Threads + Sync>(rt: &R, alloc: Global, store: &PointedStore) -> Resu
     Ok(tree)
 }
 
-/// The rows on their pages, and their tree.
+/// Puts the rows on pages, and builds their tree.
 #[inline(never)]
 fn build<R: Threads + Sync>(
     rt: &R,
@@ -85,7 +85,7 @@ fn build<R: Threads + Sync>(
     boxed(alloc, store, tree)
 }
 
-/// The executor of a database that was read. Many cards are hashed while the rows go to their pages and their tree is built.
+/// The executor of a database. If there are many cards, they are hashed while the rows are put on pages and the tree is built.
 #[inline(never)]
 fn executor_of<R: Threads + Sync>(
     rt: &R,
@@ -117,7 +117,7 @@ fn executor_of<R: Threads + Sync>(
     }
 }
 
-/// Loads an image, and makes the executor of its database.
+/// Loads an image into an executor.
 #[inline(never)]
 pub fn load_executor<R: Threads + Sync, I: Source>(
     rt: &R,

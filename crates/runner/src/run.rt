@@ -1,4 +1,4 @@
-//! From the bytes of an image and of batches to the bytes of the replies.
+//! `run`: from the bytes of image and batches to the bytes of the replies.
 ghost use Rattle.std.specs.Prelude.{◌≡◌, ◌+◌, ◌<◌, ◌≤◌, ◌^◌, [], IfErr, IfOk, IfSome, OnOk, if◌then◌else◌};
 ghost use Rattle.executor.specs.States.{IsSoundState};
 ghost use Rattle.runner.specs.Runs.{is_write};
@@ -15,10 +15,10 @@ use records::slurp::slurp;
 use std::alloc::Global;
 use workers::{Gate, Workers};
 
-/// The most bytes of batches.
+/// Maximum size of the batches, in bytes.
 const MOST_BATCH_BYTES: usize = 1_073_741_824;
 
-/// Reads all bytes of batches, keeps threads for them, and runs them on the state that an executor has.
+/// Reads all bytes of the batches, starts helper threads, and runs the batches from the executor's present state on.
 pub(crate) fn run_read<R: Host, B: Source, S: Sink, G: Gate>(
     crew: &Crew<'_, R, G>,
     executor: &mut Executor,
@@ -48,8 +48,8 @@ pub(crate) fn run_read<R: Host, B: Source, S: Sink, G: Gate>(
     run_batches(crew, executor, text.as_slice(), sink)
 }
 
-/// Loads an image, reads all bytes of batches, and then reads, executes, commits and writes batch after batch. The answer is
-/// the number of batches. What is written is the same for every number of workers, and whoever is told of the executions.
+/// Loads an image, reads all bytes of the batches, and then parses, executes, commits and writes batch after batch. Returns the
+/// number of batches. The output is the same for every number of workers and every gate.
 pub fn run_text<R: Host, I: Source, B: Source, S: Sink, G: Gate>(
     rt: &R,
     alloc: Global,
@@ -67,7 +67,7 @@ pub fn run_text<R: Host, I: Source, B: Source, S: Sink, G: Gate>(
     ensures err { IfErr result (λ e. IfSome (I.left image.old) (λ image_bytes. IfSome (B.left batches.old) (λ batch_bytes.
         LeavesRun e image_bytes batch_bytes (S.taken sink.old) (S.taken sink.new)))) }
 
-    // An end that failed is the reason of the answer, and every failure is answered.
+    // A stream is reported as failed exactly if it failed.
     ensures image_failures { I.failed image.new ≡ I.failed image.old + (if is_image_read result then 1 else 0) }
     ensures batches_failures { B.failed batches.new ≡ B.failed batches.old + (if is_batches_read result then 1 else 0) }
     ensures sink_failures { S.failed sink.new ≡ S.failed sink.old + (if is_write result then 1 else 0) }

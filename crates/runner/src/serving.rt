@@ -1,4 +1,4 @@
-//! Batch after batch: read, executed, committed and written before the next is read.
+//! Reads, executes, commits and writes batch after batch.
 ghost use Rattle.std.specs.Prelude.{◌≡◌, ◌+◌, ◌<◌, ◌≤◌, ◌^◌, [], length, IfErr, IfOk, None, OnErr, OnOk, if◌then◌else◌};
 ghost use Rattle.std.specs.Io.KnownBytes.{Appends};
 ghost use Rattle.executor.specs.Lines.{committed, extended};
@@ -19,8 +19,8 @@ use requests::request::Batch;
 use std::thread::Threads;
 use workers::Gate;
 
-/// Executes a batch where all before it are committed, commits it, and writes its replies and its own record. Where memory is refused
-/// for their text, the batch is taken back.
+/// Executes and commits a batch, all earlier ones being committed, and writes its replies and its record. If there is no memory
+/// for that text, the batch is rolled back.
 fn serve_batch<R: Threads + Sync, S: Sink, G: Gate>(
     crew: &Crew<'_, R, G>,
     executor: &mut Executor,
@@ -53,8 +53,7 @@ fn serve_batch<R: Threads + Sync, S: Sink, G: Gate>(
     Ok(())
 }
 
-/// Reads the batches of a text in turn, executes each on what the ones before it left, commits it, and writes its replies and
-/// its record before the next is read. The answer is the number of batches.
+/// Parses, executes, commits and writes the batches of a text, each before the next is parsed. Returns the number of batches.
 pub(crate) fn run_batches<R: Threads + Sync, S: Sink, G: Gate>(
     crew: &Crew<'_, R, G>,
     executor: &mut Executor,

@@ -1,4 +1,4 @@
-//! Where a state stands, as text: in a line that tells it, and as a word that is given to go on from there.
+//! Stamps as text: the line that prints one, and the word of the command line that gives one.
 ghost use Rattle.std.specs.Prelude.{◌≡◌, ◌≤◌, ◌+◌, ◌++◌, ℕ, IfSome, List, Ok, Some, length};
 ghost use Rattle.executor.specs.Stamps.{IsWithinLimits};
 ghost use Rattle.executor.specs.declared.stamp.Stamp.{Stamp};
@@ -12,16 +12,16 @@ use records::fields::number;
 use tpcc_rows::id::END_OF_NUMBERS;
 use tpcc_rows::row_buf::ByteBuf;
 
-/// More than the line has.
+/// More bytes than the line has.
 const LINE_BYTES: usize = 200;
 
-/// The most bytes that stand before the word in its line.
+/// Maximum number of bytes before the word in its line.
 const FRONT_BYTES: usize = 10;
 
-/// The most bytes of the word.
+/// Maximum length of the word.
 const WORD_BYTES: usize = 180;
 
-/// Room for a line that tells where a state stands.
+/// A buffer for the line of a stamp.
 pub type StampLine = ByteBuf<LINE_BYTES>;
 
 /// Appends `SEQ,NEXT,TOKEN`.
@@ -37,7 +37,7 @@ fn push_word(line: &mut StampLine, stamp: &Stamp)
     line.push(digits_of(&stamp.token).as_slice());
 }
 
-/// The line that tells where a state stands: `at,SEQ,NEXT,TOKEN`.
+/// The line of a stamp: `at,SEQ,NEXT,TOKEN`.
 pub fn stamp_line(stamp: &Stamp) -> StampLine
     ensures { result ≡ at_text stamp.now }
 {
@@ -57,7 +57,7 @@ fn word_of(stamp: &Stamp) -> StampLine
     word
 }
 
-/// The token that these digits say.
+/// The token that hexadecimal digits spell.
 fn token_of(digits: &[u8]) -> Option<[u8; 32]>
     ensures { (token : List ℕ) → decode_sized digits.now 32 ≡ Ok token → result ≡ Some token }
 {
@@ -88,7 +88,7 @@ fn stamp_of_parts(sequence: &[u8], next: &[u8], token: &[u8]) -> Option<Stamp>
     })
 }
 
-/// The stamp that a word tells as `SEQ,NEXT,TOKEN`, with numbers within their limits.
+/// The stamp that a word spells as `SEQ,NEXT,TOKEN`, if its numbers are within their limits.
 pub fn stamp_of(word: &str) -> Option<Stamp>
     ensures told { IfSome result (Tells word.now) }
     ensures each { (stamp : Stamp) → Tells word.now stamp → result ≡ Some stamp }

@@ -1,4 +1,4 @@
-//! Why a run that stores its last state ends early, and the line that says so.
+//! Why a run that stores its last state fails, and the line that reports it.
 ghost use Rattle.std.specs.Prelude.{◌≡◌, ◌++◌, OnErr, OnOk};
 ghost use Rattle.runner.specs.FaultText.{store_code_of, store_name_of, stored_fault_text};
 
@@ -7,19 +7,19 @@ use crate::lines::stored_line;
 use thiserror::Error;
 use tpcc_rows::memory::Memory;
 
-/// Why the image of a run's last state isn't written, or not whole.
+/// Why the image of a run's last state wasn't written, or not completely.
 #[derive(Clone, Copy, Debug, PartialEq, Eq, Error)]
 pub enum StoreFault {
-    /// The sink of the image failed.
+    /// The image couldn't be written.
     #[error("the image couldn't be written")]
     Write,
-    /// Memory was refused while the image was made.
+    /// An allocation failed while the image was made.
     #[error("memory was refused for the image")]
     Memory,
 }
 
 impl StoreFault {
-    /// The number by which the fault is reported.
+    /// The number that the fault is reported by.
     pub fn code(self) -> u8
         ensures { result ≡ store_code_of self }
     {
@@ -29,7 +29,7 @@ impl StoreFault {
         }
     }
 
-    /// The name by which the fault is reported.
+    /// The name that the fault is reported by.
     pub fn name(self) -> &'static str
         ensures { result.now ≡ store_name_of self }
     {
@@ -40,22 +40,22 @@ impl StoreFault {
     }
 }
 
-/// Why a run that stores its last state ends early.
+/// Why a run that stores its last state fails.
 #[derive(Clone, Copy, Debug, PartialEq, Eq, Error)]
 pub enum StoredRunFault {
-    /// The run itself ended early. The image of its last state was written, unless the run's output failed or it ended before it had
-    /// a state.
+    /// The run ended early. The image of its last state was written, unless its output failed or it ended before there was a
+    /// state.
     #[error("{0}")]
     Run(RunFault),
-    /// The run ended well, and the image of its last state wasn't written whole.
+    /// The run completed, but the image of its last state wasn't written completely.
     #[error("the stored state: {0}")]
     Store(StoreFault),
-    /// The run itself ended early, and the image of its last state wasn't written whole either.
+    /// The run ended early, and the image of its last state wasn't written completely either.
     #[error("{0}; the stored state: {1}")]
     Both(RunFault, StoreFault),
 }
 
-/// Appends the line that reports a fault, or the two lines. A refusal changes nothing.
+/// Appends the line or lines that report a fault. If an allocation fails, nothing is appended.
 pub fn stored_fault_line(fault: &StoredRunFault, out: &mut Vec<u8>) -> Result<(), Memory>
     ensures ok { OnOk result (out.new.items ≡ out.old.items ++ stored_fault_text fault.now) }
     ensures err { OnErr result (out.new.items ≡ out.old.items) }

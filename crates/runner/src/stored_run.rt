@@ -1,4 +1,4 @@
-//! A run that ends with the image of its last state.
+//! `run --store`: a run that ends by writing the image of its last state.
 ghost use Rattle.std.specs.Prelude.{◌≡◌, ◌+◌, ◌<◌, ◌≤◌, ◌^◌, [], IfErr, IfOk, IfSome, OnOk, if◌then◌else◌};
 ghost use Rattle.std.specs.Io.KnownBytes.{Appends};
 ghost use Rattle.executor.specs.States.{IsSoundState};
@@ -21,7 +21,7 @@ use stored_image::store_image;
 use tpcc_rows::memory::Memory;
 use workers::{Gate, Workers};
 
-/// The image of the state that an executor has.
+/// The image of the executor's present state.
 fn image_of(alloc: Global, executor: &Executor) -> Result<Vec<u8>, Memory>
     ensures { IfOk result (λ text. text.items ≡ state_image executor.now.cards executor.now.present) }
 {
@@ -30,7 +30,7 @@ fn image_of(alloc: Global, executor: &Executor) -> Result<Vec<u8>, Memory>
     Ok(text)
 }
 
-/// Writes the image of the state that an executor has.
+/// Writes the image of the executor's present state.
 fn store_state<K: Sink>(
     alloc: Global,
     executor: &Executor,
@@ -55,8 +55,8 @@ fn store_state<K: Sink>(
     Ok(())
 }
 
-/// Writes the image of the state that an executor has behind which a run ended early. None is written where the output failed: nobody
-/// knows then what of the text came through.
+/// Writes the image of the state at which a run ended early; not if the output failed, since then it is unknown how much of
+/// the text got through.
 fn store_behind<K: Sink>(
     alloc: Global,
     executor: &Executor,
@@ -79,8 +79,8 @@ fn store_behind<K: Sink>(
     }
 }
 
-/// Reads all bytes of batches, runs them on the state that an executor has, and then writes the image of the state behind the last
-/// one whose text was written.
+/// Reads all bytes of the batches, runs them from the executor's present state on, and then writes the image of the state after
+/// the last batch whose text was written.
 pub(crate) fn store_read<R: Host, B: Source, S: Sink, K: Sink, G: Gate>(
     crew: &Crew<'_, R, G>,
     executor: &mut Executor,
@@ -116,9 +116,8 @@ pub(crate) fn store_read<R: Host, B: Source, S: Sink, K: Sink, G: Gate>(
     }
 }
 
-/// Runs batches on the database of an image as `run_text` does, and then writes the image of the state whose token was written last,
-/// so that a later run can go on from it: after a run that ended early, too, but not where its output failed, or where it ended
-/// before there was a state.
+/// Runs batches as `run_text` does, and then writes the image of the state whose token was written last, from which a later run
+/// can resume. It is written after a run that ended early, too, unless its output failed or it ended before there was a state.
 pub fn run_and_store<R: Host, I: Source, B: Source, S: Sink, K: Sink, G: Gate>(
     rt: &R,
     alloc: Global,
@@ -138,7 +137,7 @@ pub fn run_and_store<R: Host, I: Source, B: Source, S: Sink, K: Sink, G: Gate>(
     ensures err { IfErr result (λ e. IfSome (I.left image.old) (λ image_bytes. IfSome (B.left batches.old) (λ batch_bytes.
         LeavesStoredRun e image_bytes batch_bytes (S.taken sink.old) (S.taken sink.new) (K.taken tables.old) (K.taken tables.new)))) }
 
-    // An end that failed is the reason of the answer, and every failure is answered.
+    // A stream is reported as failed exactly if it failed.
     ensures image_failures { I.failed image.new ≡ I.failed image.old + (if in_run is_image_read result then 1 else 0) }
     ensures batches_failures { B.failed batches.new ≡ B.failed batches.old + (if in_run is_batches_read result then 1 else 0) }
     ensures sink_failures { S.failed sink.new ≡ S.failed sink.old + (if in_run is_write result then 1 else 0) }

@@ -1,4 +1,4 @@
-//! The text of a batch: the records of its replies, and its own.
+//! The text of a batch: the records of its replies, then its own.
 ghost use Rattle.std.specs.Prelude.{◌≡◌, ◌++◌, ◌+◌, ◌≤◌, ◌∷◌, [], length, IfOk, OnOk};
 ghost use Rattle.csv.specs.Records.{fields_of, partial_of};
 ghost use Rattle.records.specs.Spelling.{AddsFields};
@@ -16,7 +16,7 @@ use std::alloc::Global;
 use tpcc_rows::id::{END_OF_NUMBERS, RequestNumber};
 use tpcc_rows::memory::Memory;
 
-/// Writes the records of replies, the first with this number.
+/// Writes the records of replies, numbered from `first`.
 fn write_replies(
     alloc: Global,
     first: u64,
@@ -57,7 +57,7 @@ fn push_token(fields: &mut ByteRecord, token: &[u8; 32]) -> Result<(), Memory>
     push(fields, digits_of(token).as_slice())
 }
 
-/// The word by which a path is written.
+/// The word that a path is written as.
 fn word_of(path: Path) -> &'static str
     ensures { result.now ≡ path_word path }
 {
@@ -77,7 +77,7 @@ fn push_path(fields: &mut ByteRecord, path: Path) -> Result<(), Memory>
     push(fields, word_of(path).as_bytes())
 }
 
-/// Adds the fields of the record of a batch that was executed this way.
+/// Adds the fields of the record of a batch with this path.
 fn push_batch(
     fields: &mut ByteRecord,
     sequence: u64,
@@ -93,7 +93,7 @@ fn push_batch(
     push_token(fields, token)
 }
 
-/// The record of a batch that was executed this way.
+/// The record of a batch with this path.
 fn batch_record(
     alloc: Global,
     sequence: u64,
@@ -107,7 +107,7 @@ fn batch_record(
     Ok(fields)
 }
 
-/// The text of a batch that did this.
+/// The text of a batch with this record.
 pub fn batch_text(alloc: Global, done: &Record) -> Result<Vec<u8>, Memory>
     requires low { 1 ≤ done.now.first }
     requires high { done.now.first + length done.now.replies.items ≤ END_OF_NUMBERS }
