@@ -1,4 +1,4 @@
-//! The command that `clap` reads the words by: a function for each argument and each subcommand.
+//! The command line's grammar for `clap`: a function for each argument and each subcommand.
 ghost use Rattle.std.specs.Prelude.{◌≡◌, ◌≤◌, IfOk, pos};
 ghost use Rattle.clap.specs.Words.{new_app};
 ghost use Rattle.clap.specs.declared.builder.value_parser.ValueParser.TheVariants.{Signed};
@@ -13,13 +13,13 @@ use std::alloc::{AllocError, Global};
 /// The version of the program.
 const VERSION: &str = "1.0.0";
 
-/// What help says of an image.
+/// Help text of an image argument.
 const IMAGE: &str = "The file of the database's image";
 
-/// What each help says of the files.
+/// Help text on file formats, at the end of each help.
 const FILES: &str = "Images, batches and replies are CSV text, described in docs/FORMATS.md";
 
-/// What takes the numbers from 1 to this one.
+/// A parser of the numbers from 1 to `most`.
 fn up_to<'a>(most: u32) -> ValueParser<'a>
     requires { 1 ≤ most }
     ensures { result ≡ Signed (pos 1) (pos most) }
@@ -27,14 +27,14 @@ fn up_to<'a>(most: u32) -> ValueParser<'a>
     value_parser!(u32).range(1..=i64::from(most))
 }
 
-/// An argument that is known by its place and has to be given.
+/// A required positional argument.
 fn required<'a>(alloc: Global, id: &'a str, help: &'a str) -> Arg<'a>
     ensures { IsArgument (required_rule id.entry.now) result }
 {
     Arg::new(alloc, id).required(true).help(help)
 }
 
-/// An argument that takes the numbers from 1 to this one.
+/// An argument that takes a number from 1 to `most`.
 fn ranged<'a>(alloc: Global, id: &'a str, most: u32, help: &'a str) -> Arg<'a>
     requires { 1 ≤ most }
     ensures { IsArgument (ranged_rule id.entry.now 1 most) result }
@@ -42,7 +42,7 @@ fn ranged<'a>(alloc: Global, id: &'a str, most: u32, help: &'a str) -> Arg<'a>
     Arg::new(alloc, id).value_parser(up_to(most)).help(help)
 }
 
-/// The same, which is known by its place and has to be given.
+/// A required positional argument that takes a number from 1 to `most`.
 fn number<'a>(alloc: Global, id: &'a str, most: u32, help: &'a str) -> Arg<'a>
     requires { 1 ≤ most }
     ensures { IsArgument (number_rule id.entry.now 1 most) result }
@@ -86,7 +86,7 @@ fn at<'a>(alloc: Global) -> Arg<'a>
         .help("Tells on standard error where the last state stands: at,SEQ,NEXT,TOKEN")
 }
 
-// A command of this name, whose help says what it does and what the files are.
+/// A subcommand, with its help.
 fn described<'a>(alloc: Global, name: &'a str, about: &'a str) -> Command<'a>
     ensures { IsCommand (new_app name.entry.now) result }
 {
@@ -142,8 +142,7 @@ fn serve<'a>(alloc: Global) -> Result<Command<'a>, AllocError>
     .arg(from(alloc))
 }
 
-// The program without its subcommands. Its name stands in the usage as it is given here, whatever
-// the first word is.
+/// The program without its subcommands. Usage shows its name as given here, whatever the first word is.
 fn bare<'a>(alloc: Global) -> Result<Command<'a>, AllocError>
     ensures { IfOk result (IsCommand bare_app) }
 {
@@ -154,7 +153,7 @@ fn bare<'a>(alloc: Global) -> Result<Command<'a>, AllocError>
     Ok(command)
 }
 
-/// A command with one subcommand more, where memory suffices for all of it.
+/// A command with another subcommand, if no allocation failed.
 fn joined<'a>(
     command: Result<Command<'a>, AllocError>,
     subcommand: Result<Command<'a>, AllocError>,
@@ -165,7 +164,7 @@ fn joined<'a>(
     command?.subcommand(subcommand)
 }
 
-/// The command of the program.
+/// The grammar of the whole command line.
 pub fn program<'a>(alloc: Global) -> Result<Command<'a>, AllocError>
     ensures { IfOk result (IsCommand program_app) }
 {

@@ -1,5 +1,4 @@
-//! The command line of the program `eve-tpcc`: the line that its words are, as `clap` reads them,
-//! or why they are none.
+//! Parses the command line of `eve-tpcc` with `clap`.
 #![tactic(auto)]
 
 mod command;

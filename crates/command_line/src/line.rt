@@ -1,4 +1,4 @@
-//! The line that the words of the command line are, and why they are none.
+//! The parsed command line, and why it is refused.
 ghost use Rattle.std.specs.Prelude.{◌≡◌, [], IfErr, IfOk, IsSomeAnd, OnOk, map, string_bytes};
 ghost use Rattle.clap.specs.Words.{fault_of, kind_of, subcommand_of};
 ghost use Rattle.command_line.specs.declared.line.LineFault.TheVariants.{Unread};
@@ -11,56 +11,55 @@ use clap::error::ErrorKind;
 use std::alloc::{AllocError, Global};
 use tickets::Workers;
 
-/// What the program is asked to do.
+/// The parsed command line.
 #[derive(Debug, Drop)]
 pub enum Line {
-    /// To execute the batches of one file on the database whose image another holds.
+    /// Executes the batches of a file on the database of an image.
     Run {
         /// The path of the image.
         image: String,
         /// The path of the batches.
         batches: String,
-        /// The number of workers: 1 where it isn't given.
+        /// The number of workers; 1 by default.
         workers: Workers,
-        /// The path of a file to write the database's image to, as the batches leave it, where one is given.
+        /// The path of a file to write the image of the last state to.
         store: Option<String>,
-        /// Where the image's state stands, as it was told: `SEQ,NEXT,TOKEN`. Before any batch where it isn't given.
+        /// The stamp of the image's state, `SEQ,NEXT,TOKEN`; by default the state is one before any batch.
         from: Option<String>,
-        /// Whether it is told where the last state stands.
+        /// Whether to print the stamp of the last state.
         at: bool,
     },
-    /// To check the image of a database.
+    /// Checks the image of a database.
     Check {
         /// The path of the image.
         image: String,
     },
-    /// To make the database of these sizes.
+    /// Generates a database.
     Make {
         /// The number of warehouses.
         warehouses: u8,
-        /// The number of customers of a district.
+        /// The number of customers in each district.
         customers: u16,
         /// The number of items.
         items: u32,
     },
-    /// To answer commands on the database of an image.
+    /// Answers commands on the database of an image.
     Serve {
         /// The path of the image.
         image: String,
-        /// The number of workers: 1 where it isn't given.
+        /// The number of workers; 1 by default.
         workers: Workers,
-        /// Where the image's state stands, as it was told: `SEQ,NEXT,TOKEN`. Before any batch where it isn't given.
+        /// The stamp of the image's state, `SEQ,NEXT,TOKEN`; by default the state is one before any batch.
         from: Option<String>,
     },
 }
 
-/// Why the words are no line.
+/// Why the command line is refused.
 #[derive(Debug, Drop)]
 pub enum LineFault {
-    /// The words are refused, or ask for help or the version. The error prints its own text.
+    /// `clap` refused the words, or they ask for help or the version. The error prints itself.
     Refused(Error),
-    /// No line was read: memory ran out, or `clap` took the words and had no value for one of their arguments, which no
-    /// words are known to bring about.
+    /// Memory ran out; or `clap` accepted the words but has no value for an argument, which isn't known to happen.
     Unread,
 }
 
@@ -83,8 +82,8 @@ impl From<Error> for LineFault {
     }
 }
 
-/// The line that the words are, the program's name first. When memory runs out is left open, so
-/// `Unread` may come for any words.
+/// Parses the words of a command line, the program's name first. When memory runs out isn't specified, so `Unread` is possible
+/// for any words.
 pub fn line_of(alloc: Global, words: Vec<String>) -> Result<Line, LineFault>
     ensures line { IfOk result (λ line.
         IsSomeAnd (subcommand_of program_app (map string_bytes words.items)) (IsLineOf line)) }
@@ -97,7 +96,7 @@ pub fn line_of(alloc: Global, words: Vec<String>) -> Result<Line, LineFault>
     line_in(alloc, &matches).ok_or(LineFault::Unread)
 }
 
-/// The status that the program ends with: 0 for a request for help or the version, else 2.
+/// The exit status: 0 for a request for help or the version, else 2.
 pub fn line_status(fault: &LineFault) -> u8
     ensures { result ≡ status_of fault.now }
 {

@@ -1,4 +1,4 @@
-//! The matches of the words, and the line that they say.
+//! From `clap`'s matches to the parsed command line.
 ghost use Rattle.std.specs.Prelude.{◌≡◌, [], IfErr, IfOk, IfSome, IsSomeAnd, OnOk, codes, map, option_map};
 ghost use Rattle.std.specs.Prelude.{string_bytes};
 ghost use Rattle.std.specs.Int.{IsInRange};
@@ -12,7 +12,7 @@ use clap::ArgMatches;
 use std::alloc::{AllocError, Global};
 use tickets::Workers;
 
-/// What `clap` finds in the words.
+/// Has `clap` match the words.
 pub fn matches_of<'a>(alloc: Global, words: &'a [String]) -> Result<ArgMatches<'a>, LineFault>
     ensures subcommand { IfOk result (λ matches.
         subcommand_rows_of matches ≡ subcommand_of program_app (map string_bytes words.entry.now)) }
@@ -23,7 +23,7 @@ pub fn matches_of<'a>(alloc: Global, words: &'a [String]) -> Result<ArgMatches<'
     Ok(program(alloc)?.try_get_matches_from(words)?)
 }
 
-/// What was found for an argument.
+/// The value of an argument, if any.
 fn value_of<'a>(matches: &ArgMatches<'a>, id: &str) -> Option<&'a str>
     ensures { option_map (λ value. value.now) result ≡ first_of id.now (rows_in matches.now) }
 {
@@ -37,7 +37,7 @@ fn text_of(alloc: Global, matches: &ArgMatches, id: &str) -> Option<String>
     String::from_str(alloc, value_of(matches, id)?).ok()
 }
 
-/// The text of an argument that may be left out.
+/// The text of an optional argument.
 fn option_of(alloc: Global, matches: &ArgMatches, id: &str) -> Result<Option<String>, AllocError>
     ensures { IfOk result (HasOption (rows_in matches.now) id.now) }
 {
@@ -58,7 +58,7 @@ fn flag_of(matches: &ArgMatches, id: &str) -> Option<bool>
     }
 }
 
-/// The number between these that an argument spells.
+/// The number from `least` to `most` that an argument spells.
 fn number_of(matches: &ArgMatches, id: &str, least: u32, most: u32) -> Option<u32>
     ensures number { IfSome result (HasNumber (rows_in matches.now) id.now) }
     ensures bounds { IfSome result (IsInRange least most) }
@@ -117,8 +117,7 @@ fn serve_in(alloc: Global, matches: &ArgMatches) -> Option<Line>
     })
 }
 
-/// The line of the subcommand that was met. None where memory runs out, or where `clap` has no value for one of its
-/// arguments.
+/// The parsed line of the matched subcommand; `None` if memory runs out, or if `clap` has no value for one of its arguments.
 pub fn line_in(alloc: Global, matches: &ArgMatches) -> Option<Line>
     ensures line { IfSome result (λ line.
         IsSomeAnd (subcommand_rows_of matches.now) (IsLineOf line)) }

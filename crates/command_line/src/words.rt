@@ -1,4 +1,4 @@
-//! The words that the program is started with.
+//! The words of the command line.
 use std::alloc::Global;
 use std::env::{self, FillError};
 use std::io::ErrorKind;
@@ -6,24 +6,24 @@ use std::rt::Env;
 use std::str;
 use thiserror::Error;
 
-/// How many bytes of a word are looked at where one of them is not UTF-8: no path is longer.
+/// How many bytes of a word are searched for one that is not UTF-8: no path is longer.
 const SHORT: usize = 4096;
 
-/// Why the words can't be read. A word's number is that of its place; the program's name has 0.
+/// Why the words can't be read. Words are numbered from 0, the program's name.
 #[derive(Clone, Copy, Debug, PartialEq, Eq, Error)]
 pub enum WordsFault {
-    /// This word is the first that is not UTF-8.
+    /// The first word that is not UTF-8 is the one with this number.
     #[error("word {0} is not UTF-8")]
     NotText(usize),
-    /// A word that is not UTF-8 has more bytes than are looked at.
+    /// A word that is not UTF-8 is longer than is searched.
     #[error("a word of more than 4096 bytes is not UTF-8")]
     LongNotText,
-    /// Memory was refused.
+    /// An allocation failed.
     #[error("no memory for its words")]
     Memory,
 }
 
-/// The word that is not UTF-8, one of which there is.
+/// The first word that is not UTF-8. There is one.
 fn word_at_fault<R: Env>(rt: &R) -> WordsFault {
     let mut bytes = [0; SHORT];
     for word in 0..usize::MAX {
@@ -40,7 +40,7 @@ fn word_at_fault<R: Env>(rt: &R) -> WordsFault {
     WordsFault::LongNotText
 }
 
-/// The words that the program is started with, its name first.
+/// The words of the command line, the program's name first.
 pub fn words_of<R: Env>(rt: &R, alloc: Global) -> Result<Vec<String>, WordsFault> {
     let words = match env::args(&(rt, alloc)) {
         Ok(words) => words,

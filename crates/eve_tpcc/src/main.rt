@@ -1,5 +1,5 @@
-//! The program `eve-tpcc`: it executes the batches of a file on the database of an image, and writes the replies. It is a
-//! thin layer over the crates below: it opens files, and prints what they answer.
+//! The program `eve-tpcc`: executes batches on the database of an image, and writes the replies. A thin layer that parses the
+//! command line, opens files, and prints what the crates below return.
 #![tactic(auto)]
 
 ghost use Rattle.tpcc_rows.specs.Limits.{IsBetween};
@@ -31,7 +31,7 @@ fn cannot_create(rt: &impl Eprint, path: &str) -> ExitCode {
     ExitCode::FAILURE
 }
 
-/// Prints the line of a fault. It takes no memory.
+/// Prints the line of a fault. Allocates nothing.
 fn report(rt: &impl Eprint, fault: &StoredRunFault) -> ExitCode {
     if let Ok(text) = str::from_utf8(stored_line(fault).as_slice()) {
         let _ = eprint!(rt; "{text}");
@@ -73,7 +73,7 @@ where
     }
 }
 
-/// Runs batches, and writes the image of the state that they leave to the file of this path.
+/// Runs batches, and writes the image of the last state to the file at `path`.
 #[inline(never)]
 fn run_stored<R: Files + Print + Eprint + AllocGlobal + Host>(
     rt: &R,
@@ -177,13 +177,13 @@ where
     }
 }
 
-/// Says why the words of the command line can't be read.
+/// Reports why the words of the command line can't be read.
 fn words_unread(rt: &impl Eprint, fault: WordsFault) -> ExitCode {
     let _ = eprintln!(rt; "eve-tpcc: command line: {fault}");
     ExitCode::from(2)
 }
 
-/// Says why the words of the command line are no line of the program, or helps.
+/// Reports why the command line is refused, or prints help.
 fn explain<R: Print + Eprint>(rt: &R, fault: &LineFault) -> ExitCode {
     match fault {
         LineFault::Refused(error) => {
@@ -203,7 +203,7 @@ fn text_of(text: &Option<String>) -> Option<&str> {
     }
 }
 
-/// Runs batches from where the image's state stands, if that is told, and tells where the last one does, if that is asked.
+/// Runs batches from the stamp given as `from`, if any, and prints the last state's stamp if `at`.
 fn run_from<R: Files + Print + Eprint + AllocGlobal + Host>(
     rt: &R,
     image: &str,
@@ -232,7 +232,7 @@ where
     }
 }
 
-/// Answers commands from where the image's state stands, which a word tells.
+/// Answers commands from the stamp that a word gives.
 fn serve_resumed<R: Files + Input + Print + Eprint + AllocGlobal + Host>(
     rt: &R,
     image: &str,

@@ -1,4 +1,4 @@
-//! Runs and sessions that go on from where the state of an image stands, and runs that tell where their last state does.
+//! `--from` and `--at`: resuming at the stamp of an image's state, and printing that of the last state.
 ghost use Rattle.std.specs.Prelude.{◌≡◌, ◌≤◌, [], IfOk, IfSome};
 ghost use Rattle.executor.specs.Stamps.{IsWithinLimits};
 ghost use Rattle.executor.specs.States.{IsSoundState};
@@ -17,7 +17,7 @@ use std::rt::Files;
 use std::{fs, io, str};
 use workers::{NoGate, Workers};
 
-/// The stamp that the word of `--from` tells, where there is one; a word that tells none is refused.
+/// The stamp that the word of `--from` gives, if any; another word is refused.
 pub fn stamp_from(rt: &impl Eprint, word: Option<&str>) -> Result<Option<Stamp>, ExitCode>
     ensures { IfOk result (λ from. IfSome from IsWithinLimits) }
 {
@@ -35,7 +35,7 @@ pub fn stamp_from(rt: &impl Eprint, word: Option<&str>) -> Result<Option<Stamp>,
     }
 }
 
-/// Has the state of an executor stand where it is told, if it is told.
+/// Gives the executor's state the stamp, if there is one.
 fn resume(rt: &impl Eprint, executor: &mut Executor, from: &Option<Stamp>) -> Result<(), ExitCode>
     requires alone { executor.old.earlier ≡ [] }
     requires sound { IsSoundState executor.old.cards executor.old.present }
@@ -55,25 +55,25 @@ fn resume(rt: &impl Eprint, executor: &mut Executor, from: &Option<Stamp>) -> Re
     Ok(())
 }
 
-/// Tells where the state of an executor stands.
+/// Prints the stamp of the executor's state.
 fn tell(rt: &impl Eprint, executor: &Executor) {
     if let Ok(text) = str::from_utf8(stamp_line(&executor.stamp()).as_slice()) {
         let _ = eprint!(rt; "{text}");
     }
 }
 
-/// A run of which more is asked than replies and an image.
+/// A run with its options.
 #[derive(Drop)]
 pub struct Asked<'a> {
     pub image: &'a str,
     pub batches: &'a str,
     pub workers: Workers,
     pub store: Option<&'a str>,
-    /// Whether it is to be told where the last state stands.
+    /// Whether to print the stamp of the last state.
     pub at: bool,
 }
 
-/// Runs batches on the state that an executor has, and stores the last state, where there is a file for it.
+/// Runs batches from the executor's present state on, and stores the last state if there is a file for it.
 #[inline(never)]
 fn run_batches<R: Files + Print + AllocGlobal + Host>(
     rt: &R,
@@ -115,7 +115,7 @@ where
     )
 }
 
-/// Whether a run left its executor at the state whose token and image went out.
+/// Whether a run left its executor at the state whose token and image were written.
 fn is_left_whole(ran: &Result<u64, StoredRunFault>) -> bool {
     match ran {
         Ok(_) => true,
@@ -124,7 +124,7 @@ fn is_left_whole(ran: &Result<u64, StoredRunFault>) -> bool {
     }
 }
 
-/// Runs batches on an executor that was loaded, and tells where the last state stands where that is asked.
+/// Runs batches on a loaded executor, and prints the last state's stamp if asked.
 fn run_loaded<R: Files + Print + Eprint + AllocGlobal + Host>(
     rt: &R,
     executor: &mut Executor,
@@ -153,7 +153,7 @@ where
     }
 }
 
-/// The file that takes the image of the last state, where one is asked for.
+/// Opens the file for the image of the last state, if there is to be one.
 fn store_of<R: Files + Eprint>(
     rt: &R,
     path: Option<&str>,
@@ -167,7 +167,7 @@ fn store_of<R: Files + Eprint>(
     }
 }
 
-/// Runs batches as it is asked, on the database of an image whose state stands where it is told; before any batch where it isn't told.
+/// Runs batches on the database of an image, whose state has the given stamp; without one it is a state before any batch.
 #[inline(never)]
 pub fn run_asked<R: Files + Print + Eprint + AllocGlobal + Host>(
     rt: &R,
@@ -196,7 +196,7 @@ where
     }
 }
 
-/// Answers commands on an executor that was loaded.
+/// Answers commands on a loaded executor.
 fn serve_loaded<R: Input + Print + Eprint + AllocGlobal + Host>(
     rt: &R,
     executor: &mut Executor,
@@ -227,7 +227,7 @@ fn serve_loaded<R: Input + Print + Eprint + AllocGlobal + Host>(
     }
 }
 
-/// Answers commands on the database of an image whose state stands there.
+/// Answers commands on the database of an image, whose state has the given stamp.
 #[inline(never)]
 pub fn serve_from<R: Files + Input + Print + Eprint + AllocGlobal + Host>(
     rt: &R,
