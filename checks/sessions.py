@@ -1,10 +1,10 @@
 #!/usr/bin/env python3
-"""sessions.py PROGRAM: runs the sessions that README.md and docs/ show, and compares what they print line by line.
+"""sessions.py PROGRAM: runs the sessions that README.md, docs/ and examples/ show, and compares what they print line by line.
 
 PROGRAM is the built eve-tpcc. A session is a block indented by four spaces that begins with `$ `; each such line is a command, and the
 lines up to the next one are what it prints. The sessions of a document share a folder, in which `examples` and `crates` are the
 repository's, `requests.csv` is that of the examples, and `eve-tpcc` is the program. `cat` of a file that isn't there makes it of the lines
-shown. Then each `old:` line of every wrong body must stand once in its file, as the prover's tool asks of it. A line tells what failed; the
+shown. A command has a minute. Then each `old:` line of every wrong body must stand once in its file, as the prover's tool asks of it. A line tells what failed; the
 last one is `N passed, M failed`. Ends with status 1 where anything failed."""
 import glob
 import os
@@ -58,8 +58,11 @@ def printed_by(command, wanted, folder):
         with open(os.path.join(folder, shown[1]), 'w', encoding='utf-8') as file:
             file.write(''.join(line + '\n' for line in wanted))
     names = {**os.environ, 'PATH': os.path.join(folder, 'bin') + os.pathsep + os.environ['PATH']}
-    ended = subprocess.run(['bash', '-c', command], cwd=folder, env=names, stdin=subprocess.DEVNULL, stdout=subprocess.PIPE,
-                           stderr=subprocess.STDOUT, timeout=SECONDS, check=False)
+    try:
+        ended = subprocess.run(['bash', '-c', command], cwd=folder, env=names, stdin=subprocess.DEVNULL, stdout=subprocess.PIPE,
+                               stderr=subprocess.STDOUT, timeout=SECONDS, check=False)
+    except subprocess.TimeoutExpired:
+        return [f'nothing within {SECONDS} seconds']
     return ended.stdout.decode('utf-8', 'replace').splitlines()
 
 
@@ -95,7 +98,7 @@ def wrong_bodies():
 
 
 def main(program):
-    documents = [os.path.join(TOP, 'README.md'), *sorted(glob.glob(f'{TOP}/docs/*.md'))]
+    documents = [f'{TOP}/README.md', *sorted(glob.glob(f'{TOP}/docs/*.md') + glob.glob(f'{TOP}/examples/**/*.md', recursive=True))]
     told = [fault for document in documents for fault in sessions(document, os.path.abspath(program))]
     told += wrong_bodies()
     faults = [fault for fault in told if fault]

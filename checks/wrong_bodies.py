@@ -1,10 +1,11 @@
 #!/usr/bin/env python3
-"""wrong_bodies.py [CRATE ..]: tries the wrong bodies of wrong_bodies/CRATE, of the crates that are named, or of all.
+"""wrong_bodies.py [CRATE ..]: tries the wrong bodies of the crates that are named, or of all.
 
-Each is an edit of a crate's code that its prover must refuse. The gate tries those in crates/CRATE/must-fail at each landing; the
-ones here take an hour and a half of processor together, and are tried by hand: those of a crate before its contracts, or functions
-that they edit, land changed. For the time of the run they stand among the gate's own, which `rt must-fail` tries with them. Run it at
-the repository's root. Ends with status 1 where an edit is not refused, or can't be applied."""
+Each is an edit of a crate's code that its prover must refuse. Those in crates/CRATE/must-fail the gate tries at each landing; those in
+checks/wrong_bodies/CRATE take an hour and a half of processor together, and are tried by hand: before a contract of the crate, or a
+function that they edit, lands changed. Here `rt must-fail` tries both: for the time of the run the latter stand among the former.
+Run it at the repository's root. Ends with status 1 where an edit is not refused, or can't be applied."""
+import glob
 import os
 import shutil
 import subprocess
@@ -13,10 +14,18 @@ import sys
 HERE = os.path.join(os.path.dirname(os.path.abspath(__file__)), "wrong_bodies")
 
 
+def crates_of_all():
+    """The crates that have wrong bodies in either folder."""
+    edits = glob.glob(os.path.join(HERE, "*", "*.edit")) + glob.glob(os.path.join("crates", "*", "must-fail", "*.edit"))
+    return sorted({os.path.dirname(edit).replace(os.sep + "must-fail", "").split(os.sep)[-1] for edit in edits})
+
+
 def try_crate(crate):
-    """Tries the crate's wrong bodies, the gate's among them; answers whether all are refused."""
+    """Tries the crate's wrong bodies of both folders; answers whether all are refused."""
     own, gate = os.path.join(HERE, crate), os.path.join("crates", crate, "must-fail")
-    names = sorted(name for name in os.listdir(own) if name.endswith(".edit"))
+    names = sorted(os.path.basename(edit) for edit in glob.glob(os.path.join(own, "*.edit")))
+    if not names and not os.path.isdir(gate):
+        sys.exit(f"{crate}: it has no wrong bodies")
     twice = [name for name in names if os.path.exists(os.path.join(gate, name))]
     if twice:
         sys.exit(f"{crate}: these stand in the gate, too: {', '.join(twice)}")
@@ -25,7 +34,7 @@ def try_crate(crate):
     try:
         for name in names:
             shutil.copy(os.path.join(own, name), gate)
-        return subprocess.run(["rt", "must-fail", crate]).returncode == 0
+        return subprocess.run(["rt", "must-fail", crate], check=False).returncode == 0
     finally:
         for name in names:
             os.remove(os.path.join(gate, name))
@@ -34,8 +43,7 @@ def try_crate(crate):
 
 
 def main():
-    crates = sys.argv[1:] or sorted(os.listdir(HERE))
-    failed = [crate for crate in crates if not try_crate(crate)]
+    failed = [crate for crate in sys.argv[1:] or crates_of_all() if not try_crate(crate)]
     if failed:
         sys.exit(f"not all refused: {' '.join(failed)}")
 

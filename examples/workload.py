@@ -1,11 +1,12 @@
 #!/usr/bin/env python3
-"""workload.py W C I --batches N --size S --seed K [--mix N,P,O,D,S] [--remote PERCENT]
+"""workload.py W C I [--batches N] [--size S] [--seed K] [--mix N,P,O,D,S] [--remote PERCENT]
 
 Writes batches of requests in TPC-C's mix, for the image of `eve-tpcc make W C I`: W warehouses, C customers in each district, I items.
-Customers and items are drawn by NURand (TPC-C clause 2.1.6), six payments of ten and six order statuses of ten name the customer by last
-name, and one new order in a hundred ends with an item that isn't there (clause 2.4.1.4). --mix has the weights of New-Order, Payment,
-Order-Status, Delivery and Stock-Level, 45,43,4,4,4 where it isn't given (clause 5.2.3); --remote is how many order lines in a hundred
-another warehouse supplies, 1 where it isn't given."""
+Customers, last names and items are drawn by NURand (TPC-C clause 2.1.6), six payments of ten and six order statuses of ten name the
+customer by last name, and one new order in a hundred ends with an item that isn't there (clause 2.4.1.4). There are 10 batches of 1,000
+requests where it isn't said, of seed 1. --mix has the weights of New-Order, Payment, Order-Status, Delivery and Stock-Level, 45,43,4,4,4
+where it isn't given (clause 5.2.3); --remote is how many order lines in a hundred another warehouse supplies, 1 where it isn't given. The
+same words give the same bytes."""
 import argparse
 import random
 
@@ -18,7 +19,7 @@ class Draw:
     def __init__(self, size, seed):
         self.warehouses, self.customers, self.items = size
         self.random = random.Random(seed)
-        self.constants = {spread: self.random.randint(0, spread) for spread in (1023, 8191)}
+        self.constants = {spread: self.random.randint(0, spread) for spread in (255, 1023, 8191)}
 
     def is_within(self, percent):
         return self.random.random() * 100 < percent
@@ -39,9 +40,9 @@ class Draw:
         return self.random.choice(others) if others else home
 
     def customer(self):
-        """How a request names its customer: by last name, of which a made database has ten, or by number."""
+        """How a request names its customer: by last name, of which a made database has ten at most, or by number."""
         if self.is_within(60):
-            return f'L,NAME{self.between(0, min(9, self.customers))}'
+            return f'L,NAME{self.skewed(255, 1, min(10, self.customers)) % 10}'
         return f'I,{self.skewed(1023, 1, self.customers)}'
 
 
@@ -76,15 +77,23 @@ def stock_level(draw, w, d, _):
 KINDS = [new_order, payment, order_status, delivery, stock_level]
 
 
+def weights(word):
+    """The weights of a mix."""
+    numbers = [int(number) for number in word.split(',')]
+    if len(numbers) != len(KINDS) or min(numbers) < 0 or max(numbers) == 0:
+        raise ValueError
+    return numbers
+
+
 def main():
     ask = argparse.ArgumentParser(description=__doc__, formatter_class=argparse.RawDescriptionHelpFormatter)
     for name, most in ('warehouses', 100), ('customers', 3_000), ('items', 100_000):
         ask.add_argument(name, type=int, choices=range(1, most + 1), metavar=name[0].upper())
-    ask.add_argument('--batches', type=int, default=10)
+    ask.add_argument('--batches', type=int, default=10, metavar='N')
     ask.add_argument('--size', type=int, default=1_000, choices=range(1_025), metavar='S')
-    ask.add_argument('--seed', type=int, default=1)
-    ask.add_argument('--mix', type=lambda words: [int(word) for word in words.split(',')], default=[45, 43, 4, 4, 4])
-    ask.add_argument('--remote', type=float, default=1)
+    ask.add_argument('--seed', type=int, default=1, metavar='K')
+    ask.add_argument('--mix', type=weights, metavar='N,P,O,D,S', default=[45, 43, 4, 4, 4])
+    ask.add_argument('--remote', type=float, default=1, metavar='PERCENT')
     ask = ask.parse_args()
     draw = Draw((ask.warehouses, ask.customers, ask.items), ask.seed)
     for batch in range(ask.batches):
