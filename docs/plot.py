@@ -1,8 +1,8 @@
 #!/usr/bin/env python3
 """plot.py: draws speeds.svg from speeds.txt, both beside it.
 
-speeds.txt has a line for each workload: its name, then the requests a second by 1, 2, 4 and 8 workers of this program, a bar, and
-those of the unverified program. Each line of the plot is scaled to the fastest of its workload."""
+speeds.txt has a line for each workload: its name, then the requests per second with 1, 2, 4 and 8 workers of this program, a bar, and
+those of the peer. Each line of the plot is scaled to the fastest of its workload."""
 import os
 
 HERE = os.path.dirname(os.path.realpath(__file__))
@@ -50,7 +50,7 @@ def main():
             '<rect width="100%" height="100%" fill="white"/>']
     for number, (name, ours, theirs) in enumerate(charts):
         text += chart(number, name, ours, theirs)
-    text += ['<text x="%d" y="%d">requests a second by workers; blue: this program, grey: the unverified one</text>' % (LEFT, height - 12), '</svg>']
+    text += ['<text x="%d" y="%d">requests per second by workers; blue: this program, grey: the peer</text>' % (LEFT, height - 12), '</svg>']
     with open(os.path.join(HERE, 'speeds.svg'), 'w') as svg:
         svg.write('\n'.join(text) + '\n')
 
