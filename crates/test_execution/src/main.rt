@@ -19,7 +19,7 @@
 //! | `token K` | the token of the state is that of record K of the part's records | |
 //! | `told N` | the gate was told of N entries and leaves, each in turn | |
 //! | `parallel K` | record K is one of a batch of which no request strayed | |
-//! | `reran K` | record K is one of a batch that was executed once more | |
+//! | `reran K` | record K is one of a batch of which a request strayed | |
 //! | `replies K N TEXT` | the replies of record K, but for the first N, have this text, with `;` in the place of line ends | |
 //! | `same K L` | records K and L say the same | |
 //! | `paid N` | of the first eight payments those up to number N have a row | |
