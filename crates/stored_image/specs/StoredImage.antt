@@ -27,8 +27,7 @@ use Rattle.stored_image.specs.declared.store.CardPart.TheVariants as part
 use Rattle.stored_image.specs.declared.stored_record.RowPart.{RowPart}
 use Rattle.stored_image.specs.declared.stored_record.RowPart.TheVariants as row_part
 
--- what is said of a card: of a district and an item by itself, of any other with its row, and nothing where that isn't
--- there
+-- the record of a card: a district's and an item's alone, any other's with its row, and none if that isn't there
 abbrev pub card_said : Rows → Card → Option ImageRecord
 card_said rows (card.Warehouse c) = option_map (λ r. said.Warehouse c r) (warehouse_row rows c.warehouse)
 card_said rows (card.District c) = Some (said.District c)
@@ -36,7 +35,7 @@ card_said rows (card.Customer c) = option_map (λ r. said.Customer c r) (custome
 card_said rows (card.Stock c) = option_map (λ r. said.Stock c r) (stock_row rows c.warehouse c.item)
 card_said rows (card.Item c) = Some (said.Item c)
 
--- what is said in a part of an image of a row by itself
+-- the record of a row of its own, in a part of an image
 abbrev pub row_said : RowPart → RowKey × Row → Option ImageRecord
 row_said row_part.Districts (key.DistrictYtd w d, row.DistrictYtd r) = Some (said.DistrictYtd w d r)
 row_said row_part.Districts (key.DistrictNext w d, row.DistrictNext r) = Some (said.DistrictNext w d r)
@@ -46,7 +45,7 @@ row_said row_part.Others (key.OrderLine w d o number, row.OrderLine r) = Some (s
 row_said row_part.Others (key.History number, row.History r) = Some (said.History number r)
 row_said _ _ = None
 
--- whether the row of this key is said by itself
+-- whether the row of this key has a record of its own
 abbrev pub stands_alone : RowKey → Bool
 stands_alone (key.Order w d o) = true
 stands_alone (key.NewOrder w d o) = true
@@ -56,11 +55,11 @@ stands_alone (key.DistrictYtd w d) = true
 stands_alone (key.DistrictNext w d) = true
 stands_alone _ = false
 
--- the new set has the keys of the old one, and those of these rows that are said by themselves
+-- the new set has the keys of the old one, and those of these rows that have records of their own
 abbrev pub HasAlsoAlone : BTreeSet RowKey → Rows → BTreeSet RowKey → Type 0
 HasAlsoAlone old rows new = (k : RowKey) → contains row_key_cmp new k ≡ (contains row_key_cmp old k || (stands_alone k && has_row rows k))
 
--- what is said in a part of an image of the row at a key by itself
+-- the record of its own that the row of a key has, in a part of an image
 abbrev pub said_at : RowPart → Rows → RowKey → Option ImageRecord
 said_at p rows k = option_and_then (λ r. row_said p (k, r)) (finmap.get rows k)
 
@@ -73,15 +72,15 @@ stands_in part.Items (card_key.Item i) = true
 stands_in part.Stocks (card_key.Stock w i) = true
 stands_in _ _ = false
 
--- what is said of the cards of a part, in the order of their keys
+-- the records of a part's cards, in key order
 abbrev pub part_said : CardPart → Rows → List (CardKey × Card) → List ImageRecord
 part_said p rows cards = filter_map (λ e. card_said rows e.1) (where_key card_key_cmp (stands_in p) cards)
 
--- what is said of the rows of a part by themselves, in the order of their keys
+-- the records of a part's rows, in key order
 abbrev pub rows_said : RowPart → List (RowKey × Row) → List ImageRecord
 rows_said p rows = filter_map (row_said p) rows
 
--- what is said of a database: the warehouses and the districts, the rows of the districts, the customers, the items, the
+-- the records of a database: the warehouses and the districts, the rows of the districts, the customers, the items, the
 -- stocks, and then the orders, the new orders, the order lines and the history, each in the order of their keys
 unfoldable pub image_said : Database → List ImageRecord
 image_said db =
