@@ -11,15 +11,15 @@ use Rattle.executor.specs.States.{IsSoundState}
 use Rattle.executor.specs.declared.path.Path.TheVariants as path
 use Rattle.executor.specs.declared.record.Record.{Record}
 
--- a call that was answered: a batch was executed, on workers or without them, with this record; the oldest one was committed; the
--- executor went back to the state of this number; or any of these was refused
+-- a call: a batch was executed, with workers or without, and this is its record; the oldest batch was committed; the executor
+-- rolled back to the state with this number; or any of these was refused
 pub data Call : Type 0 where
   Executed : Batch → Record → Call
   Committed : Call
   ReturnedTo : ℕ → Call
   Refused : Call
 
--- the record of a batch that was executed on workers or without them
+-- the record of a batch that was executed with workers or without
 abbrev pub IsRecordOfEither : Cards → State → Batch → Record → Type 0
 IsRecordOfEither cards state batch r = IsRecordOf cards state batch (path_of cards state batch) r ⊎ IsRecordOf cards state batch path.Sequential r
 
@@ -37,7 +37,7 @@ abbrev pub LeadOn : List Call → Line → Line → Type 0
 LeadOn [] old new = new ≡ old
 LeadOn (call ∷ calls) old new = (between : Line) × Leads call old between × LeadOn calls between new
 
--- ---- the batches that are kept: each from its execution until the executor goes back to a state before it
+-- ---- the kept batches: each from its execution until the executor rolls back to a state before it
 -- after a call
 abbrev pub kept_by : State → Call → Kept → Kept
 kept_by start (Executed batch r) kept = with_batch batch kept

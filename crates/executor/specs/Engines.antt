@@ -1,4 +1,4 @@
--- What a batch comes to on an engine, in the words of the serial answer.
+-- The results of a batch on an engine, in terms of the serial answer.
 use Rattle.std.specs.Prelude.{List, Option}
 use Rattle.requests.specs.declared.reply.Reply.{Reply}
 use Rattle.tpcc_model.specs.Serial.{State, batch_replies, batch_rows}

@@ -1,4 +1,4 @@
--- What the calls of an executor answer.
+-- The results of an executor's calls.
 use Rattle.std.specs.Prelude.{◌≡◌, ℕ, ◌+◌, Bool, ◌||◌, nat_lt, if◌then◌else◌, length, Option, Some, None}
 use Rattle.catalog.specs.CardMap.{Cards}
 use Rattle.requests.specs.declared.request.Batch.{Batch}
@@ -13,11 +13,11 @@ use Rattle.executor.specs.declared.refusal.Refusal.{Refusal}
 use Rattle.executor.specs.declared.refusal.Refusal.TheVariants as refusal
 use Rattle.tpcc_rows.specs.declared.id.TheConstants.{END_OF_NUMBERS}
 
--- the number of the batch, or that of one of its requests, would pass its limit
+-- the batch's number, or that of one of its requests, would exceed its limit
 abbrev pub exhausts : State → Batch → Bool
 exhausts state batch = nat_lt LAST_NUMBER (state.sequence + 1) || nat_lt END_OF_NUMBERS (state.next + length batch.requests)
 
--- why the batch isn't executed, whatever memory there is; so many batches may be uncommitted
+-- why the batch is refused, apart from lack of memory; `most` batches may be uncommitted
 abbrev pub refusal_for : ℕ → Line → Batch → Option Refusal
 refusal_for most line batch =
     if nat_lt MOST_REQUESTS (length batch.requests) then Some refusal.BatchTooLong
@@ -25,7 +25,7 @@ refusal_for most line batch =
     else if nat_lt (length line.earlier) most then None
     else Some refusal.PointsFull
 
--- a call that is refused for this reason, or else for memory
+-- a call is refused for this reason, or else for lack of memory
 abbrev pub IsRefusedFor : Option Refusal → Refusal → Type 0
 IsRefusedFor None e = e ≡ refusal.Memory
 IsRefusedFor (Some reason) e = e ≡ reason
@@ -35,7 +35,7 @@ abbrev pub path_in : {W : Type 0} → Option W → Cards → State → Batch →
 path_in None cards state batch = path.Sequential
 path_in (Some workers) cards state batch = path_of cards state batch
 
--- the record of a batch that a state met
+-- the record of a batch that met this state
 pub record IsRecordOf (cards : Cards) (state : State) (batch : Batch) (how : Path) (r : Record) : Type 0 where
   pub sequence : r.sequence ≡ state.sequence + 1
   pub first : r.first ≡ state.next

@@ -27,11 +27,11 @@ pub record Completed : Type 0 where
   pub token : List ℕ
   pub path : Path
 
--- as its record tells it
+-- as in its record
 abbrev pub completed : Record → Completed
 completed r = record { sequence = r.sequence; first = r.first; replies = r.replies.items; token = r.token; path = r.path }
 
--- as one thread completes it, which met this state; the path is that of the batch's verdict and strays
+-- as one thread completes it, from this state on; the path is that of the batch's verdict and strays
 abbrev pub completed_serially : Cards → State → Batch → Completed
 completed_serially cards state batch = record {
   sequence = state.sequence + 1;
@@ -51,9 +51,9 @@ pub record MeetsConditions (rows : Rows) : Type 0 where
   pub condition_1 : Condition1 rows
   pub conditions_2_to_4 : (w d : ℕ) (r : DistrictNextRow) → map.get rows (key.DistrictNext w d) ≡ Some (row.DistrictNext r) → IsConsistent rows w d r.next_order
 
--- the first of the batches were completed from this state on, as told, and the database is at the present state
+-- the first of the batches were completed from this state on, with these results, and the database is at the present state
 pub record Headline (cards : Cards) (start : State) (batches : List Batch) (told : List Completed) (present : State) : Type 0 where
-  -- each is told as one thread completes it: the replies, the token and the path
+  -- each has the results of one thread: the replies, the token and the path
   pub batches_as_serial : told ≡ all_serially cards start (take (length told) batches)
   -- the tables, the next number and the token are those that one thread leaves
   pub state_as_serial : present ≡ serial cards start (take (length told) batches)

@@ -1,4 +1,4 @@
--- A batch whose requests run in its order, each within what it declared.
+-- A batch executed in order, each request within what it declared.
 use Rattle.std.specs.Prelude.{◌≡◌, Bool, List}
 use Rattle.serializability.specs.InTurn.{strays_in_turn}
 use Rattle.serializability.specs.Levels as levels
@@ -23,7 +23,7 @@ use Rattle.executor.specs.declared.level.Plan.{Plan}
 abbrev pub job_of : Declared → Job Granule Request
 job_of declared = record { number = declared.number; request = declared.request.now; declared = declared.footprint.now }
 
--- what a planned batch replies and leaves, its requests executed in their order
+-- the replies and rows of a planned batch, executed in order
 abbrev pub plan_replies_in_turn : Cards → Rows → Plan → List Reply
 plan_replies_in_turn cards rows plan = replies (database cards rows) plan.batch.now.moment plan.first plan.batch.now.requests
 
@@ -35,7 +35,7 @@ abbrev pub plan_strays_in_turn : Cards → Rows → Plan → Bool
 plan_strays_in_turn cards rows plan
     = strays_in_turn (tpcc cards plan.batch.now.moment) rows (levels.jobs plan.first plan.batch.now.requests plan.footprints.now)
 
--- the law: so a batch strays, by what its requests declare
+-- the law: exactly then the batch strays, by its requests' declared footprints
 abbrev pub StraysAreInTurn : Type 0
 StraysAreInTurn = (cards : Cards) (state : State) (batch : Batch)
     → IsSound (database cards state.rows) → AreWithinLimits batch.moment state.next batch.requests

@@ -1,11 +1,11 @@
--- The batches that an executor keeps, and the line that one thread makes of them.
+-- The batches that an executor keeps, and the line that one thread gets from them.
 use Rattle.std.specs.Prelude.{ℕ, ◌+◌, ◌-◌, List, [], ◌∷◌, ◌++◌, drop, length, take}
 use Rattle.catalog.specs.CardMap.{Cards}
 use Rattle.requests.specs.declared.request.Batch.{Batch}
 use Rattle.tpcc_model.specs.Serial.{State, after_batch, serial}
 use Rattle.executor.specs.Lines.{Line}
 
--- those that are committed, and those that aren't, each list in the order of execution
+-- the committed ones and the uncommitted ones, each list in order of execution
 pub record Kept : Type 0 where
   pub committed : List Batch
   pub uncommitted : List Batch
@@ -25,7 +25,7 @@ with_batch batch kept = record { committed = kept.committed; uncommitted = kept.
 abbrev pub with_committed : Kept → Kept
 with_committed kept = record { committed = kept.committed ++ take 1 kept.uncommitted; uncommitted = drop 1 kept.uncommitted }
 
--- the batches up to the one of this number, where the one before the first has the number `start`
+-- the batches up to the one with this number, if the one before the first has the number `start`
 abbrev pub up_to : ℕ → ℕ → Kept → Kept
 up_to start sequence kept =
     record { committed = kept.committed; uncommitted = take (sequence - (start + length kept.committed)) kept.uncommitted }

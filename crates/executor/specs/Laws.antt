@@ -1,4 +1,4 @@
--- Laws of requests that are executed out of their order.
+-- Laws of execution out of order.
 use Rattle.std.specs.Prelude.{◌≡◌, ◌≢◌, ◌≤◌, ◌<◌, ◌+◌, ℕ, false, List, [], ◌∷◌, length, map, take, Some, slice_get}
 use Rattle.std.specs.FinMap.{find}
 use Rattle.std.specs.Ordering.{nat_cmp}
@@ -30,7 +30,7 @@ use Rattle.executor.specs.States.{AreAllWithin, AreWithinLimits, IsSoundState}
 use Rattle.executor.specs.declared.record.Record.{Record}
 use Rattle.executor.specs.declared.run.RunEnd.{RunEnd}
 
--- two requests, each of which lies within its footprint where it is stepped, and neither footprint writes what the other
+-- two requests, each of which is within its footprint when it is stepped, where neither footprint writes what the other
 -- reads: they may be stepped the other way round
 abbrev pub RequestsSwap : Type 0
 RequestsSwap = (db : Database) (moment m n : ℕ) (a b : Request) (e f : Footprint Granule)
@@ -38,7 +38,7 @@ RequestsSwap = (db : Database) (moment m n : ℕ) (a b : Request) (e f : Footpri
     → IsWithin (touch db a) e → IsWithin (touch (record db { rows = after (steps_at db.cards moment) db.rows m a }) b) f → IsApart e f
     → IsSwapped (tpcc db.cards moment) db.rows m a n b
 
--- what the run of levels comes to: the requests one after the other, on a database that stays sound
+-- executing levels gives the same as executing the requests in order, on a database that stays sound
 pub record IsSerialRun (db : Database) (moment first : ℕ) (requests : List Request) (footprints : List (Footprint Granule)) : Type 0 where
   pub serial : IsSerial (tpcc db.cards moment) db.rows first requests (levels_by first requests footprints)
   pub sound : IsSound (record db { rows = levels.run_rows (tpcc db.cards moment) db.rows (levels_by first requests footprints) })
@@ -50,7 +50,7 @@ LevelsAreSerial = (db : Database) (moment first : ℕ) (requests : List Request)
     → levels.strays (tpcc db.cards moment) db.rows (levels_by first requests footprints) ≡ false
     → IsSerialRun db moment first requests footprints
 
--- the levels of a batch reply, place by place, and leave what its requests do one after the other
+-- the levels of a batch have, place by place, the replies of its requests in order, and leave the same rows
 pub record RunsAsSerial (cards : Cards) (state : State) (batch : Batch) : Type 0 where
   pub replies : (place : ℕ) → find nat_cmp (state.next + place) (replies_in_levels cards state batch) ≡ slice_get (batch_replies cards state batch) place
   pub rows : rows_in_levels cards state batch ≡ batch_rows cards state batch
@@ -61,15 +61,15 @@ DeclaredLevelsAreSerial = (cards : Cards) (state : State) (batch : Batch)
     → IsSound (database cards state.rows) → AreWithinLimits batch.moment state.next batch.requests
     → strays cards state batch ≡ false → RunsAsSerial cards state batch
 
--- a later request meets an earlier one from a greater level only: where i stands before j, on the same level or a greater
--- one, they don't meet
+-- a later request meets an earlier one from a higher level only: if i is before j, on the same level or a higher one, they
+-- don't meet
 abbrev pub MeetOnlyAbove : Type 0
 MeetOnlyAbove = (footprints : List (Footprint Granule)) (i j : ℕ) (e f : Footprint Granule) (k l : ℕ) → i < j
     → slice_get footprints i ≡ Some e → slice_get footprints j ≡ Some f
     → slice_get (levels.levels meets footprints) i ≡ Some k → slice_get (levels.levels meets footprints) j ≡ Some l
     → l ≤ k → meets e f ≡ false
 
--- footprints are cut so that each has its place
+-- footprints are cut so that each is there once
 abbrev pub CutsAreWhole : Type 0
 CutsAreWhole = (footprints : List (Footprint Granule)) → IsCutOf (length footprints) (cut_by footprints)
 
@@ -88,7 +88,7 @@ abbrev pub SerialBatchesHaveHeadline : Type 0
 SerialBatchesHaveHeadline = (cards : Cards) (start : State) (batches : List Batch) → IsSoundState cards start → AreAllWithin cards start batches
     → Headline cards start batches (all_serially cards start batches) (serial cards start batches)
 
--- of a batch that was executed, whoever executed it
+-- of a batch that was executed, by whichever executor
 abbrev pub ExecutionsHaveHeadline : Type 0
 ExecutionsHaveHeadline = (old new : Line) (batch : Batch) (r : Record)
     → IsSoundState old.cards old.present → AreWithinLimits batch.moment old.present.next batch.requests
@@ -103,17 +103,17 @@ RunsHaveHeadline = (db : Database) (most : ℕ) (new : Line) (batches : List Bat
     → Headline db.cards (opening db.cards db.rows) batches (map completed end.records.items) new.present
 
 -- ---- the line of an executor
--- calls that were answered from this state on, which became this line
+-- calls from this state on, which led to this line
 pub record IsSerialLine (cards : Cards) (start : State) (calls : List Call) (line : Line) : Type 0 where
-  -- each state is the one that one thread leaves after the batches that are kept up to it
+  -- each state is the one that one thread leaves after the batches kept up to it
   pub states_as_serial : line ≡ serial_line cards start (kept_after start calls)
-  -- each record is that of one thread, on the state after those that were kept when the batch came
+  -- each record is that of one thread, on the state after the batches kept when this one came
   pub records_as_serial : (count : ℕ) (batch : Batch) (r : Record) → slice_get calls count ≡ Some (Executed batch r)
       → IsRecordOfEither cards (serial cards start (all_kept (kept_after start (take count calls)))) batch r
   -- before the first call and after each of them the present state is sound
   pub sound : (count : ℕ) → count ≤ length calls → IsSoundState cards (serial cards start (all_kept (kept_after start (take count calls))))
 
--- whatever calls led to it from a sound state alone
+-- whatever calls led to it from a single sound state
 abbrev pub LinesAreSerial : Type 0
 LinesAreSerial = (cards : Cards) (start : State) (calls : List Call) (line : Line) → IsSoundState cards start
     → LeadOn calls (serial_line cards start none_kept) line → IsSerialLine cards start calls line

@@ -1,5 +1,5 @@
--- The run of a batch in levels. Each request declares what it touches as the batch begins; by that the batch is cut into
--- levels, and each level is run on the rows that the one before it left.
+-- A batch in levels. Each request declares a footprint, predicted as the batch begins; by these the batch is cut into
+-- levels, and each level is executed on the rows that the one before it left.
 use Rattle.std.specs.Prelude.{◌≡◌, ◌<◌, ◌≤◌, ℕ, Bool, List, length, Some, slice_get}
 use Rattle.std.specs.List.Sorted.{IsStrictlyIncreasing}
 use Rattle.serializability.specs.Footprints.{Footprint, Has}
@@ -19,15 +19,15 @@ use Rattle.tpcc_model.specs.Serial.{State}
 use Rattle.profiles.specs.Declarations.{declared}
 
 -- ---- any footprints
--- one writes what the other reads or writes, as far as bits tell
+-- one writes what the other reads or writes, by their bits
 abbrev pub meets : Footprint Granule → Footprint Granule → Bool
 meets = meets_by bit
 
--- the places of each level, in rising order
+-- the places of each level, in ascending order
 abbrev pub cut_by : List (Footprint Granule) → List (List ℕ)
 cut_by footprints = levels.cut (levels.levels meets footprints)
 
--- a cut of so many requests: each place stands in one level, the places of a level rise, and no level is empty
+-- a cut of `count` requests: each place is on one level, the places of a level ascend, and no level is empty
 pub record IsCutOf (count : ℕ) (cut : List (List ℕ)) : Type 0 where
   pub there : (place : ℕ) → place < count → (level : ℕ) × (places : List ℕ) × (slice_get cut level ≡ Some places) × Has places place
   pub below : (level place : ℕ) (places : List ℕ) → slice_get cut level ≡ Some places → Has places place → place < count
@@ -36,12 +36,12 @@ pub record IsCutOf (count : ℕ) (cut : List (List ℕ)) : Type 0 where
   pub filled : (level : ℕ) (places : List ℕ) → slice_get cut level ≡ Some places → 1 ≤ length places
   pub short : (level : ℕ) (places : List ℕ) → slice_get cut level ≡ Some places → length places ≤ count
 
--- the requests of each level, with their numbers, of which this is the first, and their footprints
+-- the requests of each level with their footprints and their numbers, the first of which is given
 abbrev pub levels_by : ℕ → List Request → List (Footprint Granule) → List (List (Job Granule Request))
 levels_by first requests footprints = levels.batch_levels meets first requests footprints
 
 -- ---- those that the requests of a batch declare
--- told as it begins
+-- predicted as it begins
 abbrev pub declared_footprints : Cards → State → Batch → List (Footprint Granule)
 declared_footprints cards state batch = declared (database cards state.rows) batch.requests
 
@@ -52,7 +52,7 @@ declared_levels cards state batch = levels_by state.next batch.requests (declare
 abbrev pub strays : Cards → State → Batch → Bool
 strays cards state batch = levels.strays (tpcc cards batch.moment) state.rows (declared_levels cards state batch)
 
--- what the requests reply in their levels, each with its number
+-- the replies of the requests in their levels, each with its number
 abbrev pub replies_in_levels : Cards → State → Batch → List (ℕ × Reply)
 replies_in_levels cards state batch = levels.run_replies (tpcc cards batch.moment) state.rows (declared_levels cards state batch)
 

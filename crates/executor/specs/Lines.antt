@@ -1,4 +1,4 @@
--- What an executor stands for: the states that it can go back to, and the present one.
+-- The value of an executor: the states that it can roll back to, and the present one.
 use Rattle.std.specs.Prelude.{◌≡◌, ◌≢◌, ℕ, ◌≤◌, List, [], ◌∷◌, ◌++◌, drop, length, map, refl}
 use Rattle.std.specs.List.{All, zip}
 use Rattle.std.specs.Coded.{Coded, code_by, coded×, coded_list, coded_ℕ}
@@ -13,7 +13,7 @@ use Rattle.executor.specs.declared.next_batch.TheConstants.{LAST_NUMBER}
 use Rattle.executor.specs.declared.stamp.Stamp.{Stamp}
 use Rattle.tpcc_rows.specs.declared.id.TheConstants.{END_OF_NUMBERS}
 
--- the cards; the last committed state and those after it, the oldest first, without the present one; the present state
+-- the cards; the last committed state and those after it, oldest first, without the present one; the present state
 pub record Line : Type 0 where
   pub cards : Cards
   pub earlier : List State
@@ -32,7 +32,7 @@ line_code = code_by (Cards × (List State × State)) (coded× cards_code (coded�
 abbrev pub state_of : Rows → Stamp → State
 state_of rows stamp = record { rows = rows; next = stamp.next; sequence = stamp.sequence; token = stamp.token }
 
--- the states at points, of which what is kept beside the rows stands apart
+-- the states at points: their rows, with their stamps kept apart
 abbrev pub states_of : List Rows → List Stamp → List State
 states_of points stamps = map (λ kept. state_of kept.0 kept.1) (zip points stamps)
 
@@ -45,7 +45,7 @@ opening_line cards rows = record { cards = cards; earlier = []; present = openin
 abbrev pub extended : Line → Batch → Line
 extended line batch = record { cards = line.cards; earlier = line.earlier ++ line.present ∷ []; present = after_batch line.cards line.present batch }
 
--- after the oldest batch that wasn't was committed
+-- after the oldest uncommitted batch was committed
 abbrev pub committed : Line → Line
 committed line = record { cards = line.cards; earlier = drop 1 line.earlier; present = line.present }
 
@@ -53,7 +53,7 @@ committed line = record { cards = line.cards; earlier = drop 1 line.earlier; pre
 abbrev pub states : Line → List State
 states line = line.earlier ++ line.present ∷ []
 
--- back at the state of this number: it is the present one, and those after it are gone
+-- rolled back to the state with this number: it is the present one, and those after it are dropped
 pub record IsReturned (sequence : ℕ) (old new : Line) : Type 0 where
   pub cards : new.cards ≡ old.cards
   pub present : new.present.sequence ≡ sequence

@@ -1,4 +1,4 @@
--- The levels of a batch by what its requests declared, on the rows of a database.
+-- The levels of a batch by its requests' declared footprints, on the rows of a database.
 use Rattle.std.specs.Prelude.{ℕ, Bool, List}
 use Rattle.std.specs.List.{list_any}
 use Rattle.serializability.specs.Footprints.{Has}
@@ -25,7 +25,7 @@ level_jobs level = levels.jobs_at (levels.jobs level.plan.first level.plan.batch
 abbrev pub level_strays : Cards → Rows → Level → Bool
 level_strays cards rows level = list_any (levels.job_strays (tpcc cards level.plan.batch.now.moment) rows) (level_jobs level)
 
--- what they reply, each with its number
+-- their replies, each with its number
 abbrev pub level_replies : Cards → Rows → Level → List (ℕ × Reply)
 level_replies cards rows level = levels.level_replies (tpcc cards level.plan.batch.now.moment) rows (level_jobs level)
 

@@ -1,4 +1,4 @@
--- The refusals of the executor, as they are reported.
+-- The executor's refusals, as they are reported.
 use Rattle.std.specs.Prelude.{ℕ, List, codes}
 use Rattle.executor.specs.declared.refusal.Refusal.{Refusal}
 use Rattle.executor.specs.declared.refusal.Refusal.TheVariants as refusal

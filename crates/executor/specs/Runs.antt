@@ -15,7 +15,7 @@ use Rattle.executor.specs.declared.run.RunEnd.{RunEnd}
 abbrev pub alone : Line → Line
 alone line = record { cards = line.cards; earlier = []; present = line.present }
 
--- after these batches, all committed; as it was, where there are none
+-- after these batches, all committed; unchanged if there are none
 abbrev pub line_after : Line → List Batch → Line
 line_after line [] = line
 line_after line (batch ∷ batches) = record { cards = line.cards; earlier = []; present = serial line.cards line.present (batch ∷ batches) }
@@ -27,14 +27,14 @@ AreRecordsOf cards state [] (r ∷ records) = ⊥
 AreRecordsOf cards state (batch ∷ batches) (r ∷ records) =
     IsRecordOf cards state batch (path_of cards state batch) r × AreRecordsOf cards (after_batch cards state batch) batches records
 
--- why no batch of those that are left was executed: there is none; room for the records was refused, so that there is none
--- either; or the next batch is refused, on this line
+-- why none of the remaining batches was executed: there is none; there was no memory for the records, so no batch was executed
+-- at all; or the next batch is refused, on this line
 abbrev pub IsStopAt : ℕ → Line → List Record → List Batch → Option Refusal → Type 0
 IsStopAt most line records left None = left ≡ []
 IsStopAt most line records left (Some e) =
     ((records ≡ []) × (e ≡ refusal.Memory)) ⊎ ((batch : Batch) × (rest : List Batch) × (left ≡ batch ∷ rest) × IsRefusedFor (refusal_for most line batch) e)
 
--- so many batches may be uncommitted
+-- `most` batches may be uncommitted
 pub record IsRunOf (most : ℕ) (old new : Line) (batches : List Batch) (end : RunEnd) : Type 0 where
   pub records : AreRecordsOf old.cards old.present batches end.records.items
   pub line : new ≡ line_after old (take (length end.records.items) batches)

@@ -1,4 +1,4 @@
--- Where states stand, and databases that go on from there.
+-- The stamps of states, and resuming at a stamp.
 use Rattle.std.specs.Prelude.{◌≤◌}
 use Rattle.tpcc_model.specs.Serial.{State}
 use Rattle.tpcc_rows.specs.Limits.{IsBetween}
@@ -15,6 +15,6 @@ stamp_of state = record { sequence = state.sequence; next = state.next; token = 
 abbrev pub IsWithinLimits : Stamp → Type 0
 IsWithinLimits stamp = (stamp.sequence ≤ LAST_NUMBER) × IsBetween 1 END_OF_NUMBERS stamp.next
 
--- a line whose present state stands here; its cards and rows stay
+-- a line whose present state has this stamp; its cards and rows stay
 abbrev pub resumed : Line → Stamp → Line
 resumed line stamp = record { cards = line.cards; earlier = line.earlier; present = state_of line.present.rows stamp }

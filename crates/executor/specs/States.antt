@@ -18,12 +18,12 @@ use Rattle.tpcc_rows.specs.declared.id.TheConstants.{END_OF_NUMBERS}
 abbrev pub HasHistoryBelow : Rows → ℕ → Type 0
 HasHistoryBelow rows next = (n : ℕ) → IsSome (map.get rows (key.History n)) → n < next
 
--- the database is sound, and the numbers of HISTORY are those of requests that were
+-- the database is sound, and the numbers of HISTORY are those of past requests
 pub record IsSoundState (cards : Cards) (state : State) : Type 0 where
   pub database : IsSound (database cards state.rows)
   pub history : HasHistoryBelow state.rows state.next
 
--- the moment, the requests, and their numbers, of which this is the first, are within their limits
+-- the moment, the requests and their numbers, from this first one on, are within their limits
 pub record AreWithinLimits (moment first : ℕ) (requests : List Request) : Type 0 where
   pub moment_within : IsBetween 0 999999999999 moment
   pub each_request : All IsRequest requests

@@ -1,4 +1,4 @@
--- The line that says what an image holds.
+-- The line that `check` writes.
 use Rattle.std.specs.Prelude.{◌≡◌, ℕ, List, ◌++◌, codes, decimal, length, Ok, Option, Some, None}
 use Rattle.std.specs.FinMap as map
 use Rattle.std.specs.Io.KnownBytes.{Appends, Keeps}
@@ -33,11 +33,11 @@ check_text cards state =
 abbrev pub opening_text : Database → List ℕ
 opening_text db = check_text db.cards (opening db.cards db.rows)
 
--- the image gives a database, whose line was written
+-- the image loads as a database, whose line was written
 abbrev pub ChecksImage : List ℕ → Taken → Taken → Type 0
 ChecksImage bytes old new = (db : Database) × (image bytes ≡ Ok db) × Appends old new (opening_text db)
 
--- what is left where the line isn't written whole
+-- what is left if the line isn't written completely
 abbrev pub LeavesCheck : RunFault → List ℕ → Taken → Taken → Type 0
 LeavesCheck (run_fault.Load e) bytes old new = IsImageFault e bytes × Keeps old new
 LeavesCheck (run_fault.Exec refusal.Memory) bytes old new = Keeps old new

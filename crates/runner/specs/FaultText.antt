@@ -32,7 +32,7 @@ name_of (run_fault.Exec r) = refusal_name r
 name_of run_fault.Write = codes "Write"
 name_of run_fault.Memory = codes "Memory"
 
--- the record at fault
+-- the number of the bad record
 abbrev pub place_of : RunFault → Option ℕ
 place_of (run_fault.Load e) = image.place_of e
 place_of (run_fault.Read e) = batches.place_of e
@@ -45,12 +45,12 @@ abbrev pub condition_of : RunFault → Option ℕ
 condition_of (run_fault.Load (load_error.Inconsistent k)) = Some k
 condition_of _ = None
 
--- the number, where there is one, between two texts
+-- the number, if there is one, between two texts
 abbrev pub number_text : List ℕ → Option ℕ → List ℕ → List ℕ
 number_text before None after = []
 number_text before (Some n) after = before ++ decimal n ++ after
 
--- `eve-tpcc: <part>: <code> <Name>`, the condition or the record where there is one, and a line feed
+-- `eve-tpcc: <part>: <code> <Name>`, the condition or the record if there is one, and a line feed
 abbrev pub line_text : List ℕ → ℕ → List ℕ → Option ℕ → Option ℕ → List ℕ
 line_text part code name condition place =
     codes "eve-tpcc: " ++ part ++ codes ": " ++ decimal code ++ codes " " ++ name ++ number_text (codes "(") condition (codes ")") ++ number_text (codes " at record ") place [] ++ 10 ∷ []

@@ -1,4 +1,4 @@
--- What an image gives before any batch.
+-- The executor of an image.
 use Rattle.std.specs.Prelude.{◌≡◌, ◌⊎◌, ℕ, List, Ok}
 use Rattle.executor.specs.Lines.{Line, opening_line}
 use Rattle.executor.specs.States.{IsSoundState}
@@ -11,22 +11,22 @@ use Rattle.runner.specs.declared.fault.RunFault.TheVariants as run_fault
 use Rattle.tpcc_model.specs.Database.{Database}
 use Rattle.tpcc_model.specs.Serial.{opening}
 
--- the image gives a database, and the line is that of it
+-- the image loads as a database, whose line this is
 abbrev pub IsOpened : List ℕ → Line → Type 0
 IsOpened bytes line = (db : Database) × (image bytes ≡ Ok db) × (line ≡ opening_line db.cards db.rows)
 
--- the image gives none, or it couldn't be read; or memory was refused for what executes batches on it
+-- the image doesn't load, or couldn't be read; or there was no memory for an executor
 abbrev pub IsUnopened : RunFault → List ℕ → Type 0
 IsUnopened (run_fault.Load e) bytes = IsImageFault e bytes
 IsUnopened (run_fault.Exec refusal.Memory) bytes = (db : Database) × (image bytes ≡ Ok db) × IsSoundState db.cards (opening db.cards db.rows)
 IsUnopened _ bytes = ⊥
 
--- the faults that are met before any batch
+-- the faults before any batch
 abbrev pub IsOfOpening : RunFault → Type 0
 IsOfOpening (run_fault.Load e) = Unit {0}
 IsOfOpening (run_fault.Exec refusal.Memory) = Unit {0}
 IsOfOpening _ = ⊥
 
--- memory was refused for a database that was read: for the pages of its rows, or for their tree
+-- there was no memory for a loaded database's pages, or for their tree
 abbrev pub IsRefused : RunFault → Type 0
 IsRefused e = (e ≡ run_fault.Load load_error.Memory) ⊎ (e ≡ run_fault.Exec refusal.Memory)

@@ -1,4 +1,4 @@
--- What a run leaves behind, for each of its answers.
+-- What a run leaves, for each of its results.
 use Rattle.std.specs.Prelude.{◌≡◌, ◌⊎◌, ℕ, ◌+◌, ◌<◌, ◌≤◌, Bool, true, false, List, [], ◌∷◌, ◌++◌, length, Option, Result, Ok, Err}
 use Rattle.std.specs.Io.KnownBytes.{Appends, Keeps}
 use Rattle.catalog.specs.CardMap.{Cards}
@@ -18,7 +18,7 @@ use Rattle.runner.specs.declared.fault.RunFault.TheVariants as run_fault
 use Rattle.tpcc_model.specs.Serial.{State, after_batch, serial}
 use Rattle.tpcc_rows.specs.declared.id.TheConstants.{END_OF_NUMBERS}
 
--- the bytes that a sink took, where they are known
+-- the bytes that a sink received, if they are known
 abbrev pub Taken : Type 0
 Taken = Option (List ℕ)
 
@@ -45,7 +45,7 @@ Completes cards state batch = NumbersFit state batch × IsSoundState cards (afte
 abbrev pub line_on : Cards → State → List Batch → Line
 line_on cards state done = record { cards = cards; earlier = []; present = serial cards state done }
 
--- all batches were completed and written, and no fault came behind them
+-- all batches were completed and written, and no fault came after them
 pub record Ran (cards : Cards) (state : State) (reading : Reading) (old new : Taken) (count : ℕ) : Type 0 where
   pub end : reading.1 ≡ clean
   pub counted : count ≡ length reading.0
@@ -58,16 +58,16 @@ pub record Began (cards : Cards) (state : State) (batches : List Batch) (old new
   pub completed : AreCompleted cards state done
   pub written : Appends old new (text cards state done)
 
--- so of these batches, whichever stand behind them
+-- the same of these batches, whatever comes after them
 abbrev pub TookFirst : Cards → State → List Batch → List Batch → Taken → Taken → Type 0
 TookFirst cards state batches done old new = (rest : List Batch) × Began cards state batches old new done rest
 
--- the same, and the next batch would pass the limit of numbers
+-- the same, and the next batch would exceed the limit of numbers
 abbrev pub TookUntilExhausted : Cards → State → List Batch → List Batch → Taken → Taken → Type 0
 TookUntilExhausted cards state batches done old new =
     (batch : Batch) × (rest : List Batch) × Began cards state batches old new done (batch ∷ rest) × NumbersExhaust (serial cards state done) batch
 
--- a beginning of the text of the first batches, which were completed: so a beginning of the text of all
+-- a prefix of the text of the first batches, which were completed: so a prefix of the text of all
 abbrev pub TookFront : Cards → State → List Batch → List Batch → Taken → Taken → Type 0
 TookFront cards state batches done old new =
     (rest : List Batch) × (batches ≡ done ++ rest) × AreCompleted cards state done × AppendsFront old new (text cards state done)

@@ -1,4 +1,4 @@
--- Where a state stands, as it is told, and as it is given.
+-- Stamps as they are printed, and as they are given.
 use Rattle.std.specs.Prelude.{◌≡◌, ℕ, List, Ok, ◌++◌, codes, decimal, length}
 use Rattle.hex.specs.Hex.{IsBytes, decode_sized}
 use Rattle.records.specs.Fields.{number_in}
@@ -20,11 +20,11 @@ at_text stamp = codes "at," ++ stamp_word stamp ++ codes "\n"
 abbrev pub HasToken : Stamp → Type 0
 HasToken stamp = (length stamp.token ≡ 32) × IsBytes stamp.token
 
--- the word tells this stamp, whose numbers are within their limits
+-- the word spells this stamp, whose numbers are within their limits
 abbrev pub Tells : List ℕ → Stamp → Type 0
 Tells word stamp = IsWithinLimits stamp × HasToken stamp × (word ≡ stamp_word stamp)
 
--- three parts say it
+-- its three parts
 abbrev pub AreRead : List ℕ → List ℕ → List ℕ → Stamp → Type 0
 AreRead sequence next token stamp =
     (number_in 0 LAST_NUMBER sequence ≡ Ok stamp.sequence) × (number_in 1 END_OF_NUMBERS next ≡ Ok stamp.next) × (decode_sized token 32 ≡ Ok stamp.token)

@@ -1,5 +1,5 @@
--- What a run leaves behind that stores the image of its last state. `old` and `new` are of the sink of the text, `empty` and `full`
--- of the sink of the image, before and after the run.
+-- What a run leaves that stores the image of its last state. `old` and `new` are of the sink of the text, `empty` and `full` of the
+-- sink of the image, before and after the run.
 use Rattle.std.specs.Prelude.{◌≡◌, ◌⊎◌, ℕ, Bool, true, false, List, Result, Ok, Err}
 use Rattle.std.specs.Io.KnownBytes.{Appends, Keeps}
 use Rattle.catalog.specs.CardMap.{Cards}
@@ -42,29 +42,29 @@ StoredFrom cards state batch_bytes old new empty full count =
 abbrev pub StoredOn : Database → List ℕ → Taken → Taken → Taken → Taken → ℕ → Type 0
 StoredOn db batch_bytes old new empty full count = StoredFrom db.cards (opening db.cards db.rows) batch_bytes old new empty full count
 
--- an image gives the database
+-- an image loads as the database
 abbrev pub StoredWhole : List ℕ → List ℕ → Taken → Taken → Taken → Taken → ℕ → Type 0
 StoredWhole image_bytes batch_bytes old new empty full count =
     (db : Database) × (image image_bytes ≡ Ok db) × StoredOn db batch_bytes old new empty full count
 
--- ---- it isn't, or not whole
--- memory is refused before its first byte; the sink fails behind a beginning of it
+-- ---- it isn't, or not completely
+-- memory runs out before its first byte; or the sink fails after a prefix of it
 abbrev pub LeavesStore : StoreFault → List ℕ → Taken → Taken → Type 0
 LeavesStore store_fault.Memory text empty full = Keeps empty full
 LeavesStore store_fault.Write text empty full = AppendsFront empty full text
 
 -- ---- the run ended early
--- the image is stored all the same; but none where the output failed, of whose text nobody knows how much came through
+-- the image is stored all the same; but not if the output failed, since it is unknown how much of its text got through
 abbrev pub StoresBehind : RunFault → List ℕ → Taken → Taken → Type 0
 StoresBehind run_fault.Write text empty full = Keeps empty full
 StoresBehind _ text empty full = Appends empty full text
 
--- it was to be stored, and isn't, or not whole
+-- it was to be stored, and isn't, or not completely
 abbrev pub LeavesBoth : RunFault → StoreFault → List ℕ → Taken → Taken → Type 0
 LeavesBoth run_fault.Write e text empty full = ⊥
 LeavesBoth _ e text empty full = LeavesStore e text empty full
 
--- the fault of the run is told, and that of the image where there is one
+-- the fault of the run is reported, and that of the image if there is one
 abbrev pub StoredBehind : RunFault → StoredRunFault → List ℕ → Taken → Taken → Type 0
 StoredBehind fault (stored_fault.Run e) text empty full = (e ≡ fault) × StoresBehind fault text empty full
 StoredBehind fault (stored_fault.Store store) text empty full = ⊥
@@ -91,7 +91,7 @@ IsOfStoredDatabase (stored_fault.Run e) = IsOfDatabase e
 IsOfStoredDatabase (stored_fault.Store e) = Unit {0}
 IsOfStoredDatabase (stored_fault.Both e store) = IsOfDatabase e
 
--- what is left before any batch: the image gives no database, or memory was refused for what executes batches
+-- what is left before any batch: the image doesn't load, or there was no memory for an executor
 abbrev pub LeavesUnopened : StoredRunFault → List ℕ → Taken → Taken → Taken → Taken → Type 0
 LeavesUnopened (stored_fault.Run e) image_bytes old new empty full = IsUnopened e image_bytes × Keeps old new × Keeps empty full
 LeavesUnopened _ image_bytes old new empty full = ⊥

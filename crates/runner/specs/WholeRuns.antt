@@ -1,4 +1,4 @@
--- What a run leaves behind, from the bytes of an image and of batches.
+-- What a run leaves, from the bytes of an image and of batches.
 use Rattle.std.specs.Prelude.{◌≡◌, ◌⊎◌, ℕ, ◌<◌, Bool, true, false, List, [], length, Result, Ok, Err}
 use Rattle.std.specs.Io.KnownBytes.{Keeps}
 use Rattle.loader.specs.Image.{image}
@@ -20,7 +20,7 @@ use Rattle.tpcc_model.specs.Serial.{State, opening}
 abbrev pub line_after : Cards → State → List ℕ → Line
 line_after cards state batch_bytes = line_on cards state (batches batch_bytes).0
 
--- all batches were executed from the state on and written, and no fault came behind them
+-- all batches were executed from the state on and written, and no fault came after them
 abbrev pub RanFrom : Cards → State → List ℕ → Taken → Taken → ℕ → Type 0
 RanFrom cards state batch_bytes old new count = Ran cards state (batches batch_bytes) old new count
 
@@ -28,20 +28,20 @@ RanFrom cards state batch_bytes old new count = Ran cards state (batches batch_b
 abbrev pub RanOn : Database → List ℕ → Taken → Taken → ℕ → Type 0
 RanOn db batch_bytes old new count = RanFrom db.cards (opening db.cards db.rows) batch_bytes old new count
 
--- the image gives a database, on which all batches were executed
+-- the image loads as a database, on which all batches were executed
 abbrev pub RanWhole : List ℕ → List ℕ → Taken → Taken → ℕ → Type 0
 RanWhole image_bytes batch_bytes old new count = (db : Database) × (image image_bytes ≡ Ok db) × RanOn db batch_bytes old new count
 
--- the image's own fault, or one that was met in reading its bytes
+-- the image's own fault, or one in reading its bytes
 abbrev pub IsImageFault : LoadError → List ℕ → Type 0
 IsImageFault e image_bytes =
     (e ≡ load_error.Memory) ⊎ (e ≡ load_error.Read) ⊎ ((e ≡ load_error.InputTooLong) × (4294967295 < length image_bytes)) ⊎ (image image_bytes ≡ Err e)
 
--- a fault that was met in reading the bytes of the batches
+-- a fault in reading the bytes of the batches
 abbrev pub IsInputFault : ReadError → List ℕ → Type 0
 IsInputFault e batch_bytes = (e ≡ read_error.Memory) ⊎ (e ≡ read_error.Read) ⊎ ((e ≡ read_error.InputTooLong) × (1073741824 < length batch_bytes))
 
--- what a run from a state leaves that ended early behind these batches
+-- what a run from a state leaves that ended early after these batches
 abbrev pub LeavesBehind : RunFault → Cards → State → List ℕ → List Batch → Taken → Taken → Type 0
 LeavesBehind (run_fault.Read e) cards state batch_bytes done old new =
     (IsInputFault e batch_bytes × (done ≡ []) × Keeps old new)
