@@ -1,8 +1,8 @@
 #!/usr/bin/env python3
-"""sessions.py PROGRAM: runs the sessions that README.md, docs/ and examples/ show, and compares what they print line by line.
+"""sessions.py PROGRAM: runs the sessions that README.md, docs/, examples/ and the helps show, and compares what they print line by line.
 
-PROGRAM is the built eve-tpcc. A session is a block indented by four spaces that begins with `$ `; each such line is a command, and the
-lines up to the next one are what it prints. The sessions of a document share a folder, in which `examples` and `crates` are the
+PROGRAM is the built eve-tpcc. A session is a block indented by four spaces, in a help by two, that begins with `$ `; each such line is a
+command, and the lines up to the next one are what it prints. The sessions of a document share a folder, in which `examples` and `crates` are the
 repository's, `requests.csv` is that of the examples, and `eve-tpcc` is the program. `cat` of a file that isn't there makes it of the lines
 shown. A command has a minute. Then each `old:` line of every wrong body must stand once in its file, as the prover's tool asks of it. A line tells what failed; the
 last one is `N passed, M failed`. Ends with status 1 where anything failed."""
@@ -15,21 +15,20 @@ import sys
 import tempfile
 
 TOP = os.path.dirname(os.path.dirname(os.path.abspath(__file__)))
-INDENT = '    '
+HELPS = 'for name in make check run serve; do eve-tpcc $name --help; done'
 SECONDS = 60
 
 
-def blocks(path):
+def blocks(lines, indent):
     """The indented blocks of a document that are sessions."""
     block = []
-    with open(path, encoding='utf-8') as file:
-        for line in [*file.read().split('\n'), '']:
-            if line.startswith(INDENT):
-                block.append(line[len(INDENT):])
-                continue
-            if block and block[0].startswith('$ '):
-                yield block
-            block = []
+    for line in [*lines, '']:
+        if line.startswith(indent):
+            block.append(line[len(indent):])
+            continue
+        if block and block[0].startswith('$ '):
+            yield block
+        block = []
 
 
 def commands(block):
@@ -67,14 +66,19 @@ def printed_by(command, wanted, folder):
 
 
 def sessions(document, program):
-    """Runs the sessions of a document; for each command, what is wrong with it, or nothing."""
+    """Runs the sessions of a document, or of the helps where there is none; for each command, what is wrong with it, or nothing."""
     with tempfile.TemporaryDirectory() as folder:
         make_room(folder, program)
-        for block in blocks(document):
+        if document:
+            with open(document, encoding='utf-8') as file:
+                shown, name = [*blocks(file.read().split('\n'), '    ')], os.path.relpath(document, TOP)
+        else:
+            shown, name = [*blocks(printed_by(HELPS, [], folder), '  ')], 'help'
+        for block in shown:
             listed = [(command, list(printed)) for command, printed in [*commands(block)]]
             for command, wanted in listed:
                 got = printed_by(command, wanted, folder)
-                yield None if got == wanted else f'{os.path.relpath(document, TOP)}: $ {command}\n  wanted {wanted}\n  got    {got}'
+                yield None if got == wanted else f'{name}: $ {command}\n  wanted {wanted}\n  got    {got}'
 
 
 def wrong_bodies():
@@ -99,7 +103,7 @@ def wrong_bodies():
 
 def main(program):
     documents = [f'{TOP}/README.md', *sorted(glob.glob(f'{TOP}/docs/*.md') + glob.glob(f'{TOP}/examples/**/*.md', recursive=True))]
-    told = [fault for document in documents for fault in sessions(document, os.path.abspath(program))]
+    told = [fault for document in [*documents, None] for fault in sessions(document, os.path.abspath(program))]
     told += wrong_bodies()
     faults = [fault for fault in told if fault]
     for fault in faults:
