@@ -60,7 +60,7 @@ unfolding bit
 one_bit = refl
 
 -- the third payment meets the first one
-three_payments : cut_by (paid 1 1 1 ∷ paid 2 1 1 ∷ paid 1 2 2 ∷ []) ≡ (0 ∷ 1 ∷ []) ∷ (2 ∷ []) ∷ []
+three_payments : cut_by bit (paid 1 1 1 ∷ paid 2 1 1 ∷ paid 1 2 2 ∷ []) ≡ (0 ∷ 1 ∷ []) ∷ (2 ∷ []) ∷ []
 unfolding bit
 three_payments = refl
 

@@ -8,15 +8,18 @@ use Rattle.std.specs.Option.{option_copied}
 use Rattle.std.specs.Ordering.{nat_cmp}
 use Rattle.serializability.specs.Footprints.{Footprint, Has}
 use Rattle.serializability.specs.Levels as levels
+use Rattle.serializability.specs.Levels.{Job}
+use Rattle.signatures_simd.specs.Bits.{bit}
 use Rattle.serializability.proofs.Folding.{length-fold_replies}
 use Rattle.tpcc_model.specs.Database.{database}
 use Rattle.tpcc_rows.specs.declared.granule.Granule.{Granule}
 use Rattle.catalog.specs.CardMap.{Cards}
 use Rattle.requests.specs.declared.request.Batch.{Batch}
 use Rattle.requests.specs.declared.reply.Reply.{Reply}
+use Rattle.requests.specs.declared.request.Request.{Request}
 use Rattle.gather.specs.Books.{Book}
 use Rattle.tpcc_model.specs.Machine.{tpcc}
-use Rattle.tpcc_model.specs.Serial.{State, batch_replies}
+use Rattle.tpcc_model.specs.Serial.{State, batch_replies, batch_rows}
 use Rattle.tpcc_model.specs.Soundness.{IsSound}
 use Rattle.tpcc_model.specs.Steps.{steps_at}
 use Rattle.transactions.specs.declared.exec_error.ExecError.{ExecError}
@@ -24,7 +27,8 @@ use Rattle.transactions.specs.declared.exec_error.ExecError.TheVariants as exec_
 use Rattle.workers.specs.LevelEnds.{StraysWhere}
 use Rattle.executor.specs.Filing.{reply_at}
 use Rattle.executor.specs.Laws.{DeclaredLevelsAreSerial, RunsAsSerial}
-use Rattle.executor.specs.LevelRuns.{declared_footprints, levels_by}
+use Rattle.executor.specs.InOrder.{StraysAreInTurn}
+use Rattle.executor.specs.LevelRuns.{IsCutBySome, declared_footprints, declared_levels, levels_by, strays}
 use Rattle.executor.specs.States.{AreWithinLimits}
 
 -- ---- the places of a level
@@ -75,22 +79,38 @@ same_replies replies wanted entries all size at =
     let counted : length entries ≡ length replies = sym (ap length all) ∙ length-map replies Some in
     same_at replies wanted (omega (arith, size, counted)) (λ place below. ap (λ (es : List (Option Reply)). get_or es place None) all ∙ at place below)
 
--- ---- the levels that the requests declare
--- where none strays, they are the requests one after the other
-pub as_serial : DeclaredLevelsAreSerial → (cards : Cards) (state : State) (batch : Batch) (footprints : List (Footprint Granule)) → IsSound (database cards state.rows) → AreWithinLimits batch.moment state.next batch.requests
-    → footprints ≡ declared_footprints cards state batch → levels.strays (tpcc cards batch.moment) state.rows (levels_by state.next batch.requests footprints) ≡ false → RunsAsSerial cards state batch
-as_serial law cards state batch footprints sound limits declared stays =
-    law cards state batch sound limits (subst (λ (fs : List (Footprint Granule)). levels.strays (tpcc cards batch.moment) state.rows (levels_by state.next batch.requests fs) ≡ false) declared stays)
+-- ---- the levels of a cut by what the requests declare
+module _ (cards : Cards) (state : State) (batch : Batch) (footprints : List (Footprint Granule)) (declared : footprints ≡ declared_footprints cards state batch) (cut : List (List ℕ)) (by : IsCutBySome footprints cut) (sound : IsSound (database cards state.rows)) (limits : AreWithinLimits batch.moment state.next batch.requests) where
+  abbrev cut_levels : List (List (Job Granule Request))
+  cut_levels = map (levels.jobs_at (levels.jobs state.next batch.requests footprints)) cut
 
--- and a book of what they reply has the replies of the batch
-pub filed_in_order : (cards : Cards) (state : State) (batch : Batch) (footprints : List (Footprint Granule)) (book : Book) → footprints ≡ declared_footprints cards state batch → RunsAsSerial cards state batch
-    → ((place : ℕ) → place < length batch.requests → reply_at book place ≡ find nat_cmp (state.next + place) (levels.run_replies (tpcc cards batch.moment) state.rows (levels_by state.next batch.requests footprints)))
-    → (place : ℕ) → place < length (batch_replies cards state batch) → reply_at book place ≡ slice_get (batch_replies cards state batch) place
-filed_in_order cards state batch footprints book declared runs filed place below =
-    let count = length-fold_replies (steps_at cards batch.moment) state.rows state.next batch.requests in
-    filed place (omega (arith, below, count))
-    ∙ ap (λ (fs : List (Footprint Granule)). find nat_cmp (state.next + place) (levels.run_replies (tpcc cards batch.moment) state.rows (levels_by state.next batch.requests fs))) declared
-    ∙ runs.replies place
+  levels_are : cut_levels ≡ declared_levels by.0 cards state batch
+  levels_are =
+      ap (map (levels.jobs_at (levels.jobs state.next batch.requests footprints))) by.1
+      ∙ ap (λ (fs : List (Footprint Granule)). levels_by by.0 state.next batch.requests fs) declared
+
+  -- whatever numbers it is by, a request strays in it where one strays by the bits of signatures
+  pub strays_are : StraysAreInTurn → levels.strays (tpcc cards batch.moment) state.rows cut_levels ≡ strays cards state batch
+  strays_are law =
+      ap (levels.strays (tpcc cards batch.moment) state.rows) levels_are ∙ law by.0 cards state batch sound limits ∙ sym (law bit cards state batch sound limits)
+
+  -- where none strays, they are the requests one after the other
+  module _ (law : DeclaredLevelsAreSerial) (stays : levels.strays (tpcc cards batch.moment) state.rows cut_levels ≡ false) where
+    as_serial : RunsAsSerial by.0 cards state batch
+    as_serial = law by.0 cards state batch sound limits (sym (ap (levels.strays (tpcc cards batch.moment) state.rows) levels_are) ∙ stays)
+
+    pub rows_are : levels.run_rows (tpcc cards batch.moment) state.rows cut_levels ≡ batch_rows cards state batch
+    rows_are = ap (levels.run_rows (tpcc cards batch.moment) state.rows) levels_are ∙ as_serial.rows
+
+    -- and a book of what they reply has the replies of the batch
+    pub filed_in_order : (book : Book)
+        → ((place : ℕ) → place < length batch.requests → reply_at book place ≡ find nat_cmp (state.next + place) (levels.run_replies (tpcc cards batch.moment) state.rows cut_levels))
+        → (place : ℕ) → place < length (batch_replies cards state batch) → reply_at book place ≡ slice_get (batch_replies cards state batch) place
+    filed_in_order book filed place below =
+        let count = length-fold_replies (steps_at cards batch.moment) state.rows state.next batch.requests in
+        filed place (omega (arith, below, count))
+        ∙ ap (λ (found : List (List (Job Granule Request))). find nat_cmp (state.next + place) (levels.run_replies (tpcc cards batch.moment) state.rows found)) levels_are
+        ∙ as_serial.replies place
 
 pub as_many : (cards : Cards) (state : State) (batch : Batch) (book : Book) → length book.replies ≡ length batch.requests → length book.replies ≡ length (batch_replies cards state batch)
 as_many cards state batch book size = size ∙ sym (length-fold_replies (steps_at cards batch.moment) state.rows state.next batch.requests)

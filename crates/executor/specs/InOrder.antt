@@ -1,5 +1,5 @@
 -- A batch executed in order, each request within what it declared.
-use Rattle.std.specs.Prelude.{◌≡◌, Bool, List}
+use Rattle.std.specs.Prelude.{◌≡◌, ℕ, Bool, List}
 use Rattle.serializability.specs.InTurn.{strays_in_turn}
 use Rattle.serializability.specs.Levels as levels
 use Rattle.serializability.specs.Levels.{Job}
@@ -14,7 +14,7 @@ use Rattle.tpcc_model.specs.Machine.{tpcc}
 use Rattle.tpcc_model.specs.Serial.{State}
 use Rattle.tpcc_model.specs.Soundness.{IsSound}
 use Rattle.tpcc_model.specs.Steps.{replies, rows_after}
-use Rattle.executor.specs.LevelRuns.{declared_footprints, strays}
+use Rattle.executor.specs.LevelRuns.{declared_footprints, strays_by}
 use Rattle.executor.specs.States.{AreWithinLimits}
 use Rattle.executor.specs.declared.in_order.Declared.{Declared}
 use Rattle.executor.specs.declared.level.Plan.{Plan}
@@ -35,9 +35,9 @@ abbrev pub plan_strays_in_turn : Cards → Rows → Plan → Bool
 plan_strays_in_turn cards rows plan
     = strays_in_turn (tpcc cards plan.batch.now.moment) rows (levels.jobs plan.first plan.batch.now.requests plan.footprints.now)
 
--- the law: exactly then the batch strays, by its requests' declared footprints
+-- the law: exactly then the batch strays, by its requests' declared footprints and any numbers of granules
 abbrev pub StraysAreInTurn : Type 0
-StraysAreInTurn = (cards : Cards) (state : State) (batch : Batch)
+StraysAreInTurn = (code : Granule → ℕ) (cards : Cards) (state : State) (batch : Batch)
     → IsSound (database cards state.rows) → AreWithinLimits batch.moment state.next batch.requests
-    → strays cards state batch
+    → strays_by code cards state batch
     ≡ strays_in_turn (tpcc cards batch.moment) state.rows (levels.jobs state.next batch.requests (declared_footprints cards state batch))

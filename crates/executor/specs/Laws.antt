@@ -6,6 +6,7 @@ use Rattle.serializability.specs.Folds.{after}
 use Rattle.serializability.specs.Footprints.{Footprint, IsApart, IsWithin}
 use Rattle.serializability.specs.Laws.{IsSerial, IsSwapped}
 use Rattle.serializability.specs.Levels as levels
+use Rattle.serializability.specs.Signatures.{meets_by}
 use Rattle.tpcc_rows.specs.Limits.{IsBetween}
 use Rattle.tpcc_rows.specs.declared.granule.Granule.{Granule}
 use Rattle.catalog.specs.CardMap.{Cards}
@@ -21,7 +22,7 @@ use Rattle.transactions.specs.Laws.{Fits}
 use Rattle.executor.specs.Calls.{Call, Executed, IsRecordOfEither, LeadOn, kept_after}
 use Rattle.executor.specs.Executions.{IsRecordOf}
 use Rattle.executor.specs.Headline.{Headline, all_serially, completed}
-use Rattle.executor.specs.LevelRuns.{IsCutOf, cut_by, levels_by, meets, replies_in_levels, rows_in_levels, strays}
+use Rattle.executor.specs.LevelRuns.{IsCutOf, cut_by, levels_by, replies_in_levels, rows_in_levels, strays_by}
 use Rattle.executor.specs.Kept.{all_kept, none_kept, serial_line}
 use Rattle.executor.specs.Lines.{Line, extended, opening_line}
 use Rattle.executor.specs.Paths.{path_of}
@@ -39,39 +40,39 @@ RequestsSwap = (db : Database) (moment m n : ℕ) (a b : Request) (e f : Footpri
     → IsSwapped (tpcc db.cards moment) db.rows m a n b
 
 -- executing levels gives the same as executing the requests in order, on a database that stays sound
-pub record IsSerialRun (db : Database) (moment first : ℕ) (requests : List Request) (footprints : List (Footprint Granule)) : Type 0 where
-  pub serial : IsSerial (tpcc db.cards moment) db.rows first requests (levels_by first requests footprints)
-  pub sound : IsSound (record db { rows = levels.run_rows (tpcc db.cards moment) db.rows (levels_by first requests footprints) })
+pub record IsSerialRun (code : Granule → ℕ) (db : Database) (moment first : ℕ) (requests : List Request) (footprints : List (Footprint Granule)) : Type 0 where
+  pub serial : IsSerial (tpcc db.cards moment) db.rows first requests (levels_by code first requests footprints)
+  pub sound : IsSound (record db { rows = levels.run_rows (tpcc db.cards moment) db.rows (levels_by code first requests footprints) })
 
--- requests in the levels of any footprints, one for each, in which none strays
+-- requests in the levels of any footprints, one for each, by any numbers of granules, in which none strays
 abbrev pub LevelsAreSerial : Type 0
-LevelsAreSerial = (db : Database) (moment first : ℕ) (requests : List Request) (footprints : List (Footprint Granule))
+LevelsAreSerial = (code : Granule → ℕ) (db : Database) (moment first : ℕ) (requests : List Request) (footprints : List (Footprint Granule))
     → IsSound db → AreWithinLimits moment first requests → length footprints ≡ length requests
-    → levels.strays (tpcc db.cards moment) db.rows (levels_by first requests footprints) ≡ false
-    → IsSerialRun db moment first requests footprints
+    → levels.strays (tpcc db.cards moment) db.rows (levels_by code first requests footprints) ≡ false
+    → IsSerialRun code db moment first requests footprints
 
 -- the levels of a batch have, place by place, the replies of its requests in order, and leave the same rows
-pub record RunsAsSerial (cards : Cards) (state : State) (batch : Batch) : Type 0 where
-  pub replies : (place : ℕ) → find nat_cmp (state.next + place) (replies_in_levels cards state batch) ≡ slice_get (batch_replies cards state batch) place
-  pub rows : rows_in_levels cards state batch ≡ batch_rows cards state batch
+pub record RunsAsSerial (code : Granule → ℕ) (cards : Cards) (state : State) (batch : Batch) : Type 0 where
+  pub replies : (place : ℕ) → find nat_cmp (state.next + place) (replies_in_levels code cards state batch) ≡ slice_get (batch_replies cards state batch) place
+  pub rows : rows_in_levels code cards state batch ≡ batch_rows cards state batch
 
 -- by what the requests of a batch declare
 abbrev pub DeclaredLevelsAreSerial : Type 0
-DeclaredLevelsAreSerial = (cards : Cards) (state : State) (batch : Batch)
+DeclaredLevelsAreSerial = (code : Granule → ℕ) (cards : Cards) (state : State) (batch : Batch)
     → IsSound (database cards state.rows) → AreWithinLimits batch.moment state.next batch.requests
-    → strays cards state batch ≡ false → RunsAsSerial cards state batch
+    → strays_by code cards state batch ≡ false → RunsAsSerial code cards state batch
 
 -- a later request meets an earlier one from a higher level only: if i is before j, on the same level or a higher one, they
 -- don't meet
 abbrev pub MeetOnlyAbove : Type 0
-MeetOnlyAbove = (footprints : List (Footprint Granule)) (i j : ℕ) (e f : Footprint Granule) (k l : ℕ) → i < j
+MeetOnlyAbove = (code : Granule → ℕ) (footprints : List (Footprint Granule)) (i j : ℕ) (e f : Footprint Granule) (k l : ℕ) → i < j
     → slice_get footprints i ≡ Some e → slice_get footprints j ≡ Some f
-    → slice_get (levels.levels meets footprints) i ≡ Some k → slice_get (levels.levels meets footprints) j ≡ Some l
-    → l ≤ k → meets e f ≡ false
+    → slice_get (levels.levels (meets_by code) footprints) i ≡ Some k → slice_get (levels.levels (meets_by code) footprints) j ≡ Some l
+    → l ≤ k → meets_by code e f ≡ false
 
 -- footprints are cut so that each is there once
 abbrev pub CutsAreWhole : Type 0
-CutsAreWhole = (footprints : List (Footprint Granule)) → IsCutOf (length footprints) (cut_by footprints)
+CutsAreWhole = (code : Granule → ℕ) (footprints : List (Footprint Granule)) → IsCutOf (length footprints) (cut_by code footprints)
 
 -- the state of a sound database before any batch is sound
 abbrev pub OpeningIsSound : Type 0

@@ -23,9 +23,13 @@ use Rattle.profiles.specs.Declarations.{declared}
 abbrev pub meets : Footprint Granule → Footprint Granule → Bool
 meets = meets_by bit
 
--- the places of each level, in ascending order
-abbrev pub cut_by : List (Footprint Granule) → List (List ℕ)
-cut_by footprints = levels.cut (levels.levels meets footprints)
+-- the places of each level, in ascending order, by any numbers of granules
+abbrev pub cut_by : (Granule → ℕ) → List (Footprint Granule) → List (List ℕ)
+cut_by code footprints = levels.cut (levels.levels (meets_by code) footprints)
+
+-- it is the cut by some numbers
+abbrev pub IsCutBySome : List (Footprint Granule) → List (List ℕ) → Type 0
+IsCutBySome footprints cut = (code : Granule → ℕ) × (cut ≡ cut_by code footprints)
 
 -- a cut of `count` requests: each place is on one level, the places of a level ascend, and no level is empty
 pub record IsCutOf (count : ℕ) (cut : List (List ℕ)) : Type 0 where
@@ -37,25 +41,29 @@ pub record IsCutOf (count : ℕ) (cut : List (List ℕ)) : Type 0 where
   pub short : (level : ℕ) (places : List ℕ) → slice_get cut level ≡ Some places → length places ≤ count
 
 -- the requests of each level with their footprints and their numbers, the first of which is given
-abbrev pub levels_by : ℕ → List Request → List (Footprint Granule) → List (List (Job Granule Request))
-levels_by first requests footprints = levels.batch_levels meets first requests footprints
+abbrev pub levels_by : (Granule → ℕ) → ℕ → List Request → List (Footprint Granule) → List (List (Job Granule Request))
+levels_by code first requests footprints = levels.batch_levels (meets_by code) first requests footprints
 
 -- ---- those that the requests of a batch declare
 -- predicted as it begins
 abbrev pub declared_footprints : Cards → State → Batch → List (Footprint Granule)
 declared_footprints cards state batch = declared (database cards state.rows) batch.requests
 
-abbrev pub declared_levels : Cards → State → Batch → List (List (Job Granule Request))
-declared_levels cards state batch = levels_by state.next batch.requests (declared_footprints cards state batch)
+abbrev pub declared_levels : (Granule → ℕ) → Cards → State → Batch → List (List (Job Granule Request))
+declared_levels code cards state batch = levels_by code state.next batch.requests (declared_footprints cards state batch)
 
 -- some request touches more than it declared, on the rows as its level begins
+abbrev pub strays_by : (Granule → ℕ) → Cards → State → Batch → Bool
+strays_by code cards state batch = levels.strays (tpcc cards batch.moment) state.rows (declared_levels code cards state batch)
+
+-- so in the levels by the bits of signatures, of which the path speaks
 abbrev pub strays : Cards → State → Batch → Bool
-strays cards state batch = levels.strays (tpcc cards batch.moment) state.rows (declared_levels cards state batch)
+strays = strays_by bit
 
 -- the replies of the requests in their levels, each with its number
-abbrev pub replies_in_levels : Cards → State → Batch → List (ℕ × Reply)
-replies_in_levels cards state batch = levels.run_replies (tpcc cards batch.moment) state.rows (declared_levels cards state batch)
+abbrev pub replies_in_levels : (Granule → ℕ) → Cards → State → Batch → List (ℕ × Reply)
+replies_in_levels code cards state batch = levels.run_replies (tpcc cards batch.moment) state.rows (declared_levels code cards state batch)
 
 -- the rows that the last level leaves
-abbrev pub rows_in_levels : Cards → State → Batch → Rows
-rows_in_levels cards state batch = levels.run_rows (tpcc cards batch.moment) state.rows (declared_levels cards state batch)
+abbrev pub rows_in_levels : (Granule → ℕ) → Cards → State → Batch → Rows
+rows_in_levels code cards state batch = levels.run_rows (tpcc cards batch.moment) state.rows (declared_levels code cards state batch)

@@ -1,5 +1,5 @@
 -- The levels of a batch by its requests' declared footprints, on the rows of a database.
-use Rattle.std.specs.Prelude.{ℕ, Bool, List}
+use Rattle.std.specs.Prelude.{ℕ, Bool, List, map}
 use Rattle.std.specs.List.{list_any}
 use Rattle.serializability.specs.Footprints.{Has}
 use Rattle.serializability.specs.Levels as levels
@@ -12,7 +12,6 @@ use Rattle.requests.specs.declared.reply.Reply.{Reply}
 use Rattle.requests.specs.declared.request.Request.{Request}
 use Rattle.tpcc_model.specs.Machine.{tpcc}
 use Rattle.executor.specs.Filing.{Awaits}
-use Rattle.executor.specs.LevelRuns.{levels_by}
 use Rattle.executor.specs.declared.level.Level.{Level}
 use Rattle.executor.specs.declared.level.Plan.{Plan}
 
@@ -37,15 +36,15 @@ level_rows cards rows level = levels.level_rows (tpcc cards level.plan.batch.now
 abbrev pub AwaitsOthers : List ℕ → Book → Book → Type 0
 AwaitsOthers places old new = (place : ℕ) → (Has places place → ⊥) → Awaits old place → Awaits new place
 
--- ---- all levels, one after the other
-abbrev pub plan_levels : Plan → List (List (Job Granule Request))
-plan_levels plan = levels_by plan.first plan.batch.now.requests plan.footprints.now
+-- ---- all levels of a cut, one after the other
+abbrev pub plan_levels : Plan → List (List ℕ) → List (List (Job Granule Request))
+plan_levels plan cut = map (levels.jobs_at (levels.jobs plan.first plan.batch.now.requests plan.footprints.now)) cut
 
-abbrev pub plan_strays : Cards → Rows → Plan → Bool
-plan_strays cards rows plan = levels.strays (tpcc cards plan.batch.now.moment) rows (plan_levels plan)
+abbrev pub plan_strays : Cards → Rows → Plan → List (List ℕ) → Bool
+plan_strays cards rows plan cut = levels.strays (tpcc cards plan.batch.now.moment) rows (plan_levels plan cut)
 
-abbrev pub plan_replies : Cards → Rows → Plan → List (ℕ × Reply)
-plan_replies cards rows plan = levels.run_replies (tpcc cards plan.batch.now.moment) rows (plan_levels plan)
+abbrev pub plan_replies : Cards → Rows → Plan → List (List ℕ) → List (ℕ × Reply)
+plan_replies cards rows plan cut = levels.run_replies (tpcc cards plan.batch.now.moment) rows (plan_levels plan cut)
 
-abbrev pub plan_rows : Cards → Rows → Plan → Rows
-plan_rows cards rows plan = levels.run_rows (tpcc cards plan.batch.now.moment) rows (plan_levels plan)
+abbrev pub plan_rows : Cards → Rows → Plan → List (List ℕ) → Rows
+plan_rows cards rows plan cut = levels.run_rows (tpcc cards plan.batch.now.moment) rows (plan_levels plan cut)

@@ -4,10 +4,11 @@ ghost use Rattle.std.specs.FinMap.{find};
 ghost use Rattle.std.specs.List.{AllPairs};
 ghost use Rattle.std.specs.Ordering.{nat_cmp};
 ghost use Rattle.executor.specs.Filing.{Awaits, FilesEach, reply_at};
-ghost use Rattle.executor.specs.LevelRuns.{cut_by, strays};
+ghost use Rattle.executor.specs.LevelRuns.{IsCutBySome, IsCutOf, strays};
 ghost use Rattle.executor.specs.Lines.{state_of};
 ghost use Rattle.executor.specs.PlannedLevels.{AwaitsOthers, level_replies, level_rows, level_strays, plan_replies, plan_rows, plan_strays};
 ghost use Rattle.executor.specs.States.{IsSoundState};
+ghost use Rattle.gather.specs.Merged.{after_each};
 ghost use Rattle.rollback.specs.Pointed.{KeepsCleanLeaves};
 ghost use Rattle.tpcc_model.specs.Serial.{batch_replies, batch_rows};
 ghost use Rattle.workers.specs.LevelEnds.{StraysWhere};
@@ -18,8 +19,8 @@ use crate::laws::{cuts, declared_levels, strays_in_turn};
 use crate::level::{Level, Plan};
 use crate::next_batch::NextBatch;
 use catalog::Catalog;
-use gather::{ReplyBook, merge};
-use mixer::{Cut, mix};
+use gather::ReplyBook;
+use mixer::{Cut, mix, mix_exactly};
 use profiles::declare_batch;
 use requests::reply::Reply;
 use rollback::PointedStore;
@@ -54,6 +55,18 @@ fn file_replies(
         deltas.push(outcome.changes)?;
     }
     Ok(deltas)
+}
+
+/// Applies the changes of requests in turn. If memory is refused, a prefix of them is applied.
+fn apply_each(store: &mut PointedStore, deltas: Vec<Delta>) -> Result<(), Memory>
+    ensures rows { OnOk result (store.new.rows ≡ after_each store.old.rows deltas.items) }
+    ensures points { store.new.points ≡ store.old.points }
+    ensures clean { KeepsCleanLeaves store.old store.new }
+{
+    for delta in deltas {
+        store.apply(&delta)?;
+    }
+    Ok(())
 }
 
 /// Executes a level, files its replies and applies its changes. If a request strays, nothing is changed.
@@ -91,8 +104,7 @@ fn settle_level<R: Threads + Sync, G: Gate>(
         LevelEnd::Strayed(_) => Err(ExecError::Strayed),
         LevelEnd::Done(outcomes) => {
             let deltas = file_replies(alloc, plan.first, outcomes, book)?;
-            let changes = merge(alloc, deltas)?;
-            store.apply(&changes)?;
+            apply_each(store, deltas)?;
             Ok(())
         }
     }
@@ -107,23 +119,37 @@ fn is_thin(cut: &Cut, requests: usize) -> bool {
     cut.depth() > requests / REQUESTS_A_LEVEL
 }
 
-/// The levels to execute a batch by; `None` if threads don't pay and no gate listens.
+/// The levels to execute a batch by; `None` if threads don't pay.
+fn paying_cut(
+    alloc: Global,
+    footprints: &[Footprint],
+    workers: usize,
+) -> Result<Option<Cut>, Memory>
+    requires { length footprints.now ≤ 1024 }
+    ensures { IfOk result (λ cut. IfSome cut (λ cut. IsCutBySome footprints.now cut)) }
+{
+    if workers == 1 || footprints.len() < REQUESTS_A_LEVEL {
+        return Ok(None);
+    }
+    let cut = mix_exactly(alloc, footprints)?;
+    if is_thin(&cut, footprints.len()) {
+        return Ok(None);
+    }
+    Ok(Some(cut))
+}
+
+/// The levels to execute a batch by: those by signatures if a gate listens, else those by granules, or `None` if threads don't pay.
 fn cut_of<R, G: Gate>(
     alloc: Global,
     crew: &Crew<'_, R, G>,
     plan: &Plan<'_>,
 ) -> Result<Option<Cut>, Memory>
-    ensures { IfOk result (λ cut. IfSome cut (λ cut. cut ≡ cut_by plan.now.footprints.now)) }
+    ensures { IfOk result (λ cut. IfSome cut (λ cut. IsCutBySome plan.now.footprints.now cut)) }
 {
-    let is_told = crew.gate.is_told();
-    if !is_told && crew.workers.count() == 1 {
-        return Ok(None);
+    if crew.gate.is_told() {
+        return Ok(Some(mix(alloc, plan.footprints)?));
     }
-    let cut = mix(alloc, plan.footprints)?;
-    if !is_told && is_thin(&cut, plan.footprints.len()) {
-        return Ok(None);
-    }
-    Ok(Some(cut))
+    paying_cut(alloc, plan.footprints, crew.workers.count())
 }
 
 /// Executes the levels of a batch one after the other, until a request strays.
@@ -135,17 +161,16 @@ fn run_levels<R: Threads + Sync, G: Gate>(
     plan: &Plan<'_>,
     cut: &Cut,
 ) -> Result<ReplyBook, ExecError>
-    requires { cut.now ≡ cut_by plan.now.footprints.now }
-    ensures within { OnOk result (plan_strays catalog.now store.old.rows plan.now ≡ false) }
-    ensures rows { OnOk result (store.new.rows ≡ plan_rows catalog.now store.old.rows plan.now) }
+    requires { IsCutOf (length plan.now.footprints.now) cut.now }
+    ensures within { OnOk result (plan_strays catalog.now store.old.rows plan.now cut.now ≡ false) }
+    ensures rows { OnOk result (store.new.rows ≡ plan_rows catalog.now store.old.rows plan.now cut.now) }
     ensures size { IfOk result (λ book. length book.replies ≡ length plan.now.batch.now.requests) }
     ensures replies { IfOk result (λ book. (place : ℕ) → place < length plan.now.batch.now.requests
-        → reply_at book place ≡ find nat_cmp (plan.now.first + place) (plan_replies catalog.now store.old.rows plan.now)) }
-    ensures err { IfErr result (StraysWhere (plan_strays catalog.now store.old.rows plan.now)) }
+        → reply_at book place ≡ find nat_cmp (plan.now.first + place) (plan_replies catalog.now store.old.rows plan.now cut.now)) }
+    ensures err { IfErr result (StraysWhere (plan_strays catalog.now store.old.rows plan.now cut.now)) }
     ensures points { store.new.points ≡ store.old.points }
     ensures clean { KeepsCleanLeaves store.old store.new }
 {
-    cuts();
     let number = RequestNumber::new(plan.first).unwrap();
     let mut book = ReplyBook::new(alloc, number, plan.batch.requests.len())?;
     for index in 0..cut.depth() {
@@ -183,6 +208,7 @@ pub(crate) fn execute_parallel<R: Threads + Sync, G: Gate>(
             strayed: false,
         });
     }
+    cuts();
     declared_levels();
     strays_in_turn();
     next.keep_within();

@@ -1,3 +1,5 @@
+pub mod ColumnSteps
 pub mod CutSteps
 pub mod LevelSteps
 pub mod Lists
+pub mod Tops

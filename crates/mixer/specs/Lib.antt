@@ -1,1 +1,4 @@
+pub mod Columns
 pub mod LevelRows
+pub mod Slots
+pub mod Tables

@@ -4,8 +4,9 @@ ghost use Rattle.std.specs.List.{All};
 ghost use Rattle.serializability.specs.Levels.{levels, cut};
 ghost use Rattle.serializability.specs.Signatures.{meets_by};
 ghost use Rattle.signatures_simd.specs.Bits.{bit};
+ghost use Rattle.mixer.specs.Slots.{slot};
 
-use crate::levels::{depth_of, levels_of};
+use crate::levels::{depth_of, exact_levels_of, levels_of};
 use std::alloc::Global;
 use std::marker::Model;
 use tpcc_rows::footprint::Footprint;
@@ -71,5 +72,15 @@ pub fn mix(alloc: Global, footprints: &[Footprint]) -> Result<Cut, Memory>
     ensures { IfOk result (λ c. c ≡ cut (levels (meets_by bit) footprints.now)) }
 {
     let levels = levels_of(alloc, footprints)?;
+    cut_of(alloc, &levels)
+}
+
+/// The cut of a batch by the granules themselves, but for the few that share a slot: fewer levels, with more requests each, than by
+/// signatures.
+pub fn mix_exactly(alloc: Global, footprints: &[Footprint]) -> Result<Cut, Memory>
+    requires { length footprints.now ≤ 1024 }
+    ensures { IfOk result (λ c. c ≡ cut (levels (meets_by slot) footprints.now)) }
+{
+    let levels = exact_levels_of(alloc, footprints)?;
     cut_of(alloc, &levels)
 }

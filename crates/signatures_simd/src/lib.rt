@@ -6,5 +6,5 @@ mod bit;
 mod lanes;
 mod signature;
 
-pub use bit::granule_bit;
+pub use bit::{MULTIPLIER, granule_bit, packed};
 pub use signature::{Signature, highest_meeting};

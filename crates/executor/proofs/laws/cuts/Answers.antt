@@ -1,6 +1,6 @@
-use Rattle.executor.specs.LevelRuns.{meets}
+use Rattle.serializability.specs.Signatures.{meets_by}
 use Rattle.executor.proofs.CutPlaces.{is_cut}
 use Rattle.executor.proofs.laws.cuts.Goals as goal
 
 pub returns : goal.returns
-returns c = λ footprints. is_cut meets footprints
+returns c = λ code footprints. is_cut (meets_by code) footprints

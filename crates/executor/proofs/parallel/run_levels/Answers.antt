@@ -6,7 +6,7 @@ use Rattle.serializability.specs.Levels.{job_strays, jobs, jobs_at, level_replie
 use Rattle.tpcc_model.specs.Machine.{tpcc}
 use Rattle.gather.specs.Books.{blank}
 use Rattle.executor.specs.Filing.{Awaits}
-use Rattle.executor.specs.LevelRuns.{cut_by, levels_by}
+use Rattle.executor.specs.PlannedLevels.{plan_levels}
 use Rattle.executor.proofs.CleanLeaves.{kept_twice}
 use Rattle.executor.proofs.Filing.{FilesRest, files_more}
 use Rattle.executor.proofs.LevelSteps.{replies_on, rows_on, strays_here, strays_on, levels_from}
@@ -22,42 +22,37 @@ unwrap-places-requires g c =
 
 pub invariant_of-level-clause-short : goal.invariant_of-level-clause-short
 invariant_of-level-clause-short g c =
-    let at : slice_get (cut_by c.args.plan.now.footprints.now) c.loop-index.index ≡ Some c.unwrap-places.result.now =
-    ap (λ (cut : List (List ℕ)). slice_get cut c.loop-index.index) (sym c.requires) ∙ sym c.level.ensures ∙ ap option_copied c.unwrap-places.ensures in
-    let short = (c.cuts.ensures c.args.plan.now.footprints.now).short c.loop-index.index c.unwrap-places.result.now at in
+    let at : slice_get c.args.cut.now c.loop-index.index ≡ Some c.unwrap-places.result.now = sym c.level.ensures ∙ ap option_copied c.unwrap-places.ensures in
+    let short = c.requires.short c.loop-index.index c.unwrap-places.result.now at in
     let few = c.args.plan.now.few in
     let each = c.args.plan.now.each in
     omega (arith, short, few, each)
 
 pub invariant_of-level-clause-rising : goal.invariant_of-level-clause-rising
 invariant_of-level-clause-rising g c =
-    let at : slice_get (cut_by c.args.plan.now.footprints.now) c.loop-index.index ≡ Some c.unwrap-places.result.now =
-    ap (λ (cut : List (List ℕ)). slice_get cut c.loop-index.index) (sym c.requires) ∙ sym c.level.ensures ∙ ap option_copied c.unwrap-places.ensures in
-    (c.cuts.ensures c.args.plan.now.footprints.now).rising c.loop-index.index c.unwrap-places.result.now at
+    let at : slice_get c.args.cut.now c.loop-index.index ≡ Some c.unwrap-places.result.now = sym c.level.ensures ∙ ap option_copied c.unwrap-places.ensures in
+    c.requires.rising c.loop-index.index c.unwrap-places.result.now at
 
 pub invariant_of-level-clause-there : goal.invariant_of-level-clause-there
 invariant_of-level-clause-there g c =
-    let at : slice_get (cut_by c.args.plan.now.footprints.now) c.loop-index.index ≡ Some c.unwrap-places.result.now =
-    ap (λ (cut : List (List ℕ)). slice_get cut c.loop-index.index) (sym c.requires) ∙ sym c.level.ensures ∙ ap option_copied c.unwrap-places.ensures in
+    let at : slice_get c.args.cut.now c.loop-index.index ≡ Some c.unwrap-places.result.now = sym c.level.ensures ∙ ap option_copied c.unwrap-places.ensures in
     each_place (λ place. place < length c.args.plan.now.batch.now.requests) c.unwrap-places.result.now
-    (λ place has. subst (λ (n : ℕ). place < n) c.args.plan.now.each ((c.cuts.ensures c.args.plan.now.footprints.now).below c.loop-index.index place c.unwrap-places.result.now at has))
+    (λ place has. subst (λ (n : ℕ). place < n) c.args.plan.now.each (c.requires.below c.loop-index.index place c.unwrap-places.result.now at has))
 
 pub settle_level-requires-clause-awaited : goal.settle_level-requires-clause-awaited
 settle_level-requires-clause-awaited g c κs lives =
-    let at : slice_get (cut_by c.args.plan.now.footprints.now) c.loop-index.index ≡ Some c.unwrap-places.result.now =
-    ap (λ (cut : List (List ℕ)). slice_get cut c.loop-index.index) (sym c.requires) ∙ sym c.level.ensures ∙ ap option_copied c.unwrap-places.ensures in
+    let at : slice_get c.args.cut.now c.loop-index.index ≡ Some c.unwrap-places.result.now = sym c.level.ensures ∙ ap option_copied c.unwrap-places.ensures in
     each_place (Awaits c.loop-index.book) c.unwrap-places.result.now
     (λ place has. c.loop-index.invariant.awaited c.loop-index.index place c.unwrap-places.result.now (omega arith) at has)
 
 pub returns-in_err-settle_level-clause-err : goal.returns-in_err-settle_level-clause-err
 returns-in_err-settle_level-clause-err g c =
     let machine = tpcc c.args.catalog.now c.args.plan.now.batch.now.moment in
-    let cut = cut_by c.args.plan.now.footprints.now in
+    let cut = c.args.cut.now in
     let places = c.unwrap-places.result.now in
     let all = jobs c.args.plan.now.first c.args.plan.now.batch.now.requests c.args.plan.now.footprints.now in
     let rows = c.loop-index.store.rows in
-    let at : slice_get cut c.loop-index.index ≡ Some places =
-    ap (λ (levels : List (List ℕ)). slice_get levels c.loop-index.index) (sym c.requires) ∙ sym c.level.ensures ∙ ap option_copied c.unwrap-places.ensures in
+    let at : slice_get cut c.loop-index.index ≡ Some places = sym c.level.ensures ∙ ap option_copied c.unwrap-places.ensures in
     stray_up (list_any (job_strays machine rows) (jobs_at all places)) _ c.in_err-settle_level.field-0.0 c.from_residual-in_err-settle_level.result
     (λ strayed. sym c.loop-index.invariant.within ∙ strays_here machine rows all cut c.loop-index.index places at strayed)
     c.in_err-settle_level.ensures.err c.from_residual-in_err-settle_level.ensures.1
@@ -65,15 +60,14 @@ returns-in_err-settle_level-clause-err g c =
 pub loop-index-preserved : goal.loop-index-preserved
 loop-index-preserved g c =
     let machine = tpcc c.args.catalog.now c.args.plan.now.batch.now.moment in
-    let cut = cut_by c.args.plan.now.footprints.now in
+    let cut = c.args.cut.now in
     let i = c.loop-index.index in
     let places = c.unwrap-places.result.now in
     let all = jobs c.args.plan.now.first c.args.plan.now.batch.now.requests c.args.plan.now.footprints.now in
-    let told = run_replies machine c.args.store.now.rows (levels_by c.args.plan.now.first c.args.plan.now.batch.now.requests c.args.plan.now.footprints.now) in
+    let told = run_replies machine c.args.store.now.rows (plan_levels c.args.plan.now cut) in
     let rows = c.loop-index.store.rows in
     let left = c.settle_level.new.store.rows in
-    let at : slice_get cut i ≡ Some places =
-    ap (λ (levels : List (List ℕ)). slice_get levels i) (sym c.requires) ∙ sym c.level.ensures ∙ ap option_copied c.unwrap-places.ensures in
+    let at : slice_get cut i ≡ Some places = sym c.level.ensures ∙ ap option_copied c.unwrap-places.ensures in
     let after = c.in_ok-settle_level.ensures.rows in
     record {
       within = strays_on machine rows all cut i places at left after c.in_ok-settle_level.ensures.within ∙ c.loop-index.invariant.within;
@@ -83,7 +77,7 @@ loop-index-preserved g c =
           (subst (λ replies. FilesRest told replies (blank c.args.plan.now.first (length c.args.plan.now.batch.now.requests)) c.loop-index.book) (replies_on machine rows all cut i places at left after) c.loop-index.invariant.filed);
       awaited = λ level place others low there has.
           c.in_ok-settle_level.ensures.others place
-          (λ here. let same = (c.cuts.ensures c.args.plan.now.footprints.now).once i level place places others at there here has in absurd (omega (arith, same, low)))
+          (λ here. let same = c.requires.once i level place places others at there here has in absurd (omega (arith, same, low)))
           (c.loop-index.invariant.awaited level place others (omega (arith, low)) there has);
       points = c.in_ok-settle_level.ensures.points ∙ c.loop-index.invariant.points;
       clean = kept_twice c.args.store.now c.loop-index.store c.settle_level.new.store c.loop-index.invariant.clean c.in_ok-settle_level.ensures.clean;

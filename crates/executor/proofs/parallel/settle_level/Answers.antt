@@ -34,20 +34,19 @@ returns-in-Strayed-clause-err g c =
     let stray : IsStray c.args.catalog.now c.args.store.now.rows c.args.level.now.plan.batch.now.moment all c.args.level.now.places.now c.in-Strayed.field-0 = rw c.in-Strayed.is at c.in_ok-run_level.ensures in
     level_strays c.args.catalog.now c.args.store.now.rows c.args.level.now.plan.batch.now.moment all c.args.level.now.places.now c.in-Strayed.field-0 stray
 
-pub returns-in_ok-apply-in-Done-clause-rows : goal.returns-in_ok-apply-in-Done-clause-rows
-returns-in_ok-apply-in-Done-clause-rows g c =
+pub returns-in_ok-apply_each-in-Done-clause-rows : goal.returns-in_ok-apply_each-in-Done-clause-rows
+returns-in_ok-apply_each-in-Done-clause-rows g c =
     let all = jobs c.args.level.now.plan.first c.args.level.now.plan.batch.now.requests c.args.level.now.plan.footprints.now in
     let rows = c.args.store.now.rows in
     let outcomes = c.in-Done.outcomes.items in
     let are : AreDone c.args.catalog.now rows c.args.level.now.plan.batch.now.moment c.args.level.now.plan.first (jobs_at all c.args.level.now.places.now) c.args.level.now.places.now outcomes = rw c.in-Done.is at c.in_ok-run_level.ensures in
-    c.in_ok-apply-in-Done.ensures.ok
-    ∙ c.in_ok-changes-in-Done.ensures.in_turn rows
+    c.in_ok-apply_each-in-Done.ensures.rows
     ∙ ap (after_each rows) c.in_ok-deltas-in-Done.ensures.changes
     ∙ after_outcomes outcomes rows
     ∙ rows_after_level c.args.catalog.now rows c.args.level.now.plan.batch.now.moment c.args.level.now.plan.first (jobs_at all c.args.level.now.places.now) c.args.level.now.places.now outcomes are
 
-pub returns-in_ok-apply-in-Done-clause-others : goal.returns-in_ok-apply-in-Done-clause-others
-returns-in_ok-apply-in-Done-clause-others g c =
+pub returns-in_ok-apply_each-in-Done-clause-others : goal.returns-in_ok-apply_each-in-Done-clause-others
+returns-in_ok-apply_each-in-Done-clause-others g c =
     let all = jobs c.args.level.now.plan.first c.args.level.now.plan.batch.now.requests c.args.level.now.plan.footprints.now in
     let outcomes = c.in-Done.outcomes.items in
     let are : AreDone c.args.catalog.now c.args.store.now.rows c.args.level.now.plan.batch.now.moment c.args.level.now.plan.first (jobs_at all c.args.level.now.places.now) c.args.level.now.places.now outcomes = rw c.in-Done.is at c.in_ok-run_level.ensures in
