@@ -81,7 +81,7 @@ same_replies replies wanted entries all size at =
 
 -- ---- the levels of a cut by what the requests declare
 module _ (cards : Cards) (state : State) (batch : Batch) (footprints : List (Footprint Granule)) (declared : footprints ≡ declared_footprints cards state batch) (cut : List (List ℕ)) (by : IsCutBySome footprints cut) (sound : IsSound (database cards state.rows)) (limits : AreWithinLimits batch.moment state.next batch.requests) where
-  abbrev cut_levels : List (List (Job Granule Request))
+  abbrev pub cut_levels : List (List (Job Granule Request))
   cut_levels = map (levels.jobs_at (levels.jobs state.next batch.requests footprints)) cut
 
   levels_are : cut_levels ≡ declared_levels by.0 cards state batch

@@ -1,6 +1,6 @@
 //! The bits of some granules, signatures, footprints that cover others, and batches of few footprints.
 use crate::printing::print_cut;
-use mixer::mix;
+use mixer::{mix, mix_exactly};
 use signatures_simd::{Signature, granule_bit, highest_meeting};
 use std::alloc::Global;
 use tpcc_rows::footprint::Footprint;
@@ -224,6 +224,8 @@ fn show_cut(rt: &impl Print, alloc: Global, name: &str, footprints: &[Footprint]
         return None;
     }
     print_cut(rt, name, &mix(alloc, footprints).ok()?);
+    let _ = print!(rt; "exact ");
+    print_cut(rt, name, &mix_exactly(alloc, footprints).ok()?);
     Some(())
 }
 
