@@ -80,7 +80,8 @@ impl Group {
     {
         extend(alloc, &mut self.leaves, leaf + 1)?;
         let ranks = &mut self.leaves[leaf];
-        ranks.put(rank, ())
+        ranks.put(rank, ())?;
+        Ok(())
     }
 
     fn remove(&mut self, leaf: usize, rank: u64)

@@ -1,5 +1,5 @@
 //! Tables side by side, one for each district of each warehouse: new rows of a district come at the end of its table.
-ghost use Rattle.std.specs.Prelude.{◌≡◌, ◌<◌, IfOk, OnErr, OnOk, option_copied};
+ghost use Rattle.std.specs.Prelude.{◌≡◌, ◌<◌, IfOk, None, OnErr, OnOk, option_copied};
 ghost use Rattle.std.specs.FinMap as map;
 ghost use Rattle.tables.specs.Shelves.{place_of, rows_at};
 
@@ -77,10 +77,12 @@ impl<R: Drop> Shelf<R> {
         Ok(Shelf { tables })
     }
 
-    /// The rank has this row from now on.
-    pub fn put(&mut self, rank: u64, row: R) -> Result<(), Memory>
+    /// The rank has this row from now on; the answer is the one that it had. Memory is refused only where it had none.
+    pub fn put(&mut self, rank: u64, row: R) -> Result<Option<R>, Memory>
+        ensures value { IfOk result (λ was. was ≡ map.get self.old rank) }
         ensures ok { OnOk result (self.new ≡ map.insert self.old rank row) }
         ensures err { OnErr result (self.new ≡ self.old) }
+        ensures new { OnErr result (map.get self.old rank ≡ None) }
     {
         let n = place_of(rank);
         let table = &mut self.tables[n];

@@ -1,5 +1,5 @@
 //! Rows of one kind in one piece of memory, in the order of their ranks.
-ghost use Rattle.std.specs.Prelude.{◌≡◌, ◌<◌, ◌≤◌, ◌^◌, Err, IsTrue, Ok, OnErr, OnOk, is_some, length, option_copied, true};
+ghost use Rattle.std.specs.Prelude.{◌≡◌, ◌<◌, ◌≤◌, ◌^◌, Err, IfOk, IsTrue, None, Ok, OnErr, OnOk, is_some, length, option_copied, true};
 ghost use Rattle.std.specs.FinMap as map;
 ghost use Rattle.std.specs.List.{HoldsAt, insert, remove, slice_set};
 ghost use Rattle.std.specs.Ordering.{nat_cmp};
@@ -7,6 +7,7 @@ ghost use Rattle.tpcc_rows.specs.Places.{IsPlaceOf, are_in_order};
 
 use std::alloc::Global;
 use std::marker::Model;
+use std::mem;
 use tpcc_rows::memory::Memory;
 
 /// How far from a guess a row is looked for.
@@ -108,22 +109,29 @@ fn found<R>(entries: &[(u64, R)], rank: u64, guess: usize) -> Option<&R>
     }
 }
 
-/// The place has this entry from now on.
-fn replace<R: Drop>(entries: &mut Vec<(u64, R)>, place: usize, entry: (u64, R))
+/// The place has this entry from now on; the answer is the row that it had.
+fn replace<R>(entries: &mut Vec<(u64, R)>, place: usize, entry: (u64, R)) -> R
     requires { place < length entries.old.items }
-    ensures { entries.new.items ≡ slice_set entries.old.items place entry }
+    ensures value { HoldsAt (λ entry. entry.1 ≡ result) entries.old.items place }
+    ensures after { entries.new.items ≡ slice_set entries.old.items place entry }
 {
-    entries[place] = entry;
+    let (_, row) = mem::replace(&mut entries[place], entry);
+    row
 }
 
-/// One entry more at the place, before those that stood from there on.
-fn insert<R: Drop>(entries: &mut Vec<(u64, R)>, place: usize, entry: (u64, R)) -> Result<(), Memory>
+/// One entry more at the place, before those that stood from there on. There was none of its rank.
+fn insert<R: Drop>(
+    entries: &mut Vec<(u64, R)>,
+    place: usize,
+    entry: (u64, R),
+) -> Result<Option<R>, Memory>
     requires { place ≤ length entries.old.items }
+    ensures value { IfOk result (λ was. was ≡ None) }
     ensures ok { OnOk result (entries.new.items ≡ insert entries.old.items place entry) }
     ensures err { OnErr result (entries.new.items ≡ entries.old.items) }
 {
     entries.insert(place, entry)?;
-    Ok(())
+    Ok(None)
 }
 
 /// One entry fewer: the one at the place, whose row is the answer.
@@ -176,17 +184,16 @@ impl<R> Table<R> {
 }
 
 impl<R: Drop> Table<R> {
-    /// The rank has this row from now on.
-    pub fn put(&mut self, rank: u64, row: R) -> Result<(), Memory>
+    /// The rank has this row from now on; the answer is the one that it had. Memory is refused only where it had none.
+    pub fn put(&mut self, rank: u64, row: R) -> Result<Option<R>, Memory>
+        ensures value { IfOk result (λ was. was ≡ map.get self.old rank) }
         ensures ok { OnOk result (self.new ≡ map.insert self.old rank row) }
         ensures err { OnErr result (self.new ≡ self.old) }
+        ensures new { OnErr result (map.get self.old rank ≡ None) }
     {
         let guess = guess(&self.entries, rank);
         match place_of(&self.entries, rank, guess) {
-            Ok(place) => {
-                replace(&mut self.entries, place, (rank, row));
-                Ok(())
-            }
+            Ok(place) => Ok(Some(replace(&mut self.entries, place, (rank, row)))),
             Err(place) => insert(&mut self.entries, place, (rank, row)),
         }
     }
