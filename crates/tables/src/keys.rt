@@ -19,7 +19,8 @@ fn district_of(number: u64) -> Option<DistrictId>
     DistrictId::new((number / 268_435_456 % 16) as u8)
 }
 
-fn order_of(number: u64) -> Option<OrderId>
+/// The order of the rank of an order, a new order or an order line.
+pub fn order_of(number: u64) -> Option<OrderId>
     ensures { result ≡ order_of number }
 {
     OrderId::new((number / 16 % 16_777_216) as u32)

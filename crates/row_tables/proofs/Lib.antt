@@ -1,0 +1,3 @@
+pub mod ByKind
+pub mod Keyed
+pub mod NewNumbers

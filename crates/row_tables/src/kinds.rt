@@ -1,0 +1,419 @@
+//! A table for the rows of each kind.
+ghost use Rattle.std.specs.Prelude.{◌≡◌, IfOk, None, OnErr, OnOk, option_copied, option_map};
+ghost use Rattle.std.specs.FinMap as map;
+ghost use Rattle.row_tables.specs.Kinds.{table_of, table_of_row};
+ghost use Rattle.row_tables.specs.NewRows.{as_rows, new_rows};
+ghost use Rattle.row_tables.specs.References.{row_of};
+ghost use Rattle.tables.specs.Shelves.{place_of};
+ghost use Rattle.tpcc_rows.specs.declared.row.Row.TheVariants.{Customer, DistrictNext, DistrictYtd, History, NewOrder, Order, OrderLine, Stock, Warehouse};
+
+use crate::row_ref::RowRef;
+use std::alloc::Global;
+use std::marker::Model;
+use tables::shelf::Shelf;
+use tables::starts::LineStarts;
+use tables::table::Table;
+use tpcc_rows::customer::SharedCustomer;
+use tpcc_rows::memory::Memory;
+use tpcc_rows::number::{Carrier, Moment};
+use tpcc_rows::row::{
+    DistrictNextRow, DistrictYtdRow, HistoryRow, OrderLineRow, OrderRow, Row, StockRow,
+    WarehouseRow,
+};
+
+/// A finite map from ranks to rows, each in the table of its rank's kind.
+#[derive(Drop)]
+pub struct KindTables {
+    warehouses: Shelf<WarehouseRow>,
+    customers: Shelf<SharedCustomer>,
+    stocks: Shelf<StockRow>,
+    orders: Shelf<OrderRow>,
+    new_orders: Shelf<()>,
+    lines: Shelf<OrderLineRow>,
+    history: Table<HistoryRow>,
+    ytds: Shelf<DistrictYtdRow>,
+    nexts: Shelf<DistrictNextRow>,
+    /// Where order lines may be.
+    starts: LineStarts,
+}
+
+impl Model for KindTables {
+    ghost use Rattle.row_tables.specs.RankRows.{RankRows, rank_rows_code};
+    ghost use Rattle.row_tables.specs.Kinds.{AreByKind, kinds};
+    ghost use Rattle.tables.specs.Shelves.{union};
+
+    ghost Value = { RankRows };
+
+    ghost coded = { rank_rows_code };
+
+    ghost view = { λ s. union (kinds s.warehouses s.customers s.stocks s.orders s.new_orders s.lines s.history s.ytds s.nexts) };
+
+    ghost invariant = { λ s. AreByKind (kinds s.warehouses s.customers s.stocks s.orders s.new_orders s.lines s.history s.ytds s.nexts) };
+}
+
+impl KindTables {
+    /// No rows.
+    pub fn new(alloc: Global) -> Result<KindTables, Memory>
+        ensures { IfOk result (λ tables. tables ≡ map.empty) }
+    {
+        let warehouses = Shelf::new(alloc)?;
+        let customers = Shelf::new(alloc)?;
+        let stocks = Shelf::new(alloc)?;
+        let orders = Shelf::new(alloc)?;
+        let new_orders = Shelf::new(alloc)?;
+        let lines = Shelf::new(alloc)?;
+        let history = Table::new(alloc);
+        let ytds = Shelf::new(alloc)?;
+        let nexts = Shelf::new(alloc)?;
+        let starts = LineStarts::new(alloc)?;
+        Ok(KindTables {
+            warehouses,
+            customers,
+            stocks,
+            orders,
+            new_orders,
+            lines,
+            history,
+            ytds,
+            nexts,
+            starts,
+        })
+    }
+
+    pub fn warehouse(&self, rank: u64) -> Option<&WarehouseRow>
+        requires { table_of rank ≡ 0 }
+        ensures { option_map Warehouse (option_copied result) ≡ map.get self.now rank }
+    {
+        self.warehouses.get(rank)
+    }
+
+    pub fn customer(&self, rank: u64) -> Option<&SharedCustomer>
+        requires { table_of rank ≡ 1 }
+        ensures { option_map Customer (option_copied result) ≡ map.get self.now rank }
+    {
+        self.customers.get(rank)
+    }
+
+    pub fn stock(&self, rank: u64) -> Option<&StockRow>
+        requires { table_of rank ≡ 2 }
+        ensures { option_map Stock (option_copied result) ≡ map.get self.now rank }
+    {
+        self.stocks.get(rank)
+    }
+
+    pub fn order(&self, rank: u64) -> Option<&OrderRow>
+        requires { table_of rank ≡ 3 }
+        ensures { option_map Order (option_copied result) ≡ map.get self.now rank }
+    {
+        self.orders.get(rank)
+    }
+
+    pub fn new_order(&self, rank: u64) -> Option<&()>
+        requires { table_of rank ≡ 4 }
+        ensures { option_map (λ _. NewOrder) (option_copied result) ≡ map.get self.now rank }
+    {
+        self.new_orders.get(rank)
+    }
+
+    pub fn order_line(&self, rank: u64) -> Option<&OrderLineRow>
+        requires { table_of rank ≡ 5 }
+        ensures { option_map OrderLine (option_copied result) ≡ map.get self.now rank }
+    {
+        self.lines.get_near(rank, self.starts.guess(rank))
+    }
+
+    pub fn history(&self, rank: u64) -> Option<&HistoryRow>
+        requires { table_of rank ≡ 6 }
+        ensures { option_map History (option_copied result) ≡ map.get self.now rank }
+    {
+        self.history.get(rank)
+    }
+
+    pub fn district_ytd(&self, rank: u64) -> Option<&DistrictYtdRow>
+        requires { table_of rank ≡ 7 }
+        ensures { option_map DistrictYtd (option_copied result) ≡ map.get self.now rank }
+    {
+        self.ytds.get(rank)
+    }
+
+    pub fn district_next(&self, rank: u64) -> Option<&DistrictNextRow>
+        requires { table_of rank ≡ 8 }
+        ensures { option_map DistrictNext (option_copied result) ≡ map.get self.now rank }
+    {
+        self.nexts.get(rank)
+    }
+
+    pub fn get(&self, rank: u64) -> Option<RowRef<'_>>
+        ensures { option_map row_of result ≡ map.get self.now rank }
+    {
+        match rank / 0x0100_0000_0000_0000 {
+            1 => Some(RowRef::Warehouse(self.warehouse(rank)?)),
+            3 => Some(RowRef::Customer(self.customer(rank)?)),
+            4 => Some(RowRef::Stock(self.stock(rank)?)),
+            5 => Some(RowRef::Order(self.order(rank)?)),
+            6 => {
+                self.new_order(rank)?;
+                Some(RowRef::NewOrder)
+            }
+            7 => Some(RowRef::OrderLine(self.order_line(rank)?)),
+            8 => Some(RowRef::History(self.history(rank)?)),
+            9 => Some(RowRef::DistrictYtd(self.district_ytd(rank)?)),
+            _ => Some(RowRef::DistrictNext(self.district_next(rank)?)),
+        }
+    }
+
+    /// The ranks of the new orders of the rank's district, in rising order.
+    pub fn new_orders_at(&self, rank: u64) -> &[(u64, ())]
+        ensures { as_rows result.now ≡ map.entries (new_rows self.now (place_of rank)) }
+    {
+        self.new_orders.slice_at(rank)
+    }
+
+    /// The rank has this row from now on; the answer is the one that it had.
+    pub fn put_warehouse(
+        &mut self,
+        rank: u64,
+        row: WarehouseRow,
+    ) -> Result<Option<WarehouseRow>, Memory>
+        requires { table_of rank ≡ 0 }
+        ensures value { IfOk result (λ was. option_map Warehouse was ≡ map.get self.old rank) }
+        ensures ok { OnOk result (self.new ≡ map.insert self.old rank (Warehouse row)) }
+        ensures err { OnErr result (self.new ≡ self.old) }
+        ensures new { OnErr result (map.get self.old rank ≡ None) }
+    {
+        self.warehouses.put(rank, row)
+    }
+
+    /// The rank has this row from now on; the answer is the one that it had.
+    pub fn put_customer(
+        &mut self,
+        rank: u64,
+        row: SharedCustomer,
+    ) -> Result<Option<SharedCustomer>, Memory>
+        requires { table_of rank ≡ 1 }
+        ensures value { IfOk result (λ was. option_map Customer was ≡ map.get self.old rank) }
+        ensures ok { OnOk result (self.new ≡ map.insert self.old rank (Customer row)) }
+        ensures err { OnErr result (self.new ≡ self.old) }
+        ensures new { OnErr result (map.get self.old rank ≡ None) }
+    {
+        self.customers.put(rank, row)
+    }
+
+    /// The rank has this row from now on; the answer is the one that it had.
+    pub fn put_stock(&mut self, rank: u64, row: StockRow) -> Result<Option<StockRow>, Memory>
+        requires { table_of rank ≡ 2 }
+        ensures value { IfOk result (λ was. option_map Stock was ≡ map.get self.old rank) }
+        ensures ok { OnOk result (self.new ≡ map.insert self.old rank (Stock row)) }
+        ensures err { OnErr result (self.new ≡ self.old) }
+        ensures new { OnErr result (map.get self.old rank ≡ None) }
+    {
+        self.stocks.put(rank, row)
+    }
+
+    /// The rank has this row from now on; the answer is the one that it had.
+    pub fn put_order(&mut self, rank: u64, row: OrderRow) -> Result<Option<OrderRow>, Memory>
+        requires { table_of rank ≡ 3 }
+        ensures value { IfOk result (λ was. option_map Order was ≡ map.get self.old rank) }
+        ensures ok { OnOk result (self.new ≡ map.insert self.old rank (Order row)) }
+        ensures err { OnErr result (self.new ≡ self.old) }
+        ensures new { OnErr result (map.get self.old rank ≡ None) }
+    {
+        let _carrier: Option<Carrier> = row.carrier;
+        self.orders.put(rank, row)
+    }
+
+    /// The rank has this row from now on; the answer is the one that it had.
+    pub fn put_new_order(&mut self, rank: u64, row: ()) -> Result<Option<()>, Memory>
+        requires { table_of rank ≡ 4 }
+        ensures value { IfOk result (λ was. option_map (λ _. NewOrder) was ≡ map.get self.old rank) }
+        ensures ok { OnOk result (self.new ≡ map.insert self.old rank (NewOrder)) }
+        ensures err { OnErr result (self.new ≡ self.old) }
+        ensures new { OnErr result (map.get self.old rank ≡ None) }
+    {
+        self.new_orders.put(rank, row)
+    }
+
+    /// The rank has this row from now on; the answer is the one that it had.
+    pub fn put_order_line(
+        &mut self,
+        rank: u64,
+        row: OrderLineRow,
+    ) -> Result<Option<OrderLineRow>, Memory>
+        requires { table_of rank ≡ 5 }
+        ensures value { IfOk result (λ was. option_map OrderLine was ≡ map.get self.old rank) }
+        ensures ok { OnOk result (self.new ≡ map.insert self.old rank (OrderLine row)) }
+        ensures err { OnErr result (self.new ≡ self.old) }
+        ensures new { OnErr result (map.get self.old rank ≡ None) }
+    {
+        let _delivery: Option<Moment> = row.delivery;
+        self.starts.note(rank, self.lines.len_at(rank));
+        self.lines.put(rank, row)
+    }
+
+    /// The rank has this row from now on; the answer is the one that it had.
+    pub fn put_history(&mut self, rank: u64, row: HistoryRow) -> Result<Option<HistoryRow>, Memory>
+        requires { table_of rank ≡ 6 }
+        ensures value { IfOk result (λ was. option_map History was ≡ map.get self.old rank) }
+        ensures ok { OnOk result (self.new ≡ map.insert self.old rank (History row)) }
+        ensures err { OnErr result (self.new ≡ self.old) }
+        ensures new { OnErr result (map.get self.old rank ≡ None) }
+    {
+        self.history.put(rank, row)
+    }
+
+    /// The rank has this row from now on; the answer is the one that it had.
+    pub fn put_district_ytd(
+        &mut self,
+        rank: u64,
+        row: DistrictYtdRow,
+    ) -> Result<Option<DistrictYtdRow>, Memory>
+        requires { table_of rank ≡ 7 }
+        ensures value { IfOk result (λ was. option_map DistrictYtd was ≡ map.get self.old rank) }
+        ensures ok { OnOk result (self.new ≡ map.insert self.old rank (DistrictYtd row)) }
+        ensures err { OnErr result (self.new ≡ self.old) }
+        ensures new { OnErr result (map.get self.old rank ≡ None) }
+    {
+        self.ytds.put(rank, row)
+    }
+
+    /// The rank has this row from now on; the answer is the one that it had.
+    pub fn put_district_next(
+        &mut self,
+        rank: u64,
+        row: DistrictNextRow,
+    ) -> Result<Option<DistrictNextRow>, Memory>
+        requires { table_of rank ≡ 8 }
+        ensures value { IfOk result (λ was. option_map DistrictNext was ≡ map.get self.old rank) }
+        ensures ok { OnOk result (self.new ≡ map.insert self.old rank (DistrictNext row)) }
+        ensures err { OnErr result (self.new ≡ self.old) }
+        ensures new { OnErr result (map.get self.old rank ≡ None) }
+    {
+        self.nexts.put(rank, row)
+    }
+
+    /// The rank has no row from now on; the answer is the one that it had.
+    pub fn remove_warehouse(&mut self, rank: u64) -> Option<WarehouseRow>
+        requires { table_of rank ≡ 0 }
+        ensures value { option_map Warehouse result ≡ map.get self.old rank }
+        ensures after { self.new ≡ map.remove self.old rank }
+    {
+        self.warehouses.remove(rank)
+    }
+
+    /// The rank has no row from now on; the answer is the one that it had.
+    pub fn remove_customer(&mut self, rank: u64) -> Option<SharedCustomer>
+        requires { table_of rank ≡ 1 }
+        ensures value { option_map Customer result ≡ map.get self.old rank }
+        ensures after { self.new ≡ map.remove self.old rank }
+    {
+        self.customers.remove(rank)
+    }
+
+    /// The rank has no row from now on; the answer is the one that it had.
+    pub fn remove_stock(&mut self, rank: u64) -> Option<StockRow>
+        requires { table_of rank ≡ 2 }
+        ensures value { option_map Stock result ≡ map.get self.old rank }
+        ensures after { self.new ≡ map.remove self.old rank }
+    {
+        self.stocks.remove(rank)
+    }
+
+    /// The rank has no row from now on; the answer is the one that it had.
+    pub fn remove_order(&mut self, rank: u64) -> Option<OrderRow>
+        requires { table_of rank ≡ 3 }
+        ensures value { option_map Order result ≡ map.get self.old rank }
+        ensures after { self.new ≡ map.remove self.old rank }
+    {
+        self.orders.remove(rank)
+    }
+
+    /// The rank has no row from now on; the answer is the one that it had.
+    pub fn remove_new_order(&mut self, rank: u64) -> Option<()>
+        requires { table_of rank ≡ 4 }
+        ensures value { option_map (λ _. NewOrder) result ≡ map.get self.old rank }
+        ensures after { self.new ≡ map.remove self.old rank }
+    {
+        self.new_orders.remove(rank)
+    }
+
+    /// The rank has no row from now on; the answer is the one that it had.
+    pub fn remove_order_line(&mut self, rank: u64) -> Option<OrderLineRow>
+        requires { table_of rank ≡ 5 }
+        ensures value { option_map OrderLine result ≡ map.get self.old rank }
+        ensures after { self.new ≡ map.remove self.old rank }
+    {
+        self.lines.remove(rank)
+    }
+
+    /// The rank has no row from now on; the answer is the one that it had.
+    pub fn remove_history(&mut self, rank: u64) -> Option<HistoryRow>
+        requires { table_of rank ≡ 6 }
+        ensures value { option_map History result ≡ map.get self.old rank }
+        ensures after { self.new ≡ map.remove self.old rank }
+    {
+        self.history.remove(rank)
+    }
+
+    /// The rank has no row from now on; the answer is the one that it had.
+    pub fn remove_district_ytd(&mut self, rank: u64) -> Option<DistrictYtdRow>
+        requires { table_of rank ≡ 7 }
+        ensures value { option_map DistrictYtd result ≡ map.get self.old rank }
+        ensures after { self.new ≡ map.remove self.old rank }
+    {
+        self.ytds.remove(rank)
+    }
+
+    /// The rank has no row from now on; the answer is the one that it had.
+    pub fn remove_district_next(&mut self, rank: u64) -> Option<DistrictNextRow>
+        requires { table_of rank ≡ 8 }
+        ensures value { option_map DistrictNext result ≡ map.get self.old rank }
+        ensures after { self.new ≡ map.remove self.old rank }
+    {
+        self.nexts.remove(rank)
+    }
+
+    /// The rank has this row from now on; the answer is the one that it had.
+    pub fn put(&mut self, rank: u64, row: Row) -> Result<Option<Row>, Memory>
+        requires { table_of_row row ≡ table_of rank }
+        ensures value { IfOk result (λ was. was ≡ map.get self.old rank) }
+        ensures ok { OnOk result (self.new ≡ map.insert self.old rank row) }
+        ensures err { OnErr result (self.new ≡ self.old) }
+        ensures new { OnErr result (map.get self.old rank ≡ None) }
+    {
+        match row {
+            Row::Warehouse(row) => Ok(self.put_warehouse(rank, row)?.map(Row::Warehouse)),
+            Row::Customer(row) => Ok(self.put_customer(rank, row)?.map(Row::Customer)),
+            Row::Stock(row) => Ok(self.put_stock(rank, row)?.map(Row::Stock)),
+            Row::Order(row) => Ok(self.put_order(rank, row)?.map(Row::Order)),
+            Row::NewOrder => match self.put_new_order(rank, ())? {
+                Some(()) => Ok(Some(Row::NewOrder)),
+                None => Ok(None),
+            },
+            Row::OrderLine(row) => Ok(self.put_order_line(rank, row)?.map(Row::OrderLine)),
+            Row::History(row) => Ok(self.put_history(rank, row)?.map(Row::History)),
+            Row::DistrictYtd(row) => Ok(self.put_district_ytd(rank, row)?.map(Row::DistrictYtd)),
+            Row::DistrictNext(row) => Ok(self.put_district_next(rank, row)?.map(Row::DistrictNext)),
+        }
+    }
+
+    /// The rank has no row from now on; the answer is the one that it had.
+    pub fn remove(&mut self, rank: u64) -> Option<Row>
+        ensures value { result ≡ map.get self.old rank }
+        ensures after { self.new ≡ map.remove self.old rank }
+    {
+        match rank / 0x0100_0000_0000_0000 {
+            1 => self.remove_warehouse(rank).map(Row::Warehouse),
+            3 => self.remove_customer(rank).map(Row::Customer),
+            4 => self.remove_stock(rank).map(Row::Stock),
+            5 => self.remove_order(rank).map(Row::Order),
+            6 => match self.remove_new_order(rank) {
+                Some(()) => Some(Row::NewOrder),
+                None => None,
+            },
+            7 => self.remove_order_line(rank).map(Row::OrderLine),
+            8 => self.remove_history(rank).map(Row::History),
+            9 => self.remove_district_ytd(rank).map(Row::DistrictYtd),
+            _ => self.remove_district_next(rank).map(Row::DistrictNext),
+        }
+    }
+}

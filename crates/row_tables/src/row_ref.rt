@@ -1,0 +1,43 @@
+//! A row where it stands.
+ghost use Rattle.std.specs.Prelude.{◌≡◌, IfOk};
+ghost use Rattle.row_tables.specs.References.{row_of};
+
+use tpcc_rows::customer::SharedCustomer;
+use tpcc_rows::memory::Memory;
+use tpcc_rows::row::{
+    DistrictNextRow, DistrictYtdRow, HistoryRow, OrderLineRow, OrderRow, Row, StockRow,
+    WarehouseRow,
+};
+
+/// A reference to a row in the table of its kind.
+#[derive(Clone, Copy)]
+pub enum RowRef<'a> {
+    Warehouse(&'a WarehouseRow),
+    Customer(&'a SharedCustomer),
+    Stock(&'a StockRow),
+    Order(&'a OrderRow),
+    NewOrder,
+    OrderLine(&'a OrderLineRow),
+    History(&'a HistoryRow),
+    DistrictYtd(&'a DistrictYtdRow),
+    DistrictNext(&'a DistrictNextRow),
+}
+
+impl RowRef<'_> {
+    /// An equal row, without memory. It is refused where 2^63 copies share a customer's row.
+    pub fn copied(self) -> Result<Row, Memory>
+        ensures { IfOk result (λ copy. copy ≡ row_of self.entry) }
+    {
+        Ok(match self {
+            RowRef::Warehouse(row) => Row::Warehouse(*row),
+            RowRef::Customer(row) => Row::Customer(row.copied()?),
+            RowRef::Stock(row) => Row::Stock(*row),
+            RowRef::Order(row) => Row::Order(*row),
+            RowRef::NewOrder => Row::NewOrder,
+            RowRef::OrderLine(row) => Row::OrderLine(row.copied()),
+            RowRef::History(row) => Row::History(row.copied()),
+            RowRef::DistrictYtd(row) => Row::DistrictYtd(*row),
+            RowRef::DistrictNext(row) => Row::DistrictNext(*row),
+        })
+    }
+}

@@ -1,0 +1,203 @@
+//! The rows of a database by key.
+ghost use Rattle.std.specs.Prelude.{◌≡◌, IfOk, IfSome, None, OnErr, OnOk, is_some, option_and_then, option_copied, option_map, slice_get, true};
+ghost use Rattle.std.specs.FinMap as map;
+ghost use Rattle.row_tables.specs.References.{row_of};
+ghost use Rattle.tables.specs.Keys.{order_of};
+ghost use Rattle.tpcc_rows.specs.Picks.{new_pick, oldest, picked};
+ghost use Rattle.tpcc_rows.specs.RowKinds.{fits};
+ghost use Rattle.tpcc_rows.specs.Rows.{customer_row, district_next_row, district_ytd_row, order_line_row, order_row, stock_row, warehouse_row};
+
+use crate::kinds::KindTables;
+use crate::row_ref::RowRef;
+use std::alloc::Global;
+use std::marker::Model;
+use tables::keys::order_of;
+use tables::ranks::{
+    customer_rank, district_next_rank, district_ytd_rank, line_rank, order_rank, rank, stock_rank,
+    warehouse_rank,
+};
+use tpcc_rows::customer::SharedCustomer;
+use tpcc_rows::id::{CustomerId, DistrictId, ItemId, LineNumber, OrderId, WarehouseId};
+use tpcc_rows::key::RowKey;
+use tpcc_rows::memory::Memory;
+use tpcc_rows::row::{
+    CustomerRow, DistrictNextRow, DistrictYtdRow, OrderLineRow, OrderRow, Row, StockRow,
+    WarehouseRow,
+};
+
+/// A finite map from keys to rows, each row of its key's kind and in the table of that kind.
+#[derive(Drop)]
+pub struct RowTables {
+    tables: KindTables,
+}
+
+impl Model for RowTables {
+    ghost use Rattle.tpcc_rows.specs.RowMap.{Rows, rows_code};
+    ghost use Rattle.row_tables.specs.Stored.{AreKept, keyed};
+
+    ghost Value = { Rows };
+
+    ghost coded = { rows_code };
+
+    ghost view = { λ s. keyed s.tables };
+
+    ghost invariant = { λ s. AreKept s.tables };
+}
+
+/// The row that is shared.
+fn unshared(shared: Option<&SharedCustomer>) -> Option<&CustomerRow>
+    ensures { option_copied result ≡ option_copied shared.entry }
+{
+    Some(shared?.row())
+}
+
+/// The number of new order n among these.
+fn number_at(orders: &[(u64, ())], n: usize) -> Option<OrderId>
+    ensures { result ≡ option_and_then (λ e. order_of e.0) (slice_get orders.now n) }
+{
+    let (rank, _) = orders.get(n)?;
+    order_of(*rank)
+}
+
+impl RowTables {
+    /// No rows.
+    pub fn new(alloc: Global) -> Result<RowTables, Memory>
+        ensures { IfOk result (λ rows. rows ≡ map.empty) }
+    {
+        let tables = KindTables::new(alloc)?;
+        Ok(RowTables { tables })
+    }
+
+    pub fn get(&self, key: &RowKey) -> Option<RowRef<'_>>
+        ensures value { option_map row_of result ≡ map.get self.now key.now }
+        ensures kind { IfSome (option_map row_of result) (λ row. fits key.now row ≡ true) }
+    {
+        self.tables.get(rank(key))
+    }
+
+    pub fn warehouse(&self, warehouse: WarehouseId) -> Option<&WarehouseRow>
+        ensures { option_copied result ≡ warehouse_row self.now warehouse }
+    {
+        self.tables.warehouse(warehouse_rank(warehouse))
+    }
+
+    pub fn district_ytd(
+        &self,
+        warehouse: WarehouseId,
+        district: DistrictId,
+    ) -> Option<&DistrictYtdRow>
+        ensures { option_copied result ≡ district_ytd_row self.now warehouse district }
+    {
+        self.tables
+            .district_ytd(district_ytd_rank(warehouse, district))
+    }
+
+    pub fn district_next(
+        &self,
+        warehouse: WarehouseId,
+        district: DistrictId,
+    ) -> Option<&DistrictNextRow>
+        ensures { option_copied result ≡ district_next_row self.now warehouse district }
+    {
+        self.tables
+            .district_next(district_next_rank(warehouse, district))
+    }
+
+    pub fn customer(
+        &self,
+        warehouse: WarehouseId,
+        district: DistrictId,
+        customer: CustomerId,
+    ) -> Option<&CustomerRow>
+        ensures { option_copied result ≡ customer_row self.now warehouse district customer }
+    {
+        unshared(
+            self.tables
+                .customer(customer_rank(warehouse, district, customer)),
+        )
+    }
+
+    pub fn stock(&self, warehouse: WarehouseId, item: ItemId) -> Option<&StockRow>
+        ensures { option_copied result ≡ stock_row self.now warehouse item }
+    {
+        self.tables.stock(stock_rank(warehouse, item))
+    }
+
+    pub fn order(
+        &self,
+        warehouse: WarehouseId,
+        district: DistrictId,
+        order: OrderId,
+    ) -> Option<&OrderRow>
+        ensures { option_copied result ≡ order_row self.now warehouse district order }
+    {
+        self.tables.order(order_rank(warehouse, district, order))
+    }
+
+    pub fn order_line(
+        &self,
+        warehouse: WarehouseId,
+        district: DistrictId,
+        order: OrderId,
+        number: LineNumber,
+    ) -> Option<&OrderLineRow>
+        ensures { option_copied result ≡ order_line_row self.now warehouse district order number }
+    {
+        self.tables
+            .order_line(line_rank(warehouse, district, order, number))
+    }
+
+    /// The district's new order before which there are n others, by their numbers.
+    pub fn nth_new_order(
+        &self,
+        warehouse: WarehouseId,
+        district: DistrictId,
+        n: usize,
+    ) -> Option<OrderId>
+        ensures { result ≡ slice_get (picked (new_pick warehouse district) self.now) n }
+    {
+        let orders = self
+            .tables
+            .new_orders_at(district_ytd_rank(warehouse, district));
+        number_at(orders, n)
+    }
+
+    /// The least number of the district's new orders.
+    pub fn oldest_new(&self, warehouse: WarehouseId, district: DistrictId) -> Option<OrderId>
+        ensures { result ≡ oldest self.now warehouse district }
+    {
+        self.nth_new_order(warehouse, district, 0)
+    }
+
+    /// The key has this row from now on; the answer is the one that it had. Memory is refused only where it had none.
+    pub fn put(&mut self, key: RowKey, row: Row) -> Result<Option<Row>, Memory>
+        requires { fits key row ≡ true }
+        ensures value { IfOk result (λ was. was ≡ map.get self.old key) }
+        ensures ok { OnOk result (self.new ≡ map.insert self.old key row) }
+        ensures err { OnErr result (self.new ≡ self.old) }
+        ensures new { OnErr result (map.get self.old key ≡ None) }
+    {
+        self.tables.put(rank(&key), row)
+    }
+
+    /// The key, which has a row, has this one from now on; the answer is the one that it had. It takes no memory.
+    pub fn replace(&mut self, key: RowKey, row: Row) -> Option<Row>
+        requires fit { fits key row ≡ true }
+        requires there { is_some (map.get self.old key) ≡ true }
+        ensures value { result ≡ map.get self.old key }
+        ensures after { self.new ≡ map.insert self.old key row }
+    {
+        match self.put(key, row) {
+            Ok(was) => was,
+            Err(Memory) => None,
+        }
+    }
+
+    /// The key has no row from now on; the answer is the one that it had.
+    pub fn remove(&mut self, key: &RowKey) -> Option<Row>
+        ensures value { result ≡ map.get self.old key.now }
+        ensures after { self.new ≡ map.remove self.old key.now }
+    {
+        self.tables.remove(rank(key))
+    }
+}
