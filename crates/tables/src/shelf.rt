@@ -89,6 +89,18 @@ impl<R: Drop> Shelf<R> {
         table.put(rank, row)
     }
 
+    /// The same, where the rank is expected at this place in its table.
+    pub fn put_near(&mut self, rank: u64, row: R, expected: usize) -> Result<Option<R>, Memory>
+        ensures value { IfOk result (λ was. was ≡ map.get self.old rank) }
+        ensures ok { OnOk result (self.new ≡ map.insert self.old rank row) }
+        ensures err { OnErr result (self.new ≡ self.old) }
+        ensures new { OnErr result (map.get self.old rank ≡ None) }
+    {
+        let n = place_of(rank);
+        let table = &mut self.tables[n];
+        table.put_near(rank, row, expected)
+    }
+
     /// The rank has no row from now on; the answer is the one that it had.
     pub fn remove(&mut self, rank: u64) -> Option<R>
         ensures value { result ≡ map.get self.old rank }

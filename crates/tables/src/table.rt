@@ -192,7 +192,17 @@ impl<R: Drop> Table<R> {
         ensures new { OnErr result (map.get self.old rank ≡ None) }
     {
         let guess = guess(&self.entries, rank);
-        match place_of(&self.entries, rank, guess) {
+        self.put_near(rank, row, guess)
+    }
+
+    /// The same, where the rank is expected at this place.
+    pub fn put_near(&mut self, rank: u64, row: R, expected: usize) -> Result<Option<R>, Memory>
+        ensures value { IfOk result (λ was. was ≡ map.get self.old rank) }
+        ensures ok { OnOk result (self.new ≡ map.insert self.old rank row) }
+        ensures err { OnErr result (self.new ≡ self.old) }
+        ensures new { OnErr result (map.get self.old rank ≡ None) }
+    {
+        match place_of(&self.entries, rank, expected) {
             Ok(place) => Ok(Some(replace(&mut self.entries, place, (rank, row)))),
             Err(place) => insert(&mut self.entries, place, (rank, row)),
         }
