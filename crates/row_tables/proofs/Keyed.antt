@@ -1,15 +1,13 @@
 -- Rows by rank as rows by key.
 use Rattle.std.specs.Prelude.{⊤}
-use Rattle.std.proofs.Common.{◌≡◌, ℕ, Bool, true, false, cond, T, map as each, List, [], ◌∷◌, Option, Some, None, Result, inl, inr, refl, sym, ap, subst, ◌∙◌}
+use Rattle.std.proofs.Common.{◌≡◌, ℕ, Bool, true, false, cond, T, map as each, List, [], ◌∷◌, Option, Some, None, inl, inr, refl, sym, ap, subst, ◌∙◌}
 use Rattle.std.specs.FinMap as map
 use Rattle.std.specs.FinMap.{entries, entries_sorted, find, get, get-empty, get-entries, get-from_entries, insert, is_sorted, remove, same_map}
 use Rattle.std.specs.FinMap.Entries.{below_all}
 use Rattle.std.specs.Option.{IfSome}
 use Rattle.std.specs.Ordering.{eq_by_cmp, is_eq, nat_cmp}
-use Rattle.std.specs.Result.{OnOk, OnErr}
 use Rattle.std.proofs.lemmas.Bool.{cases_Bool, false≢true}
 use Rattle.std.proofs.lemmas.Cmp.{tied_itself}
-use Rattle.std.proofs.lemmas.Result.{on_ok_weaker, on_err_weaker}
 use Rattle.serializability.specs.Changes.{changed}
 use Rattle.serializability.proofs.Changes.{get-changed}
 use Rattle.tpcc_rows.proofs.Keys.{row_key_cmp_total, exact_keys}
@@ -19,11 +17,10 @@ use Rattle.tpcc_rows.specs.declared.key.RowKey.TheVariants as key
 use Rattle.tpcc_rows.specs.declared.row.Row.{Row}
 use Rattle.tpcc_rows.specs.declared.row.Row.TheVariants as row
 use Rattle.tpcc_rows.specs.RowKinds.{fits}
-use Rattle.tpcc_rows.specs.RowMap.{Rows, row_key_cmp}
+use Rattle.tpcc_rows.specs.RowMap.{row_key_cmp}
 use Rattle.tables.specs.Keys.{key_of}
 use Rattle.tables.specs.Ranks.{IsNumbered, kind, rank}
 use Rattle.tables.proofs.RankKeys.{key_of-rank, kind-of}
-use Rattle.tables.proofs.Shelved.{either}
 use Rattle.tables.proofs.Tables.{rank_total, exact_ranks}
 use Rattle.row_tables.specs.RankRows.{RankRows}
 use Rattle.row_tables.specs.Kinds.{table_of, table_of_kind, table_of_row}
@@ -35,7 +32,7 @@ abbrev pub is_key : RowKey → Bool
 is_key q = eq_by_cmp row_key_cmp q (key_of (rank q))
 
 -- the key of a rank has the rank
-rank-back : (r : ℕ) → IsRank r → rank (key_of r) ≡ r
+pub rank-back : (r : ℕ) → IsRank r → rank (key_of r) ≡ r
 rank-back r h = ap (λ x. rank (key_of x)) (sym h.ranked) ∙ ap rank (key_of-rank h.key h.numbered) ∙ h.ranked
 
 pub rank-key : (r : ℕ) (h : IsRank r) → key_of r ≡ h.key
@@ -53,7 +50,7 @@ same_rank q r t = exact_ranks q r (tied _ t)
 not-both : {A : Type 0} (b : Bool) → b ≡ true → b ≡ false → A
 not-both b t f = absurd (false≢true (sym f ∙ t))
 
-abbrev AreRanks : List (ℕ × Row) → Type 0
+abbrev pub AreRanks : List (ℕ × Row) → Type 0
 AreRanks [] = ⊤
 AreRanks (e ∷ es) = IsRank e.0 × AreRanks es
 
@@ -68,7 +65,7 @@ nothing-either true = refl
 nothing-either false = refl
 
 -- ---- what is found at a key
-abbrev keyed_entries : List (ℕ × Row) → List (RowKey × Row)
+abbrev pub keyed_entries : List (ℕ × Row) → List (RowKey × Row)
 keyed_entries es = each (λ e. (key_of e.0, e.1)) es
 
 abbrev looked : List (ℕ × Row) → RowKey → Option Row
@@ -97,7 +94,7 @@ found-further e es q apart = elim (cases_Bool (is_key q)) [
       ∙ sym (ap (λ b. cond b (find nat_cmp (rank q) (e ∷ es)) None) apart_so)
 ]
 
-find-keyed : (es : List (ℕ × Row)) → AreRanks es → (q : RowKey) → find row_key_cmp q (keyed_entries es) ≡ looked es q
+pub find-keyed : (es : List (ℕ × Row)) → AreRanks es → (q : RowKey) → find row_key_cmp q (keyed_entries es) ≡ looked es q
 find-keyed [] h q = nothing-either (is_key q)
 find-keyed (e ∷ es) h q = elim (cases_Bool (eq_by_cmp row_key_cmp q (key_of e.0))) [
   | inl same ↦ ap (λ b. cond b (Some e.1) (find row_key_cmp q (keyed_entries es))) same ∙ found-here e es q h.0 (same_key q (key_of e.0) same)
@@ -105,7 +102,7 @@ find-keyed (e ∷ es) h q = elim (cases_Bool (eq_by_cmp row_key_cmp q (key_of e.
 ]
 
 module _ (m : RankRows) (h : AreKept m) where
-  ranks-kept : AreRanks (entries m)
+  pub ranks-kept : AreRanks (entries m)
   ranks-kept = ranks-found (entries m) (entries_sorted m) (λ r x there. (h.kept r x (get-entries m r ∙ there)).is_rank)
 
   pub get-keyed : (q : RowKey) → get (keyed m) q ≡ cond (is_key q) (get m (rank q)) None
@@ -190,22 +187,15 @@ module _ (m : RankRows) (h : AreKept m) (k : RowKey) (numbered : IsNumbered k) (
     pub keyed-removed : keyed after ≡ remove (keyed m) k
     keyed-removed = ap (λ a. keyed a) gone ∙ keyed-changed m h k numbered None (kept-remove m (rank k) h)
 
-  -- a row put there, unless memory was refused
-  module _ {A E : Type 0} (done : Result A E) (after : RankRows) (x : Row) (fit : fits k x ≡ true) (ok : OnOk done (after ≡ insert m r x)) (err : OnErr done (after ≡ m)) where
-    one_more : after ≡ insert m r x → after ≡ insert m (rank k) x
-    one_more e = e ∙ ap (λ q. insert m q x) is
+  module _ (after : RankRows) (x : Row) (fit : fits k x ≡ true) (e : after ≡ insert m r x) where
+    one_more : after ≡ insert m (rank k) x
+    one_more = e ∙ ap (λ q. insert m q x) is
 
-    pub kept-tried : AreKept after
-    kept-tried = either done
-        (on_ok_weaker done (λ e. subst AreKept (sym (one_more e)) (kept-insert m k x h numbered fit)) ok)
-        (on_err_weaker done (λ e. subst AreKept (sym e) h) err)
+    pub kept-put : AreKept after
+    kept-put = subst AreKept (sym one_more) (kept-insert m k x h numbered fit)
 
-    pub keyed-tried : (rows : Rows) → keyed m ≡ rows → OnOk done (keyed after ≡ insert rows k x)
-    keyed-tried rows is_rows = on_ok_weaker done (λ e.
-        ap (λ a. keyed a) (one_more e) ∙ keyed-changed m h k numbered (Some x) (kept-insert m k x h numbered fit) ∙ ap (λ a. insert a k x) is_rows) ok
-
-    pub keyed-refused : (rows : Rows) → keyed m ≡ rows → OnErr done (keyed after ≡ rows)
-    keyed-refused rows is_rows = on_err_weaker done (λ e. ap (λ a. keyed a) e ∙ is_rows) err
+    pub keyed-put : keyed after ≡ insert (keyed m) k x
+    keyed-put = ap (λ a. keyed a) one_more ∙ keyed-changed m h k numbered (Some x) (kept-insert m k x h numbered fit)
 
 -- the map of a row of the key's kind
 pub fits-table : (k : RowKey) (x : Row) → fits k x ≡ true → table_of_row x ≡ table_of_kind (kind k)

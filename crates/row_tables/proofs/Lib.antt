@@ -1,3 +1,4 @@
 pub mod ByKind
 pub mod Keyed
 pub mod NewNumbers
+pub mod Counting

@@ -2,7 +2,6 @@
 use Rattle.std.proofs.Common.{◌≡◌, ◌↔◌, ◌<◌, ◌+◌, ◌*◌, ◌/◌, ◌%◌, ◌^◌, ◌==◌, ◌&&◌, ℕ, zero, suc, Bool, true, false, cond, eqb, T, min, map as each, List, [], ◌∷◌, Option, Some, None, inl, inr, refl, sym, ap, subst, ◌∙◌, slice_get, arith}
 use Rattle.std.proofs.lemmas.Bool.{cases_Bool, eqb-true, eqb-false, and_from, le-leb}
 use Rattle.std.proofs.lemmas.Bool.Decides.{nat_tests}
-use Rattle.std.proofs.lemmas.Cmp.{ranked}
 use Rattle.std.proofs.lemmas.Nat.{div-mul-add, mod-mul-add}
 use Rattle.std.proofs.lemmas.Option.{slice_get-map}
 use Rattle.std.specs.List.{filter_map, cons_option}
@@ -19,7 +18,7 @@ use Rattle.tpcc_rows.specs.declared.key.RowKey.TheVariants as key
 use Rattle.tpcc_rows.specs.declared.row.Row.{Row}
 use Rattle.tpcc_rows.specs.declared.row.Row.TheVariants as row
 use Rattle.tpcc_rows.proofs.Picks.{Has, least-is, picked-row, row-picked}
-use Rattle.tpcc_rows.proofs.Singles.{first, found_first, found_later, less, second, ties_itself}
+use Rattle.tpcc_rows.proofs.Singles.{first, found_first, found_later, second}
 use Rattle.tables.specs.Keys.{key_of, number_in, order_of}
 use Rattle.tables.specs.Ranks.{IsDistrict, IsNumbered, columns, kind, rank}
 use Rattle.tables.specs.Shelves.{place_of, rows_at}
@@ -30,6 +29,7 @@ use Rattle.row_tables.specs.Kinds.{table_of, table_of_kind}
 use Rattle.row_tables.specs.NewRows.{as_rows, new_rows}
 use Rattle.row_tables.specs.RankRows.{RankRows}
 use Rattle.row_tables.specs.Stored.{AreKept, keyed}
+use Rattle.row_tables.proofs.Counting.{found-above, found-here}
 use Rattle.row_tables.proofs.Keyed.{get-keyed, is_key, rank-key, row-at, same_key, table-at}
 
 -- ---- numbers that rise
@@ -81,22 +81,12 @@ found-number (e ∷ es) r x h = elim (found_first rank_total exact_ranks e es r 
   | inr later ↦ inr (found-number es r x later)
 ]
 
-found-here : (e : ℕ × Row) (es : List (ℕ × Row)) → find nat_cmp e.0 (e ∷ es) ≡ Some e.1
-found-here e es = ap (λ b. cond b (Some e.1) (find nat_cmp e.0 es)) (ties_itself rank_total exact_ranks e.0)
-
 number-found : (es : List (ℕ × Row)) → T (is_sorted nat_cmp es) → (o : ℕ) → Has (numbers es) o → (r : ℕ) × (x : Row) × (find nat_cmp r es ≡ Some x) × (o ≡ number_in r)
 number-found [] s o h = absurd h
 number-found (e ∷ es) s o (inl i) = (e.0, e.1, found-here e es, i)
 number-found (e ∷ es) s o (inr g) =
     let there = number-found es (second (below_all nat_cmp e.0 es) (is_sorted nat_cmp es) s) o g in
     (there.0, there.1, found_later rank_total exact_ranks e es there.0 there.1 s there.2, there.3)
-
-found-above : (k : ℕ) (es : List (ℕ × Row)) (r : ℕ) (x : Row) → T (below_all nat_cmp k es) → find nat_cmp r es ≡ Some x → k < r
-found-above k [] r x b h = (let no : None ≡ Some x = h in cc)
-found-above k (e ∷ es) r x b h = elim (found_first rank_total exact_ranks e es r x h) [
-  | inl same ↦ subst (λ q. k < q) (sym same.0) (ranked k e.0 _ (sym (less (nat_cmp k e.0) (first (is_lt (nat_cmp k e.0)) (below_all nat_cmp k es) b))))
-  | inr later ↦ found-above k es r x (second (is_lt (nat_cmp k e.0)) (below_all nat_cmp k es) b) later
-]
 
 -- ---- the ranks of a district's new orders
 module _ (w d : ℕ) where

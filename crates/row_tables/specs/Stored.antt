@@ -27,3 +27,8 @@ pub record IsKept (r : ℕ) (x : Row) : Type 0 where
 -- each row is of its rank's kind
 pub record AreKept (m : RankRows) : Type 0 where
   pub kept : (r : ℕ) (x : Row) → map.get m r ≡ Some x → IsKept r x
+
+-- and there are so many of them
+pub record IsCounted (m : RankRows) (count : ℕ) : Type 0 where
+  pub are_kept : AreKept m
+  pub counted : count ≡ map.len m

@@ -247,7 +247,8 @@ impl KindTables {
     {
         let _delivery: Option<Moment> = row.delivery;
         self.starts.note(rank, self.lines.len_at(rank));
-        self.lines.put(rank, row)
+        let expected = self.starts.guess(rank);
+        self.lines.put_near(rank, row, expected)
     }
 
     /// The rank has this row from now on; the answer is the one that it had.

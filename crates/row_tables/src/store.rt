@@ -1,5 +1,5 @@
 //! The rows of a database by key.
-ghost use Rattle.std.specs.Prelude.{◌≡◌, IfOk, IfSome, None, OnErr, OnOk, is_some, option_and_then, option_copied, option_map, slice_get, true};
+ghost use Rattle.std.specs.Prelude.{◌≡◌, ◌+◌, ◌-◌, ◌<◌, ◌^◌, cond, IfOk, IfSome, None, OnErr, OnOk, is_some, length, option_and_then, option_copied, option_map, slice_get, true};
 ghost use Rattle.std.specs.FinMap as map;
 ghost use Rattle.row_tables.specs.References.{row_of};
 ghost use Rattle.tables.specs.Keys.{order_of};
@@ -29,11 +29,12 @@ use tpcc_rows::row::{
 #[derive(Drop)]
 pub struct RowTables {
     tables: KindTables,
+    len: u64,
 }
 
 impl Model for RowTables {
     ghost use Rattle.tpcc_rows.specs.RowMap.{Rows, rows_code};
-    ghost use Rattle.row_tables.specs.Stored.{AreKept, keyed};
+    ghost use Rattle.row_tables.specs.Stored.{IsCounted, keyed};
 
     ghost Value = { Rows };
 
@@ -41,7 +42,7 @@ impl Model for RowTables {
 
     ghost view = { λ s. keyed s.tables };
 
-    ghost invariant = { λ s. AreKept s.tables };
+    ghost invariant = { λ s. IsCounted s.tables s.len };
 }
 
 /// The row that is shared.
@@ -49,6 +50,25 @@ fn unshared(shared: Option<&SharedCustomer>) -> Option<&CustomerRow>
     ensures { option_copied result ≡ option_copied shared.entry }
 {
     Some(shared?.row())
+}
+
+/// How many rows there are after a row was put in place of this one, or in no row's.
+fn more(len: u64, was: &Option<Row>) -> u64
+    requires { len < 2 ^ 63 }
+    ensures { result ≡ cond (is_some was.now) len (len + 1) }
+{
+    if was.is_some() { len } else { len + 1 }
+}
+
+/// How many rows there are after this one was removed, or none.
+fn fewer(len: u64, was: &Option<Row>) -> u64
+    ensures { result ≡ cond (is_some was.now) (len - 1) len }
+{
+    if was.is_some() {
+        len.saturating_sub(1)
+    } else {
+        len
+    }
 }
 
 /// The number of new order n among these.
@@ -65,7 +85,14 @@ impl RowTables {
         ensures { IfOk result (λ rows. rows ≡ map.empty) }
     {
         let tables = KindTables::new(alloc)?;
-        Ok(RowTables { tables })
+        Ok(RowTables { tables, len: 0 })
+    }
+
+    /// How many rows there are.
+    pub fn len(&self) -> u64
+        ensures { result ≡ length (map.entries self.now) }
+    {
+        self.len
     }
 
     pub fn get(&self, key: &RowKey) -> Option<RowRef<'_>>
@@ -177,7 +204,9 @@ impl RowTables {
         ensures err { OnErr result (self.new ≡ self.old) }
         ensures new { OnErr result (map.get self.old key ≡ None) }
     {
-        self.tables.put(rank(&key), row)
+        let was = self.tables.put(rank(&key), row)?;
+        self.len = more(self.len, &was);
+        Ok(was)
     }
 
     /// The key, which has a row, has this one from now on; the answer is the one that it had. It takes no memory.
@@ -198,6 +227,8 @@ impl RowTables {
         ensures value { result ≡ map.get self.old key.now }
         ensures after { self.new ≡ map.remove self.old key.now }
     {
-        self.tables.remove(rank(key))
+        let was = self.tables.remove(rank(key));
+        self.len = fewer(self.len, &was);
+        was
     }
 }

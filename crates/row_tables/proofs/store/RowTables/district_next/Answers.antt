@@ -13,11 +13,11 @@ back None = refl
 back (Some x) = refl
 
 pub district_next-requires : goal.district_next-requires
-district_next-requires c = table-at _ c.self.invariant (key.DistrictNext c.args.warehouse c.args.district) c.district_next_rank.ensures.limits c.district_next_rank.result c.district_next_rank.ensures.value
+district_next-requires c = table-at _ c.self.invariant.are_kept (key.DistrictNext c.args.warehouse c.args.district) c.district_next_rank.ensures.limits c.district_next_rank.result c.district_next_rank.ensures.value
 
 pub returns : goal.returns
 returns c =
     back _
     ∙ ap (option_and_then as_district_next) (c.district_next.ensures
-    ∙ row-at _ c.self.invariant (key.DistrictNext c.args.warehouse c.args.district) c.district_next_rank.ensures.limits c.district_next_rank.result c.district_next_rank.ensures.value
+    ∙ row-at _ c.self.invariant.are_kept (key.DistrictNext c.args.warehouse c.args.district) c.district_next_rank.ensures.limits c.district_next_rank.result c.district_next_rank.ensures.value
     ∙ ap (λ m. map.get m (key.DistrictNext c.args.warehouse c.args.district)) c.self.view_is)

@@ -13,11 +13,11 @@ back None = refl
 back (Some x) = refl
 
 pub district_ytd-requires : goal.district_ytd-requires
-district_ytd-requires c = table-at _ c.self.invariant (key.DistrictYtd c.args.warehouse c.args.district) c.district_ytd_rank.ensures.limits c.district_ytd_rank.result c.district_ytd_rank.ensures.value
+district_ytd-requires c = table-at _ c.self.invariant.are_kept (key.DistrictYtd c.args.warehouse c.args.district) c.district_ytd_rank.ensures.limits c.district_ytd_rank.result c.district_ytd_rank.ensures.value
 
 pub returns : goal.returns
 returns c =
     back _
     ∙ ap (option_and_then as_district_ytd) (c.district_ytd.ensures
-    ∙ row-at _ c.self.invariant (key.DistrictYtd c.args.warehouse c.args.district) c.district_ytd_rank.ensures.limits c.district_ytd_rank.result c.district_ytd_rank.ensures.value
+    ∙ row-at _ c.self.invariant.are_kept (key.DistrictYtd c.args.warehouse c.args.district) c.district_ytd_rank.ensures.limits c.district_ytd_rank.result c.district_ytd_rank.ensures.value
     ∙ ap (λ m. map.get m (key.DistrictYtd c.args.warehouse c.args.district)) c.self.view_is)

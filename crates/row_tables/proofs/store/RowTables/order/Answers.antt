@@ -13,11 +13,11 @@ back None = refl
 back (Some x) = refl
 
 pub order-requires : goal.order-requires
-order-requires c = table-at _ c.self.invariant (key.Order c.args.warehouse c.args.district c.args.order) c.order_rank.ensures.limits c.order_rank.result c.order_rank.ensures.value
+order-requires c = table-at _ c.self.invariant.are_kept (key.Order c.args.warehouse c.args.district c.args.order) c.order_rank.ensures.limits c.order_rank.result c.order_rank.ensures.value
 
 pub returns : goal.returns
 returns c =
     back _
     ∙ ap (option_and_then as_order) (c.order.ensures
-    ∙ row-at _ c.self.invariant (key.Order c.args.warehouse c.args.district c.args.order) c.order_rank.ensures.limits c.order_rank.result c.order_rank.ensures.value
+    ∙ row-at _ c.self.invariant.are_kept (key.Order c.args.warehouse c.args.district c.args.order) c.order_rank.ensures.limits c.order_rank.result c.order_rank.ensures.value
     ∙ ap (λ m. map.get m (key.Order c.args.warehouse c.args.district c.args.order)) c.self.view_is)

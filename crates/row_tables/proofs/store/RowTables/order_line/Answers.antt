@@ -13,11 +13,11 @@ back None = refl
 back (Some x) = refl
 
 pub order_line-requires : goal.order_line-requires
-order_line-requires c = table-at _ c.self.invariant (key.OrderLine c.args.warehouse c.args.district c.args.order c.args.number) c.line_rank.ensures.limits c.line_rank.result c.line_rank.ensures.value
+order_line-requires c = table-at _ c.self.invariant.are_kept (key.OrderLine c.args.warehouse c.args.district c.args.order c.args.number) c.line_rank.ensures.limits c.line_rank.result c.line_rank.ensures.value
 
 pub returns : goal.returns
 returns c =
     back _
     ∙ ap (option_and_then as_order_line) (c.order_line.ensures
-    ∙ row-at _ c.self.invariant (key.OrderLine c.args.warehouse c.args.district c.args.order c.args.number) c.line_rank.ensures.limits c.line_rank.result c.line_rank.ensures.value
+    ∙ row-at _ c.self.invariant.are_kept (key.OrderLine c.args.warehouse c.args.district c.args.order c.args.number) c.line_rank.ensures.limits c.line_rank.result c.line_rank.ensures.value
     ∙ ap (λ m. map.get m (key.OrderLine c.args.warehouse c.args.district c.args.order c.args.number)) c.self.view_is)

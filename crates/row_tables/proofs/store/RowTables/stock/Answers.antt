@@ -13,11 +13,11 @@ back None = refl
 back (Some x) = refl
 
 pub stock-requires : goal.stock-requires
-stock-requires c = table-at _ c.self.invariant (key.Stock c.args.warehouse c.args.item) c.stock_rank.ensures.limits c.stock_rank.result c.stock_rank.ensures.value
+stock-requires c = table-at _ c.self.invariant.are_kept (key.Stock c.args.warehouse c.args.item) c.stock_rank.ensures.limits c.stock_rank.result c.stock_rank.ensures.value
 
 pub returns : goal.returns
 returns c =
     back _
     ∙ ap (option_and_then as_stock) (c.stock.ensures
-    ∙ row-at _ c.self.invariant (key.Stock c.args.warehouse c.args.item) c.stock_rank.ensures.limits c.stock_rank.result c.stock_rank.ensures.value
+    ∙ row-at _ c.self.invariant.are_kept (key.Stock c.args.warehouse c.args.item) c.stock_rank.ensures.limits c.stock_rank.result c.stock_rank.ensures.value
     ∙ ap (λ m. map.get m (key.Stock c.args.warehouse c.args.item)) c.self.view_is)

@@ -13,11 +13,11 @@ back None = refl
 back (Some x) = refl
 
 pub warehouse-requires : goal.warehouse-requires
-warehouse-requires c = table-at _ c.self.invariant (key.Warehouse c.args.warehouse) c.warehouse_rank.ensures.limits c.warehouse_rank.result c.warehouse_rank.ensures.value
+warehouse-requires c = table-at _ c.self.invariant.are_kept (key.Warehouse c.args.warehouse) c.warehouse_rank.ensures.limits c.warehouse_rank.result c.warehouse_rank.ensures.value
 
 pub returns : goal.returns
 returns c =
     back _
     ∙ ap (option_and_then as_warehouse) (c.warehouse.ensures
-    ∙ row-at _ c.self.invariant (key.Warehouse c.args.warehouse) c.warehouse_rank.ensures.limits c.warehouse_rank.result c.warehouse_rank.ensures.value
+    ∙ row-at _ c.self.invariant.are_kept (key.Warehouse c.args.warehouse) c.warehouse_rank.ensures.limits c.warehouse_rank.result c.warehouse_rank.ensures.value
     ∙ ap (λ m. map.get m (key.Warehouse c.args.warehouse)) c.self.view_is)
