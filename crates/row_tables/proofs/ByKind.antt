@@ -40,7 +40,7 @@ module _ {X : Type 0} (make : X → Row) where
   typed-test true x o later h = refl
   typed-test false x o later h = h
 
-  find-each : (es : List (ℕ × X)) (r : ℕ) → find nat_cmp r (each (λ e. (e.0, make e.1)) es) ≡ option_map make (find nat_cmp r es)
+  pub find-each : (es : List (ℕ × X)) (r : ℕ) → find nat_cmp r (each (λ e. (e.0, make e.1)) es) ≡ option_map make (find nat_cmp r es)
   find-each [] r = refl
   find-each (e ∷ es) r = typed-test (eq_by_cmp nat_cmp r e.0) e.1 (find nat_cmp r es) _ (find-each es r)
 
@@ -53,7 +53,7 @@ module _ {X : Type 0} (make : X → Row) where
   below-each r [] = refl
   below-each r (e ∷ es) = ap (λ b. is_lt (nat_cmp r e.0) && b) (below-each r es)
 
-  sorted-each : (es : List (ℕ × X)) → is_sorted nat_cmp (each (λ e. (e.0, make e.1)) es) ≡ is_sorted nat_cmp es
+  pub sorted-each : (es : List (ℕ × X)) → is_sorted nat_cmp (each (λ e. (e.0, make e.1)) es) ≡ is_sorted nat_cmp es
   sorted-each [] = refl
   sorted-each (e ∷ es) = ap (λ b. b && is_sorted nat_cmp (each (λ e. (e.0, make e.1)) es)) (below-each e.0 es) ∙ ap (λ b. below_all nat_cmp e.0 es && b) (sorted-each es)
 

@@ -20,15 +20,16 @@ use Rattle.row_tables.specs.Stored.{AreKept, IsCounted, IsRank, keyed}
 use Rattle.row_tables.proofs.Keyed.{AreRanks, keyed_entries, rank-back, rank-key, ranks-kept}
 
 -- ---- what is found in entries by rank
-pub found-here : (e : ℕ × Row) (es : List (ℕ × Row)) → find nat_cmp e.0 (e ∷ es) ≡ Some e.1
-found-here e es = ap (λ b. cond b (Some e.1) (find nat_cmp e.0 es)) (ties_itself rank_total exact_ranks e.0)
+module _ {X : Type 0} where
+  pub found-here : (e : ℕ × X) (es : List (ℕ × X)) → find nat_cmp e.0 (e ∷ es) ≡ Some e.1
+  found-here e es = ap (λ b. cond b (Some e.1) (find nat_cmp e.0 es)) (ties_itself rank_total exact_ranks e.0)
 
-pub found-above : (k : ℕ) (es : List (ℕ × Row)) (r : ℕ) (x : Row) → T (below_all nat_cmp k es) → find nat_cmp r es ≡ Some x → k < r
-found-above k [] r x b h = (let no : None ≡ Some x = h in cc)
-found-above k (e ∷ es) r x b h = elim (found_first rank_total exact_ranks e es r x h) [
-  | inl same ↦ subst (λ q. k < q) (sym same.0) (ranked k e.0 _ (sym (less (nat_cmp k e.0) (first (is_lt (nat_cmp k e.0)) (below_all nat_cmp k es) b))))
-  | inr later ↦ found-above k es r x (second (is_lt (nat_cmp k e.0)) (below_all nat_cmp k es) b) later
-]
+  pub found-above : (k : ℕ) (es : List (ℕ × X)) (r : ℕ) (x : X) → T (below_all nat_cmp k es) → find nat_cmp r es ≡ Some x → k < r
+  found-above k [] r x b h = (let no : None ≡ Some x = h in cc)
+  found-above k (e ∷ es) r x b h = elim (found_first rank_total exact_ranks e es r x h) [
+    | inl same ↦ subst (λ q. k < q) (sym same.0) (ranked k e.0 _ (sym (less (nat_cmp k e.0) (first (is_lt (nat_cmp k e.0)) (below_all nat_cmp k es) b))))
+    | inr later ↦ found-above k es r x (second (is_lt (nat_cmp k e.0)) (below_all nat_cmp k es) b) later
+  ]
 
 -- ranks that rise from k to below n
 within : (n k : ℕ) (es : List (ℕ × Row)) → T (is_sorted nat_cmp es) → ((r : ℕ) (x : Row) → find nat_cmp r es ≡ Some x → (k ≤ r) × (r < n)) → k ≤ n → length es + k ≤ n

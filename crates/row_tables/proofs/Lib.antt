@@ -2,3 +2,4 @@ pub mod ByKind
 pub mod Keyed
 pub mod NewNumbers
 pub mod Counting
+pub mod OrderNumbers

@@ -98,7 +98,7 @@ module _ (w d : ℕ) where
     pub numbered : IsNumbered (key.NewOrder w d order)
     pub is : r ≡ new_rank order
 
-place-of : (k w d n l : ℕ) → w < 128 → d < 16 → n < 2 ^ 24 → l < 16 → place_of (k * 2 ^ 56 + columns w d n l) ≡ w * 16 + d
+pub place-of : (k w d n l : ℕ) → w < 128 → d < 16 → n < 2 ^ 24 → l < 16 → place_of (k * 2 ^ 56 + columns w d n l) ≡ w * 16 + d
 place-of k w d n l hw hd hn hl =
     let whole : k * 2 ^ 56 + columns w d n l ≡ (k * 2 ^ 17 * 2048 + (w * 16 + d)) * 2 ^ 28 + (n * 16 + l) = omega arith in
     let low : n * 16 + l < 2 ^ 28 = omega arith in
@@ -107,7 +107,7 @@ place-of k w d n l hw hd hn hl =
     ∙ ap (λ x. x % 2048) (div-mul-add (k * 2 ^ 17 * 2048 + (w * 16 + d)) (2 ^ 28) (n * 16 + l) low)
     ∙ mod-mul-add (k * 2 ^ 17) 2048 (w * 16 + d) small
 
-number-of : (k w d n l : ℕ) → n < 2 ^ 24 → l < 16 → number_in (k * 2 ^ 56 + columns w d n l) ≡ n
+pub number-of : (k w d n l : ℕ) → n < 2 ^ 24 → l < 16 → number_in (k * 2 ^ 56 + columns w d n l) ≡ n
 number-of k w d n l hn hl =
     let whole : k * 2 ^ 56 + columns w d n l ≡ (((k * 2 ^ 24 + w) * 16 + d) * 2 ^ 24 + n) * 16 + l = omega arith in
     ap (λ x. x / 16 % 2 ^ 24) whole
@@ -142,16 +142,16 @@ new-key (key.DistrictYtd v e) w d district h four at = cc
 new-key (key.DistrictNext v e) w d district h four at = cc
 
 -- ---- two tests
-both-pass : {A : Type 0} (a b : Bool) (o : Option A) (x : A) → cond a (cond b o None) None ≡ Some x → (a ≡ true) × (b ≡ true) × (o ≡ Some x)
+pub both-pass : {A : Type 0} (a b : Bool) (o : Option A) (x : A) → cond a (cond b o None) None ≡ Some x → (a ≡ true) × (b ≡ true) × (o ≡ Some x)
 both-pass true true o x h = (refl, refl, h)
 both-pass true false o x h = (let no : None ≡ Some x = h in cc)
 both-pass false b o x h = (let no : None ≡ Some x = h in cc)
 
-one-passes : {A : Type 0} (a : Bool) (o : Option A) (x : A) → cond a o None ≡ Some x → (a ≡ true) × (o ≡ Some x)
+pub one-passes : {A : Type 0} (a : Bool) (o : Option A) (x : A) → cond a o None ≡ Some x → (a ≡ true) × (o ≡ Some x)
 one-passes true o x h = (refl, h)
 one-passes false o x h = (let no : None ≡ Some x = h in cc)
 
-same-number : (n : ℕ) → eqb n n ≡ true
+pub same-number : (n : ℕ) → eqb n n ≡ true
 same-number n = elim (cases_Bool (eqb n n)) [
   | inl same ↦ same
   | inr apart ↦ absurd (eqb-false n n apart refl)

@@ -3,3 +3,4 @@ pub mod Kinds
 pub mod References
 pub mod Stored
 pub mod NewRows
+pub mod LastOrders

@@ -2,6 +2,7 @@
 ghost use Rattle.std.specs.Prelude.{◌≡◌, IfOk, None, OnErr, OnOk, option_copied, option_map};
 ghost use Rattle.std.specs.FinMap as map;
 ghost use Rattle.row_tables.specs.Kinds.{table_of, table_of_row};
+ghost use Rattle.row_tables.specs.LastOrders.{as_orders, order_rows};
 ghost use Rattle.row_tables.specs.NewRows.{as_rows, new_rows};
 ghost use Rattle.row_tables.specs.References.{row_of};
 ghost use Rattle.tables.specs.Shelves.{place_of};
@@ -167,6 +168,13 @@ impl KindTables {
         ensures { as_rows result.now ≡ map.entries (new_rows self.now (place_of rank)) }
     {
         self.new_orders.slice_at(rank)
+    }
+
+    /// The orders of the rank's district with their ranks, in rising order.
+    pub fn orders_at(&self, rank: u64) -> &[(u64, OrderRow)]
+        ensures { as_orders result.now ≡ map.entries (order_rows self.now (place_of rank)) }
+    {
+        self.orders.slice_at(rank)
     }
 
     /// The rank has this row from now on; the answer is the one that it had.

@@ -1,9 +1,10 @@
 //! The rows of a database by key.
 ghost use Rattle.std.specs.Prelude.{◌≡◌, ◌+◌, ◌-◌, ◌<◌, ◌^◌, cond, IfOk, IfSome, None, OnErr, OnOk, is_some, length, option_and_then, option_copied, option_map, slice_get, true};
 ghost use Rattle.std.specs.FinMap as map;
+ghost use Rattle.row_tables.specs.LastOrders.{last_of};
 ghost use Rattle.row_tables.specs.References.{row_of};
 ghost use Rattle.tables.specs.Keys.{order_of};
-ghost use Rattle.tpcc_rows.specs.Picks.{new_pick, oldest, picked};
+ghost use Rattle.tpcc_rows.specs.Picks.{latest, new_pick, oldest, picked};
 ghost use Rattle.tpcc_rows.specs.RowKinds.{fits};
 ghost use Rattle.tpcc_rows.specs.Rows.{customer_row, district_next_row, district_ytd_row, order_line_row, order_row, stock_row, warehouse_row};
 
@@ -77,6 +78,19 @@ fn number_at(orders: &[(u64, ())], n: usize) -> Option<OrderId>
 {
     let (rank, _) = orders.get(n)?;
     order_of(*rank)
+}
+
+/// The number of the last of these orders that is the customer's.
+fn last_of(orders: &[(u64, OrderRow)], customer: CustomerId) -> Option<OrderId>
+    ensures { result ≡ option_and_then (λ e. order_of e.0) (last_of customer orders.now) }
+{
+    for passed in 0..orders.len() {
+        let (rank, row) = &orders[orders.len() - 1 - passed];
+        if row.customer.number() == customer.number() {
+            return order_of(*rank);
+        }
+    }
+    None
 }
 
 impl RowTables {
@@ -194,6 +208,21 @@ impl RowTables {
         ensures { result ≡ oldest self.now warehouse district }
     {
         self.nth_new_order(warehouse, district, 0)
+    }
+
+    /// The greatest number of the customer's orders: they are looked through from the last of the district on.
+    pub fn last_order(
+        &self,
+        warehouse: WarehouseId,
+        district: DistrictId,
+        customer: CustomerId,
+    ) -> Option<OrderId>
+        ensures { result ≡ latest self.now warehouse district customer }
+    {
+        let orders = self
+            .tables
+            .orders_at(district_ytd_rank(warehouse, district));
+        last_of(orders, customer)
     }
 
     /// The key has this row from now on; the answer is the one that it had. Memory is refused only where it had none.

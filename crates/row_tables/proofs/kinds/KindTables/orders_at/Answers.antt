@@ -1,0 +1,13 @@
+use Rattle.std.proofs.Common.{refl, ap, ◌∙◌, arith}
+use Rattle.std.specs.FinMap as map
+use Rattle.tables.specs.Shelves.{place_of}
+use Rattle.tpcc_rows.specs.declared.row.Row.TheVariants as row
+use Rattle.row_tables.specs.LastOrders.{as_orders, order_rows}
+use Rattle.row_tables.proofs.ByKind.{entries-at}
+use Rattle.row_tables.proofs.kinds.KindTables.orders_at.Goals as goal
+
+pub returns : goal.returns
+returns c =
+    ap (λ es. as_orders es) c.slice_at.ensures
+    ∙ entries-at (λ r. row.Order r) _ c.self.invariant 3 (omega arith) c.self.inside.orders refl place_of (place_of c.args.rank)
+    ∙ ap (λ m. map.entries (order_rows m (place_of c.args.rank))) c.self.view_is
