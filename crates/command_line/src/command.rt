@@ -6,6 +6,7 @@ ghost use Rattle.command_line.specs.CommandLine.{IsArgument, IsCommand, Joins, a
 ghost use Rattle.command_line.specs.CommandLine.{number_rule, program_app, ranged_rule, required_rule, run_app};
 ghost use Rattle.command_line.specs.CommandLine.{serve_app, store_rule, workers_rule};
 
+use crate::help::{CHECK, MAKE, PROGRAM, RUN, SERVE};
 use clap::builder::ValueParser;
 use clap::{Arg, ArgAction, Command, value_parser};
 use std::alloc::{AllocError, Global};
@@ -14,10 +15,13 @@ use std::alloc::{AllocError, Global};
 const VERSION: &str = "1.0.0";
 
 /// Help text of an image argument.
-const IMAGE: &str = "The file of the database's image";
+const IMAGE: &str = "The file of the database's image, or - for standard input";
 
-/// Help text on file formats, at the end of each help.
-const FILES: &str = "Images, batches and replies are CSV text, described in docs/FORMATS.md";
+/// The same where standard input has the commands.
+const SERVED_IMAGE: &str = "The file of the database's image";
+
+/// Help text of the batches.
+const BATCHES: &str = "The file of the batches, or - for standard input";
 
 /// A parser of the numbers from 1 to `most`.
 fn up_to<'a>(most: u32) -> ValueParser<'a>
@@ -87,10 +91,10 @@ fn at<'a>(alloc: Global) -> Arg<'a>
 }
 
 /// A subcommand, with its help.
-fn described<'a>(alloc: Global, name: &'a str, about: &'a str) -> Command<'a>
+fn described<'a>(alloc: Global, name: &'a str, about: &'a str, end: &'a str) -> Command<'a>
     ensures { IsCommand (new_app name.entry.now) result }
 {
-    Command::new(alloc, name).about(about).after_help(FILES)
+    Command::new(alloc, name).about(about).after_help(end)
 }
 
 fn run<'a>(alloc: Global) -> Result<Command<'a>, AllocError>
@@ -100,9 +104,10 @@ fn run<'a>(alloc: Global) -> Result<Command<'a>, AllocError>
         alloc,
         "run",
         "Executes the batches of a file on the database of an image",
+        RUN,
     )
     .arg(required(alloc, "IMAGE", IMAGE))?
-    .arg(required(alloc, "BATCHES", "The file of the batches"))?
+    .arg(required(alloc, "BATCHES", BATCHES))?
     .arg(workers(alloc))?
     .arg(store(alloc))?
     .arg(from(alloc))?
@@ -112,13 +117,15 @@ fn run<'a>(alloc: Global) -> Result<Command<'a>, AllocError>
 fn check<'a>(alloc: Global) -> Result<Command<'a>, AllocError>
     ensures { IfOk result (IsCommand check_app) }
 {
-    described(alloc, "check", "Checks the image of a database").arg(required(alloc, "IMAGE", IMAGE))
+    described(alloc, "check", "Checks the image of a database", CHECK).arg(required(
+        alloc, "IMAGE", IMAGE,
+    ))
 }
 
 fn make<'a>(alloc: Global) -> Result<Command<'a>, AllocError>
     ensures { IfOk result (IsCommand make_app) }
 {
-    described(alloc, "make", "Writes the image of a new database")
+    described(alloc, "make", "Writes the image of a new database", MAKE)
         .arg(number(alloc, "W", 100, "The number of warehouses, 1 to 100"))?
         .arg(number(
             alloc,
@@ -136,8 +143,9 @@ fn serve<'a>(alloc: Global) -> Result<Command<'a>, AllocError>
         alloc,
         "serve",
         "Answers commands from standard input, one by one, on the database of an image",
+        SERVE,
     )
-    .arg(required(alloc, "IMAGE", IMAGE))?
+    .arg(required(alloc, "IMAGE", SERVED_IMAGE))?
     .arg(workers(alloc))?
     .arg(from(alloc))
 }
@@ -146,10 +154,15 @@ fn serve<'a>(alloc: Global) -> Result<Command<'a>, AllocError>
 fn bare<'a>(alloc: Global) -> Result<Command<'a>, AllocError>
     ensures { IfOk result (IsCommand bare_app) }
 {
-    let command = described(alloc, "eve-tpcc", "Executes batches of TPC-C requests")
-        .bin_name("eve-tpcc")?
-        .version(VERSION)
-        .subcommand_required(true);
+    let command = described(
+        alloc,
+        "eve-tpcc",
+        "Executes batches of TPC-C requests",
+        PROGRAM,
+    )
+    .bin_name("eve-tpcc")?
+    .version(VERSION)
+    .subcommand_required(true);
     Ok(command)
 }
 

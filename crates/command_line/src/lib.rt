@@ -2,6 +2,7 @@
 #![tactic(auto)]
 
 mod command;
+mod help;
 mod line;
 mod matches;
 mod words;

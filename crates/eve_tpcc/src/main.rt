@@ -4,9 +4,13 @@
 
 ghost use Rattle.tpcc_rows.specs.Limits.{IsBetween};
 
+mod inputs;
+mod progress;
 mod resuming;
 mod store_file;
 
+use crate::inputs::{is_standard_input, path_of};
+use crate::progress::{Shown, shown_batches, shown_bytes};
 use crate::resuming::{Asked, run_asked, serve_from, stamp_from};
 use crate::store_file::open_store;
 use command_line::{Line, LineFault, WordsFault, line_of, line_status, words_of};
@@ -18,8 +22,18 @@ use std::io::Input;
 use std::process::ExitCode;
 use std::rt::Files;
 use std::thread::Threads;
+use std::time::Clock;
 use std::{fs, io, str};
 use workers::{NoGate, Workers};
+
+/// What is counted while the image is read.
+const IMAGE_READ: &str = "bytes of the image read";
+
+/// What is counted while the batches are read.
+const BATCHES_READ: &str = "bytes of the batches read";
+
+/// What is counted while an image is made.
+const IMAGE_WRITTEN: &str = "bytes of the image written";
 
 fn cannot_open(rt: &impl Eprint, path: &str) -> ExitCode {
     let _ = eprintln!(rt; "eve-tpcc: cannot open {path}");
@@ -40,11 +54,12 @@ fn report(rt: &impl Eprint, fault: &StoredRunFault) -> ExitCode {
 }
 
 #[inline(never)]
-fn run<R: Files + Print + Eprint + AllocGlobal + Host>(
+fn run<R: Files + Print + Eprint + AllocGlobal + Clock + Host>(
     rt: &R,
     image: &str,
     batches: &str,
     workers: Workers,
+    shown: Shown,
 ) -> ExitCode
 where
     R::File: Drop,
@@ -55,9 +70,9 @@ where
     let Ok(batches_file) = fs::open(rt, batches) else {
         return cannot_open(rt, batches);
     };
-    let mut image_source = Counting::new(image_file);
-    let mut batches_source = Counting::new(batches_file);
-    let mut output = Counting::new(io::writer(rt));
+    let mut image_source = Counting::new(shown_bytes(rt, image_file, IMAGE_READ, shown));
+    let mut batches_source = Counting::new(shown_bytes(rt, batches_file, BATCHES_READ, shown));
+    let mut output = Counting::new(shown_batches(rt, io::writer(rt), shown));
     let ran = run_text(
         rt,
         rt.alloc(),
@@ -75,12 +90,13 @@ where
 
 /// Runs batches, and writes the image of the last state to the file at `path`.
 #[inline(never)]
-fn run_stored<R: Files + Print + Eprint + AllocGlobal + Host>(
+fn run_stored<R: Files + Print + Eprint + AllocGlobal + Clock + Host>(
     rt: &R,
     image: &str,
     batches: &str,
     workers: Workers,
     path: &str,
+    shown: Shown,
 ) -> ExitCode
 where
     R::File: Drop,
@@ -94,9 +110,9 @@ where
     let Ok(store_file) = open_store(rt, path) else {
         return cannot_create(rt, path);
     };
-    let mut image_source = Counting::new(image_file);
-    let mut batches_source = Counting::new(batches_file);
-    let mut output = Counting::new(io::writer(rt));
+    let mut image_source = Counting::new(shown_bytes(rt, image_file, IMAGE_READ, shown));
+    let mut batches_source = Counting::new(shown_bytes(rt, batches_file, BATCHES_READ, shown));
+    let mut output = Counting::new(shown_batches(rt, io::writer(rt), shown));
     let mut tables = Counting::new(store_file);
     let ran = run_and_store(
         rt,
@@ -115,14 +131,18 @@ where
 }
 
 #[inline(never)]
-fn check<R: Files + Print + Eprint + AllocGlobal + Threads + Sync>(rt: &R, image: &str) -> ExitCode
+fn check<R: Files + Print + Eprint + AllocGlobal + Clock + Threads + Sync>(
+    rt: &R,
+    image: &str,
+    shown: Shown,
+) -> ExitCode
 where
     R::File: Drop,
 {
     let Ok(image_file) = fs::open(rt, image) else {
         return cannot_open(rt, image);
     };
-    let mut image_source = Counting::new(image_file);
+    let mut image_source = Counting::new(shown_bytes(rt, image_file, IMAGE_READ, shown));
     let mut output = Counting::new(io::writer(rt));
     match check_text(rt, rt.alloc(), &mut image_source, &mut output) {
         Ok(()) => ExitCode::SUCCESS,
@@ -131,17 +151,18 @@ where
 }
 
 #[inline(never)]
-fn make<R: Print + Eprint + AllocGlobal>(
+fn make<R: Print + Eprint + AllocGlobal + Clock>(
     rt: &R,
     warehouses: u8,
     customers: u16,
     items: u32,
+    shown: Shown,
 ) -> ExitCode
     requires warehouses { IsBetween 1 100 warehouses }
     requires customers { IsBetween 1 3000 customers }
     requires items { IsBetween 1 100000 items }
 {
-    let mut output = Counting::new(io::writer(rt));
+    let mut output = Counting::new(shown_bytes(rt, io::writer(rt), IMAGE_WRITTEN, shown));
     match make_text(rt.alloc(), warehouses, customers, items, &mut output) {
         Ok(()) => ExitCode::SUCCESS,
         Err(fault) => report(rt, &StoredRunFault::Run(fault)),
@@ -196,6 +217,12 @@ fn explain<R: Print + Eprint>(rt: &R, fault: &LineFault) -> ExitCode {
     ExitCode::from(line_status(fault))
 }
 
+/// Says that standard input can be read for one thing alone.
+fn input_taken(rt: &impl Eprint) -> ExitCode {
+    let _ = eprintln!(rt; "eve-tpcc: command line: standard input is taken already");
+    ExitCode::from(2)
+}
+
 fn text_of(text: &Option<String>) -> Option<&str> {
     match text {
         Some(text) => Some(text.as_str()),
@@ -232,6 +259,31 @@ where
     }
 }
 
+/// Runs batches on the database of an image, as the line asks. One of the two may be standard input.
+fn run_line<R: Files + Print + Eprint + AllocGlobal + Clock + Host>(
+    rt: &R,
+    image: &str,
+    batches: &str,
+    workers: Workers,
+    store: Option<&str>,
+    from: Option<&str>,
+    at: bool,
+    shown: Shown,
+) -> ExitCode
+where
+    R::File: Drop,
+{
+    if is_standard_input(image) && is_standard_input(batches) {
+        return input_taken(rt);
+    }
+    let (image, batches) = (path_of(image), path_of(batches));
+    match (store, from, at) {
+        (None, None, false) => run(rt, image, batches, workers, shown),
+        (Some(path), None, false) => run_stored(rt, image, batches, workers, path, shown),
+        (store, from, at) => run_from(rt, image, batches, workers, store, from, at),
+    }
+}
+
 /// Answers commands from the stamp that a word gives.
 fn serve_resumed<R: Files + Input + Print + Eprint + AllocGlobal + Host>(
     rt: &R,
@@ -248,7 +300,27 @@ where
     }
 }
 
+/// Answers commands on the database of an image, which standard input can't be, since it has the commands.
+fn serve_line<R: Files + Input + Print + Eprint + AllocGlobal + Host>(
+    rt: &R,
+    image: &str,
+    workers: Workers,
+    from: Option<&str>,
+) -> ExitCode
+where
+    R::File: Drop,
+{
+    if is_standard_input(image) {
+        return input_taken(rt);
+    }
+    match from {
+        None => serve_commands(rt, image, workers),
+        Some(word) => serve_resumed(rt, image, workers, word),
+    }
+}
+
 fn main(rt: HostRuntime) -> ExitCode {
+    let shown = Shown::on(&rt.stderr());
     let words = match words_of(&rt, rt.alloc()) {
         Ok(words) => words,
         Err(fault) => return words_unread(&rt, fault),
@@ -263,32 +335,31 @@ fn main(rt: HostRuntime) -> ExitCode {
                 from,
                 at,
             },
-        ) => {
-            let (image, batches) = (image.as_str(), batches.as_str());
-            match (text_of(&store), text_of(&from), at) {
-                (None, None, false) => run(&rt, image, batches, workers),
-                (Some(path), None, false) => run_stored(&rt, image, batches, workers, path),
-                (store, from, at) => run_from(&rt, image, batches, workers, store, from, at),
-            }
-        }
-        Ok(Line::Check { image }) => check(&rt, image.as_str()),
+        ) => run_line(
+            &rt,
+            image.as_str(),
+            batches.as_str(),
+            workers,
+            text_of(&store),
+            text_of(&from),
+            at,
+            shown,
+        ),
+        Ok(Line::Check { image }) => check(&rt, path_of(image.as_str()), shown),
         Ok(
             Line::Make {
                 warehouses,
                 customers,
                 items,
             },
-        ) => make(&rt, warehouses, customers, items),
+        ) => make(&rt, warehouses, customers, items, shown),
         Ok(
             Line::Serve {
                 image,
                 workers,
                 from,
             },
-        ) => match text_of(&from) {
-            None => serve_commands(&rt, image.as_str(), workers),
-            Some(word) => serve_resumed(&rt, image.as_str(), workers, word),
-        },
+        ) => serve_line(&rt, image.as_str(), workers, text_of(&from)),
         Err(fault) => explain(&rt, &fault),
     }
 }

@@ -8,8 +8,10 @@ use std::env::FillError;
 use std::rt::Env;
 
 /// Lines that are taken, that are refused, and that ask for help or the version.
-const LINES: [&str; 85] = [
+const LINES: [&str; 89] = [
     "eve-tpcc run image.csv batches.csv",
+    "eve-tpcc run - batches.csv",
+    "eve-tpcc run image.csv - --workers 2",
     "eve-tpcc run image.csv batches.csv --workers 2",
     "eve-tpcc run image.csv batches.csv --workers=64",
     "eve-tpcc run image.csv --workers +03 batches.csv",
@@ -22,6 +24,7 @@ const LINES: [&str; 85] = [
     "eve-tpcc run image.csv batches.csv --at",
     "eve-tpcc run --at --from=2,7,ab image.csv --store later.csv batches.csv",
     "eve-tpcc check image.csv",
+    "eve-tpcc check -",
     "eve-tpcc make 1 45 100",
     "eve-tpcc make 1 1 1",
     "eve-tpcc make 100 3000 100000",
@@ -85,6 +88,7 @@ const LINES: [&str; 85] = [
     "eve-tpcc make --help",
     "eve-tpcc make 1 -h",
     "eve-tpcc serve image.csv",
+    "eve-tpcc serve -",
     "eve-tpcc serve --workers 8 image.csv",
     "eve-tpcc serve image.csv --from 2,7,ab",
     "eve-tpcc serve --from=2,7,ab --workers 8 image.csv",
