@@ -10,6 +10,7 @@ use runner::run_text;
 use std::alloc::Global;
 use std::rt::Clock;
 use std::time::Duration;
+use telling::Telling;
 use tpcc_rows::id::{CustomerId, RequestNumber};
 use tpcc_rows::number::Cents;
 use workers::{NoGate, Workers};
@@ -56,8 +57,8 @@ fn ends_alone(rt: &(impl Clock + AllocGlobal), text: &[u8], reply: &Reply) -> Op
 /// How long the engine takes from the bytes of an image and of batches to those of the replies, by one worker.
 pub fn whole<R: Clock + AllocGlobal + Host>(rt: &R, image: &[u8], text: &[u8]) -> Option<Duration> {
     let one = Workers::new(1)?;
-    let mut image = BytesSource::new(image, 65_536);
-    let mut batches = BytesSource::new(text, 65_536);
+    let mut image = Telling::new(BytesSource::new(image, 65_536));
+    let mut batches = Telling::new(BytesSource::new(text, 65_536));
     let mut sink = BytesSink::new(rt.alloc(), 65_536);
     let start = start(rt);
     let ran = run_text(

@@ -24,6 +24,7 @@ use std::rt::Files;
 use std::thread::Threads;
 use std::time::Clock;
 use std::{fs, io, str};
+use telling::Telling;
 use workers::{NoGate, Workers};
 
 /// What is counted while the image is read.
@@ -70,9 +71,16 @@ where
     let Ok(batches_file) = fs::open(rt, batches) else {
         return cannot_open(rt, batches);
     };
-    let mut image_source = Counting::new(shown_bytes(rt, image_file, IMAGE_READ, shown));
-    let mut batches_source = Counting::new(shown_bytes(rt, batches_file, BATCHES_READ, shown));
-    let mut output = Counting::new(shown_batches(rt, io::writer(rt), shown));
+    let mut image_source = Telling::new(Counting::new(shown_bytes(
+        rt, image_file, IMAGE_READ, shown,
+    )));
+    let mut batches_source = Telling::new(Counting::new(shown_bytes(
+        rt,
+        batches_file,
+        BATCHES_READ,
+        shown,
+    )));
+    let mut output = Telling::new(Counting::new(shown_batches(rt, io::writer(rt), shown)));
     let ran = run_text(
         rt,
         rt.alloc(),
@@ -110,10 +118,17 @@ where
     let Ok(store_file) = open_store(rt, path) else {
         return cannot_create(rt, path);
     };
-    let mut image_source = Counting::new(shown_bytes(rt, image_file, IMAGE_READ, shown));
-    let mut batches_source = Counting::new(shown_bytes(rt, batches_file, BATCHES_READ, shown));
-    let mut output = Counting::new(shown_batches(rt, io::writer(rt), shown));
-    let mut tables = Counting::new(store_file);
+    let mut image_source = Telling::new(Counting::new(shown_bytes(
+        rt, image_file, IMAGE_READ, shown,
+    )));
+    let mut batches_source = Telling::new(Counting::new(shown_bytes(
+        rt,
+        batches_file,
+        BATCHES_READ,
+        shown,
+    )));
+    let mut output = Telling::new(Counting::new(shown_batches(rt, io::writer(rt), shown)));
+    let mut tables = Telling::new(Counting::new(store_file));
     let ran = run_and_store(
         rt,
         rt.alloc(),
@@ -142,8 +157,10 @@ where
     let Ok(image_file) = fs::open(rt, image) else {
         return cannot_open(rt, image);
     };
-    let mut image_source = Counting::new(shown_bytes(rt, image_file, IMAGE_READ, shown));
-    let mut output = Counting::new(io::writer(rt));
+    let mut image_source = Telling::new(Counting::new(shown_bytes(
+        rt, image_file, IMAGE_READ, shown,
+    )));
+    let mut output = Telling::new(Counting::new(io::writer(rt)));
     match check_text(rt, rt.alloc(), &mut image_source, &mut output) {
         Ok(()) => ExitCode::SUCCESS,
         Err(fault) => report(rt, &StoredRunFault::Run(fault)),
@@ -162,7 +179,12 @@ fn make<R: Print + Eprint + AllocGlobal + Clock>(
     requires customers { IsBetween 1 3000 customers }
     requires items { IsBetween 1 100000 items }
 {
-    let mut output = Counting::new(shown_bytes(rt, io::writer(rt), IMAGE_WRITTEN, shown));
+    let mut output = Telling::new(Counting::new(shown_bytes(
+        rt,
+        io::writer(rt),
+        IMAGE_WRITTEN,
+        shown,
+    )));
     match make_text(rt.alloc(), warehouses, customers, items, &mut output) {
         Ok(()) => ExitCode::SUCCESS,
         Err(fault) => report(rt, &StoredRunFault::Run(fault)),
@@ -182,7 +204,7 @@ where
         return cannot_open(rt, image);
     };
     let mut image_source = Counting::new(image_file);
-    let mut output = Counting::new(io::writer(rt));
+    let mut output = Telling::new(Counting::new(io::writer(rt)));
     let served = serve(
         rt,
         rt.alloc(),

@@ -9,12 +9,13 @@ use executor::{Executor, Stamp};
 use hashers::Host;
 use records::io::Counting;
 use runner::stamp_text::{stamp_line, stamp_of};
-use runner::{RunFault, StoredRunFault, load_executor, run_and_store_on, run_on};
+use runner::{RunFault, StoredRunFault, load_told, run_and_store_on, run_on};
 use session::serve_on;
 use std::io::Input;
 use std::process::ExitCode;
 use std::rt::Files;
 use std::{fs, io, str};
+use telling::Telling;
 use workers::{NoGate, Workers};
 
 /// The stamp that the word of `--from` gives, if any; another word is refused.
@@ -88,8 +89,8 @@ where
     requires sound { IsSoundState executor.old.cards executor.old.present }
     requires low { 1 ≤ executor.old.present.next }
 {
-    let mut batches_source = Counting::new(batches);
-    let mut output = Counting::new(io::writer(rt));
+    let mut batches_source = Telling::new(Counting::new(batches));
+    let mut output = Telling::new(Counting::new(io::writer(rt)));
     let Some(file) = store else {
         let ran = run_on(
             rt,
@@ -102,7 +103,7 @@ where
         );
         return ran.map_err(StoredRunFault::Run);
     };
-    let mut tables = Counting::new(file);
+    let mut tables = Telling::new(Counting::new(file));
     run_and_store_on(
         rt,
         rt.alloc(),
@@ -188,8 +189,8 @@ where
         Ok(store) => store,
         Err(status) => return status,
     };
-    let mut image_source = Counting::new(image);
-    let mut loaded = load_executor(rt, rt.alloc(), &mut image_source);
+    let mut image_source = Telling::new(Counting::new(image));
+    let mut loaded = load_told(rt, rt.alloc(), &mut image_source);
     match &mut loaded {
         Ok(executor) => run_loaded(rt, executor, batches, store, asked, from),
         Err(fault) => report(rt, &StoredRunFault::Run(*fault)),
@@ -211,7 +212,7 @@ fn serve_loaded<R: Input + Print + Eprint + AllocGlobal + Host>(
     if let Err(status) = resume(rt, executor, from) {
         return status;
     }
-    let mut output = Counting::new(io::writer(rt));
+    let mut output = Telling::new(Counting::new(io::writer(rt)));
     let served = serve_on(
         rt,
         rt.alloc(),
@@ -242,8 +243,8 @@ where
     let Ok(image_file) = fs::open(rt, image) else {
         return cannot_open(rt, image);
     };
-    let mut image_source = Counting::new(image_file);
-    let mut loaded = load_executor(rt, rt.alloc(), &mut image_source);
+    let mut image_source = Telling::new(Counting::new(image_file));
+    let mut loaded = load_told(rt, rt.alloc(), &mut image_source);
     match &mut loaded {
         Ok(executor) => serve_loaded(rt, executor, workers, from),
         Err(fault) => report(rt, &StoredRunFault::Run(*fault)),

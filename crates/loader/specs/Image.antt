@@ -1,5 +1,5 @@
 -- The database of an image, or its one fault.
-use Rattle.std.specs.Prelude.{◌==◌, ◌&&◌, ◌+◌, ◌-◌, ◌∷◌, [], Bool, ℕ, List, length, codes, decimal, Option, Some, None, Result, Ok, Err, if◌then◌else◌}
+use Rattle.std.specs.Prelude.{◌≡◌, ◌⊎◌, ◌==◌, ◌&&◌, ◌+◌, ◌-◌, ◌<◌, ◌∷◌, [], Bool, ℕ, List, length, codes, decimal, Option, Some, None, Result, Ok, Err, if◌then◌else◌}
 use Rattle.csv.specs.Records.{field_at}
 use Rattle.records.specs.Fields.{Fields, is_text}
 use Rattle.records.specs.Records.{records_in}
@@ -65,3 +65,7 @@ most_bytes = 4294967295
 -- the sound database of an image, or its fault
 abbrev pub image : List ℕ → Result Database LoadError
 image bytes = tested (read_all (records_in bytes))
+
+-- the bytes give no database, or they couldn't be read
+abbrev pub IsUnread : LoadError → List ℕ → Type 0
+IsUnread e bytes = (e ≡ err.Memory) ⊎ (e ≡ err.Read) ⊎ ((e ≡ err.InputTooLong) × (most_bytes < length bytes)) ⊎ (image bytes ≡ Err e)

@@ -1,10 +1,11 @@
 //! Loads a database from the bytes of an image.
-ghost use Rattle.std.specs.Prelude.{◌≡◌, ◌≢◌, ◌⊎◌, ◌+◌, ◌<◌, ◌≤◌, ◌^◌, [], length, Ok, Err, IfOk, IfErr, IfSome, IsErrOf, OnOk};
+ghost use Rattle.std.specs.Prelude.{◌≡◌, ◌≢◌, ◌⊎◌, ◌+◌, ◌<◌, ◌≤◌, ◌^◌, [], length, true, Ok, Err, IfOk, IfErr, IfSome, IsErrOf, OnOk};
 ghost use Rattle.tpcc_model.specs.Soundness.{IsSound};
 ghost use Rattle.rollback.specs.Marks.{AreClean};
 ghost use Rattle.image_records.specs.Faults.{IsOfReading, IsOfText, StopsBy};
-ghost use Rattle.loader.specs.Image.{image, most_bytes};
+ghost use Rattle.loader.specs.Image.{IsUnread, image, most_bytes};
 ghost use Rattle.image_records.specs.Databases.{loaded};
+ghost use Rattle.telling.specs.Told.{OfSource};
 ghost use Rattle.tpcc_model.specs.Database.{database};
 
 use crate::reading::read_tables;
@@ -16,6 +17,7 @@ use records::io::Source;
 use records::slurp::slurp;
 use rollback::PointedStore;
 use std::alloc::Global;
+use telling::{TellingSource, slurp_told};
 use tpcc_rows::memory::Memory;
 
 /// Maximum size of an image, in bytes.
@@ -60,6 +62,48 @@ pub fn read_image<S: Source>(
         Err(ReadError::Read) => return Err(LoadError::Read),
         Err(ReadError::InputTooLong) => return Err(LoadError::InputTooLong),
         Err(_) => return Err(LoadError::Memory),
+    };
+    read_text(alloc, text)
+}
+
+/// The bytes that a source gives up to its end.
+fn text_of<S: TellingSource>(alloc: Global, source: &mut S) -> Result<Vec<u8>, LoadError>
+    requires { S.failed source.old < 2 ^ 63 }
+    ensures whole { IfOk result (λ v. OfSource (S.left source.old) (S.given source.old) (S.given source.new) (λ bytes. v.items ≡ bytes)) }
+    ensures over { OnOk result (S.ended source.new ≡ true) }
+    ensures within { IfOk result (λ v. length v.items ≤ most_bytes) }
+    ensures err { IfErr result (λ e. OfSource (S.left source.old) (S.given source.old) (S.given source.new) (IsUnread e)) }
+    ensures read { IsErrOf result LoadError.Read → S.failed source.new ≡ S.failed source.old + 1 }
+    ensures no_read { (result ≢ Err LoadError.Read) → S.failed source.new ≡ S.failed source.old }
+{
+    match slurp_told(alloc, source, MOST_BYTES) {
+        Ok(text) => Ok(text),
+        Err(ReadError::Read) => Err(LoadError::Read),
+        Err(ReadError::InputTooLong) => Err(LoadError::InputTooLong),
+        Err(_) => Err(LoadError::Memory),
+    }
+}
+
+/// What `read_image` gives, of the bytes that a source gives up to its end.
+pub fn read_told<S: TellingSource>(
+    alloc: Global,
+    source: &mut S,
+) -> Result<(Catalog, UnpagedRows), LoadError>
+    requires { S.failed source.old < 2 ^ 63 }
+    ensures ok { IfOk result (λ db. OfSource (S.left source.old) (S.given source.old) (S.given source.new) (λ bytes.
+        image bytes ≡ Ok (database db.0 db.1))) }
+    ensures over { OnOk result (S.ended source.new ≡ true) }
+    ensures within { OnOk result (OfSource (S.left source.old) (S.given source.old) (S.given source.new) (λ bytes. length bytes ≤ most_bytes)) }
+    ensures sound { IfOk result (λ db. IsSound (database db.0 db.1)) }
+    ensures err { IfErr result (λ e. OfSource (S.left source.old) (S.given source.old) (S.given source.new) (IsUnread e)) }
+
+    // No failure but the one that is answered.
+    ensures read { IsErrOf result LoadError.Read → S.failed source.new ≡ S.failed source.old + 1 }
+    ensures no_read { (result ≢ Err LoadError.Read) → S.failed source.new ≡ S.failed source.old }
+{
+    let text = match text_of(alloc, source) {
+        Ok(text) => text,
+        Err(error) => return Err(error),
     };
     read_text(alloc, text)
 }

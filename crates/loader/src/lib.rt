@@ -15,6 +15,6 @@ mod sorted_rows;
 pub mod unpaged;
 
 pub use gathered_tables::GatheredTables;
-pub use image::{load, read_image};
+pub use image::{load, read_image, read_told};
 pub use mapped_rows::on_pages;
 pub use unpaged::UnpagedRows;

@@ -6,3 +6,4 @@ pub mod StoredLemmas
 pub mod FieldLemmas
 pub mod ShortBatches
 pub mod ExecutedBatches
+pub mod SourcedRuns

@@ -145,11 +145,6 @@ pub where_fine : {A E P : Type 0} (r : Result A E) → OnOk r P → is_err r ≡
 where_fine (Ok a) h fine = h
 where_fine (Err e) h fine = cc
 
-pub leaves_all : (images : Option (List ℕ)) (taken : Taken) → IfSome images (λ image_bytes. LeavesCheck run_fault.Memory image_bytes taken taken)
-leaves_all None taken = tt
-leaves_all (Some bytes) None = tt
-leaves_all (Some bytes) (Some taken) = refl
-
 pub checks_image : (images : Option (List ℕ)) (line : Line) (old new : Taken) → IfSome images (λ image_bytes. IsOpened image_bytes line) → Appends old new (check_text line.cards line.present)
     → IfSome images (λ image_bytes. ChecksImage image_bytes old new)
 checks_image None line old new opened written = tt

@@ -1,21 +1,23 @@
 //! `check`: from the bytes of an image to a line that sums it up.
-ghost use Rattle.std.specs.Prelude.{◌≡◌, ◌+◌, ◌<◌, ◌^◌, IfErr, IfOk, IfSome, OnOk, if◌then◌else◌};
+ghost use Rattle.std.specs.Prelude.{◌≡◌, ◌+◌, ◌<◌, ◌^◌, true, IfErr, IfOk, OnOk, if◌then◌else◌};
 ghost use Rattle.std.specs.Io.KnownBytes.{Appends};
 ghost use Rattle.runner.specs.CheckTexts.{ChecksImage, LeavesCheck, check_text, warehouse_count};
 ghost use Rattle.runner.specs.Runs.{is_write};
 ghost use Rattle.runner.specs.WholeRuns.{is_image_read};
+ghost use Rattle.telling.specs.Told.{OfSource};
 
 use crate::fault::RunFault;
-use crate::opening::load_executor;
+use crate::opening::load_told;
 use crate::text::digits_of;
 use catalog::Catalog;
 use catalog::card::CardKey;
 use executor::Executor;
 use itoa::Buffer;
-use records::io::{Sink, Source};
+use records::io::Sink;
 use records::slurp::push_all;
 use std::alloc::Global;
 use std::thread::Threads;
+use telling::TellingSource;
 use tpcc_rows::memory::Memory;
 
 /// The number of warehouses.
@@ -53,7 +55,7 @@ fn line_of(alloc: Global, executor: &Executor) -> Result<Vec<u8>, Memory>
 }
 
 /// Loads an image, and writes a line with its numbers of warehouses and rows, and its token.
-pub fn check_text<R: Threads + Sync, I: Source, S: Sink>(
+pub fn check_text<R: Threads + Sync, I: TellingSource, S: Sink>(
     rt: &R,
     alloc: Global,
     image: &mut I,
@@ -61,12 +63,15 @@ pub fn check_text<R: Threads + Sync, I: Source, S: Sink>(
 ) -> Result<(), RunFault>
     requires image { I.failed image.old < 2 ^ 63 }
     requires sink { S.failed sink.old < 2 ^ 63 }
-    ensures ok { OnOk result (IfSome (I.left image.old) (λ bytes. ChecksImage bytes (S.taken sink.old) (S.taken sink.new))) }
-    ensures err { IfErr result (λ e. IfSome (I.left image.old) (λ bytes. LeavesCheck e bytes (S.taken sink.old) (S.taken sink.new))) }
+    ensures ok { OnOk result (OfSource (I.left image.old) (I.given image.old) (I.given image.new) (λ bytes.
+        ChecksImage bytes (S.taken sink.old) (S.taken sink.new))) }
+    ensures over { OnOk result (I.ended image.new ≡ true) }
+    ensures err { IfErr result (λ e. OfSource (I.left image.old) (I.given image.old) (I.given image.new) (λ bytes.
+        LeavesCheck e bytes (S.taken sink.old) (S.taken sink.new))) }
     ensures image_failures { I.failed image.new ≡ I.failed image.old + (if is_image_read result then 1 else 0) }
     ensures sink_failures { S.failed sink.new ≡ S.failed sink.old + (if is_write result then 1 else 0) }
 {
-    let executor = match load_executor(rt, alloc, image) {
+    let executor = match load_told(rt, alloc, image) {
         Ok(executor) => executor,
         Err(fault) => return Err(fault),
     };

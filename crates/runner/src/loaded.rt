@@ -1,9 +1,10 @@
 //! Runs on an executor that the caller owns, and can inspect before and after.
-ghost use Rattle.std.specs.Prelude.{◌≡◌, ◌+◌, ◌<◌, ◌≤◌, ◌^◌, [], IfErr, IfOk, IfSome, OnOk, if◌then◌else◌};
+ghost use Rattle.std.specs.Prelude.{◌≡◌, ◌+◌, ◌<◌, ◌≤◌, ◌^◌, [], true, IfErr, IfOk, OnOk, if◌then◌else◌};
 ghost use Rattle.executor.specs.States.{IsSoundState};
 ghost use Rattle.runner.specs.Runs.{is_write};
 ghost use Rattle.runner.specs.StoredRuns.{IsOfStoredDatabase, LeavesStoredState, StoredFrom, in_run, in_store};
 ghost use Rattle.runner.specs.WholeRuns.{IsOfDatabase, LeavesLine, RanFrom, is_batches_read, line_after};
+ghost use Rattle.telling.specs.Told.{OfSource};
 
 use crate::crew::Crew;
 use crate::fault::RunFault;
@@ -12,13 +13,14 @@ use crate::store_fault::StoredRunFault;
 use crate::stored_run::store_read;
 use executor::Executor;
 use hashers::Host;
-use records::io::{Sink, Source};
+use records::io::Sink;
 use std::alloc::Global;
+use telling::TellingSource;
 use workers::{Gate, Workers};
 
 /// Reads all bytes of the batches; then parses, executes, commits and writes batch after batch, from the executor's present
 /// state on. Returns the number of batches.
-pub fn run_on<R: Host, B: Source, S: Sink, G: Gate>(
+pub fn run_on<R: Host, B: TellingSource, S: Sink, G: Gate>(
     rt: &R,
     alloc: Global,
     executor: &mut Executor,
@@ -32,11 +34,12 @@ pub fn run_on<R: Host, B: Source, S: Sink, G: Gate>(
     requires low { 1 ≤ executor.old.present.next }
     requires batches { B.failed batches.old < 2 ^ 63 }
     requires sink { S.failed sink.old < 2 ^ 63 }
-    ensures ok { IfOk result (λ count. IfSome (B.left batches.old) (λ batch_bytes.
+    ensures ok { IfOk result (λ count. OfSource (B.left batches.old) (B.given batches.old) (B.given batches.new) (λ batch_bytes.
         RanFrom executor.old.cards executor.old.present batch_bytes (S.taken sink.old) (S.taken sink.new) count)) }
-    ensures line { OnOk result (IfSome (B.left batches.old) (λ batch_bytes.
+    ensures line { OnOk result (OfSource (B.left batches.old) (B.given batches.old) (B.given batches.new) (λ batch_bytes.
         executor.new ≡ line_after executor.old.cards executor.old.present batch_bytes)) }
-    ensures err { IfErr result (λ e. IfSome (B.left batches.old) (λ batch_bytes.
+    ensures over { OnOk result (B.ended batches.new ≡ true) }
+    ensures err { IfErr result (λ e. OfSource (B.left batches.old) (B.given batches.old) (B.given batches.new) (λ batch_bytes.
         LeavesLine e executor.old.cards executor.old.present batch_bytes (S.taken sink.old) (S.taken sink.new) executor.new)) }
     ensures kinds { IfErr result IsOfDatabase }
     ensures batches_failures { B.failed batches.new ≡ B.failed batches.old + (if is_batches_read result then 1 else 0) }
@@ -53,7 +56,7 @@ pub fn run_on<R: Host, B: Source, S: Sink, G: Gate>(
 
 /// Runs batches as `run_on` does, and then writes the image of the state whose token was written last, which is then the
 /// executor's present one.
-pub fn run_and_store_on<R: Host, B: Source, S: Sink, K: Sink, G: Gate>(
+pub fn run_and_store_on<R: Host, B: TellingSource, S: Sink, K: Sink, G: Gate>(
     rt: &R,
     alloc: Global,
     executor: &mut Executor,
@@ -69,12 +72,13 @@ pub fn run_and_store_on<R: Host, B: Source, S: Sink, K: Sink, G: Gate>(
     requires batches { B.failed batches.old < 2 ^ 63 }
     requires sink { S.failed sink.old < 2 ^ 63 }
     requires tables { K.failed tables.old < 2 ^ 63 }
-    ensures ok { IfOk result (λ count. IfSome (B.left batches.old) (λ batch_bytes.
+    ensures ok { IfOk result (λ count. OfSource (B.left batches.old) (B.given batches.old) (B.given batches.new) (λ batch_bytes.
         StoredFrom executor.old.cards executor.old.present batch_bytes
         (S.taken sink.old) (S.taken sink.new) (K.taken tables.old) (K.taken tables.new) count)) }
-    ensures line { OnOk result (IfSome (B.left batches.old) (λ batch_bytes.
+    ensures line { OnOk result (OfSource (B.left batches.old) (B.given batches.old) (B.given batches.new) (λ batch_bytes.
         executor.new ≡ line_after executor.old.cards executor.old.present batch_bytes)) }
-    ensures err { IfErr result (λ e. IfSome (B.left batches.old) (λ batch_bytes.
+    ensures over { OnOk result (B.ended batches.new ≡ true) }
+    ensures err { IfErr result (λ e. OfSource (B.left batches.old) (B.given batches.old) (B.given batches.new) (λ batch_bytes.
         LeavesStoredState e executor.old.cards executor.old.present batch_bytes
         (S.taken sink.old) (S.taken sink.new) (K.taken tables.old) (K.taken tables.new))) }
     ensures kinds { IfErr result IsOfStoredDatabase }

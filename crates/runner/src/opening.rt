@@ -1,5 +1,5 @@
 //! From the bytes of an image to an executor.
-ghost use Rattle.std.specs.Prelude.{◌≡◌, ◌+◌, ◌<◌, ◌≤◌, ◌^◌, [], IfErr, IfOk, IfSome, if◌then◌else◌};
+ghost use Rattle.std.specs.Prelude.{◌≡◌, ◌+◌, ◌<◌, ◌≤◌, ◌^◌, [], true, IfErr, IfOk, IfSome, OnOk, if◌then◌else◌};
 ghost use Rattle.executor.specs.Lines.{opening_line};
 ghost use Rattle.executor.specs.States.{IsSoundState};
 ghost use Rattle.executor.specs.declared.refusal.Refusal.TheVariants as refusal;
@@ -8,6 +8,7 @@ ghost use Rattle.merkle.specs.Nodes.{IsOf};
 ghost use Rattle.runner.specs.Openings.{IsOfOpening, IsOpened, IsRefused, IsUnopened};
 ghost use Rattle.runner.specs.WholeRuns.{is_image_read};
 ghost use Rattle.runner.specs.declared.fault.RunFault.TheVariants as run_fault;
+ghost use Rattle.telling.specs.Told.{OfSource};
 ghost use Rattle.tpcc_model.specs.Database.{database};
 ghost use Rattle.tpcc_model.specs.Soundness.{IsSound};
 
@@ -16,12 +17,13 @@ use catalog::Catalog;
 use executor::laws::sound_states;
 use executor::{Executor, Refusal, beside_digest};
 use image_records::LoadError;
-use loader::{UnpagedRows, read_image};
+use loader::{UnpagedRows, read_image, read_told};
 use merkle::Tree;
 use records::io::Source;
 use rollback::PointedStore;
 use std::alloc::Global;
 use std::thread::Threads;
+use telling::TellingSource;
 
 /// Puts the rows on pages.
 fn paged(alloc: Global, rows: UnpagedRows) -> Result<PointedStore, RunFault>
@@ -137,5 +139,29 @@ pub fn load_executor<R: Threads + Sync, I: Source>(
     match read_image(alloc, image) {
         Ok((catalog, rows)) => executor_of(rt, alloc, catalog, rows),
         Err(error) => Err(RunFault::Load(error)),
+    }
+}
+
+/// Loads the image that a source gives up to its end, and makes the executor of its database.
+#[inline(never)]
+pub fn load_told<R: Threads + Sync, I: TellingSource>(
+    rt: &R,
+    alloc: Global,
+    image: &mut I,
+) -> Result<Executor, RunFault>
+    requires image { I.failed image.old < 2 ^ 63 }
+    ensures ok { IfOk result (λ executor. OfSource (I.left image.old) (I.given image.old) (I.given image.new) (λ bytes. IsOpened bytes executor)) }
+    ensures alone { IfOk result (λ executor. executor.earlier ≡ []) }
+    ensures sound { IfOk result (λ executor. IsSoundState executor.cards executor.present) }
+    ensures low { IfOk result (λ executor. 1 ≤ executor.present.next) }
+    ensures over { OnOk result (I.ended image.new ≡ true) }
+    ensures err { IfErr result (λ e. OfSource (I.left image.old) (I.given image.old) (I.given image.new) (IsUnopened e)) }
+    ensures kinds { IfErr result IsOfOpening }
+    ensures image_failures { I.failed image.new ≡ I.failed image.old + (if is_image_read result then 1 else 0) }
+{
+    sound_states();
+    match read_told(alloc, image) {
+        Ok((catalog, rows)) => executor_of(rt, alloc, catalog, rows),
+        Err(fault) => Err(RunFault::Load(fault)),
     }
 }

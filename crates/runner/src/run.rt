@@ -1,25 +1,46 @@
 //! `run`: from the bytes of image and batches to the bytes of the replies.
-ghost use Rattle.std.specs.Prelude.{◌≡◌, ◌+◌, ◌<◌, ◌≤◌, ◌^◌, [], IfErr, IfOk, IfSome, OnOk, if◌then◌else◌};
+ghost use Rattle.std.specs.Prelude.{◌≡◌, ◌+◌, ◌<◌, ◌≤◌, ◌^◌, [], true, IfErr, IfOk, OnOk, if◌then◌else◌};
 ghost use Rattle.executor.specs.States.{IsSoundState};
-ghost use Rattle.runner.specs.Runs.{is_write};
+ghost use Rattle.runner.specs.Runs.{IsOfBatches, is_write};
 ghost use Rattle.runner.specs.WholeRuns.{IsOfDatabase, LeavesLine, LeavesRun, RanFrom, RanWhole, is_batches_read, is_image_read, line_after};
+ghost use Rattle.telling.specs.Told.{OfSource};
 
 use crate::crew::Crew;
 use crate::fault::RunFault;
-use crate::opening::load_executor;
+use crate::opening::load_told;
+use crate::reading::read_batches;
 use crate::serving::run_batches;
 use executor::Executor;
 use hashers::Host;
-use records::io::{Sink, Source};
-use records::slurp::slurp;
+use records::io::Sink;
 use std::alloc::Global;
+use telling::TellingSource;
 use workers::{Gate, Workers};
 
-/// Maximum size of the batches, in bytes.
-const MOST_BATCH_BYTES: usize = 1_073_741_824;
+/// Starts helper threads, and runs the batches of a text from the executor's present state on.
+pub(crate) fn run_given<R: Host, S: Sink, G: Gate>(
+    crew: &Crew<'_, R, G>,
+    executor: &mut Executor,
+    text: Vec<u8>,
+    sink: &mut S,
+) -> Result<u64, RunFault>
+    requires alone { executor.old.earlier ≡ [] }
+    requires sound { IsSoundState executor.old.cards executor.old.present }
+    requires low { 1 ≤ executor.old.present.next }
+    requires sink { S.failed sink.old < 2 ^ 63 }
+    ensures ok { IfOk result (RanFrom executor.old.cards executor.old.present text.items (S.taken sink.old) (S.taken sink.new)) }
+    ensures line { OnOk result (executor.new ≡ line_after executor.old.cards executor.old.present text.items) }
+    ensures err { IfErr result (λ e.
+        LeavesLine e executor.old.cards executor.old.present text.items (S.taken sink.old) (S.taken sink.new) executor.new) }
+    ensures kinds { IfErr result IsOfBatches }
+    ensures failures { S.failed sink.new ≡ S.failed sink.old + (if is_write result then 1 else 0) }
+{
+    executor.keep_threads(*crew.rt, crew.alloc, crew.workers);
+    run_batches(crew, executor, text.as_slice(), sink)
+}
 
 /// Reads all bytes of the batches, starts helper threads, and runs the batches from the executor's present state on.
-pub(crate) fn run_read<R: Host, B: Source, S: Sink, G: Gate>(
+pub(crate) fn run_read<R: Host, B: TellingSource, S: Sink, G: Gate>(
     crew: &Crew<'_, R, G>,
     executor: &mut Executor,
     batches: &mut B,
@@ -30,27 +51,27 @@ pub(crate) fn run_read<R: Host, B: Source, S: Sink, G: Gate>(
     requires low { 1 ≤ executor.old.present.next }
     requires batches { B.failed batches.old < 2 ^ 63 }
     requires sink { S.failed sink.old < 2 ^ 63 }
-    ensures ok { IfOk result (λ count. IfSome (B.left batches.old) (λ batch_bytes.
+    ensures ok { IfOk result (λ count. OfSource (B.left batches.old) (B.given batches.old) (B.given batches.new) (λ batch_bytes.
         RanFrom executor.old.cards executor.old.present batch_bytes (S.taken sink.old) (S.taken sink.new) count)) }
-    ensures line { OnOk result (IfSome (B.left batches.old) (λ batch_bytes.
+    ensures line { OnOk result (OfSource (B.left batches.old) (B.given batches.old) (B.given batches.new) (λ batch_bytes.
         executor.new ≡ line_after executor.old.cards executor.old.present batch_bytes)) }
-    ensures err { IfErr result (λ e. IfSome (B.left batches.old) (λ batch_bytes.
+    ensures over { OnOk result (B.ended batches.new ≡ true) }
+    ensures err { IfErr result (λ e. OfSource (B.left batches.old) (B.given batches.old) (B.given batches.new) (λ batch_bytes.
         LeavesLine e executor.old.cards executor.old.present batch_bytes (S.taken sink.old) (S.taken sink.new) executor.new)) }
     ensures kinds { IfErr result IsOfDatabase }
     ensures batches_failures { B.failed batches.new ≡ B.failed batches.old + (if is_batches_read result then 1 else 0) }
     ensures sink_failures { S.failed sink.new ≡ S.failed sink.old + (if is_write result then 1 else 0) }
 {
-    let text = match slurp(crew.alloc, batches, MOST_BATCH_BYTES) {
+    let text = match read_batches(crew.alloc, batches) {
         Ok(text) => text,
         Err(error) => return Err(RunFault::Read(error)),
     };
-    executor.keep_threads(*crew.rt, crew.alloc, crew.workers);
-    run_batches(crew, executor, text.as_slice(), sink)
+    run_given(crew, executor, text, sink)
 }
 
 /// Loads an image, reads all bytes of the batches, and then parses, executes, commits and writes batch after batch. Returns the
-/// number of batches. The output is the same for every number of workers and every gate.
-pub fn run_text<R: Host, I: Source, B: Source, S: Sink, G: Gate>(
+/// number of batches. The output is the same for every number of workers and every gate: the text of the bytes that the sources gave.
+pub fn run_text<R: Host, I: TellingSource, B: TellingSource, S: Sink, G: Gate>(
     rt: &R,
     alloc: Global,
     image: &mut I,
@@ -62,9 +83,12 @@ pub fn run_text<R: Host, I: Source, B: Source, S: Sink, G: Gate>(
     requires image { I.failed image.old < 2 ^ 63 }
     requires batches { B.failed batches.old < 2 ^ 63 }
     requires sink { S.failed sink.old < 2 ^ 63 }
-    ensures ok { IfOk result (λ count. IfSome (I.left image.old) (λ image_bytes. IfSome (B.left batches.old) (λ batch_bytes.
+    ensures ok { IfOk result (λ count. OfSource (I.left image.old) (I.given image.old) (I.given image.new) (λ image_bytes.
+        OfSource (B.left batches.old) (B.given batches.old) (B.given batches.new) (λ batch_bytes.
         RanWhole image_bytes batch_bytes (S.taken sink.old) (S.taken sink.new) count))) }
-    ensures err { IfErr result (λ e. IfSome (I.left image.old) (λ image_bytes. IfSome (B.left batches.old) (λ batch_bytes.
+    ensures over { OnOk result ((I.ended image.new ≡ true) × (B.ended batches.new ≡ true)) }
+    ensures err { IfErr result (λ e. OfSource (I.left image.old) (I.given image.old) (I.given image.new) (λ image_bytes.
+        OfSource (B.left batches.old) (B.given batches.old) (B.given batches.new) (λ batch_bytes.
         LeavesRun e image_bytes batch_bytes (S.taken sink.old) (S.taken sink.new)))) }
 
     // A stream is reported as failed exactly if it failed.
@@ -72,7 +96,7 @@ pub fn run_text<R: Host, I: Source, B: Source, S: Sink, G: Gate>(
     ensures batches_failures { B.failed batches.new ≡ B.failed batches.old + (if is_batches_read result then 1 else 0) }
     ensures sink_failures { S.failed sink.new ≡ S.failed sink.old + (if is_write result then 1 else 0) }
 {
-    let mut executor = match load_executor(rt, alloc, image) {
+    let mut executor = match load_told(rt, alloc, image) {
         Ok(executor) => executor,
         Err(fault) => return Err(fault),
     };

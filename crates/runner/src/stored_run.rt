@@ -1,23 +1,26 @@
 //! `run --store`: a run that ends by writing the image of its last state.
-ghost use Rattle.std.specs.Prelude.{◌≡◌, ◌+◌, ◌<◌, ◌≤◌, ◌^◌, [], IfErr, IfOk, IfSome, OnOk, if◌then◌else◌};
+ghost use Rattle.std.specs.Prelude.{◌≡◌, ◌+◌, ◌<◌, ◌≤◌, ◌^◌, [], false, true, IfErr, IfOk, OnOk, if◌then◌else◌};
 ghost use Rattle.std.specs.Io.KnownBytes.{Appends};
 ghost use Rattle.executor.specs.States.{IsSoundState};
 ghost use Rattle.runner.specs.Runs.{is_write};
 ghost use Rattle.runner.specs.StoredRuns.{IsOfStoredDatabase, LeavesStore, LeavesStoredRun, LeavesStoredState, StoredBehind, StoredFrom, StoredWhole};
 ghost use Rattle.runner.specs.StoredRuns.{in_run, in_store, is_of_tables, is_store_write, state_image};
 ghost use Rattle.runner.specs.WholeRuns.{IsOfDatabase, is_batches_read, is_image_read, line_after};
+ghost use Rattle.telling.specs.Told.{OfSource};
 
 use crate::crew::Crew;
 use crate::fault::RunFault;
-use crate::opening::load_executor;
-use crate::run::run_read;
+use crate::opening::load_told;
+use crate::reading::read_batches;
+use crate::run::run_given;
 use crate::store_fault::{StoreFault, StoredRunFault};
 use executor::Executor;
 use hashers::Host;
-use records::io::{Sink, Source};
+use records::io::Sink;
 use records::slurp::push_all;
 use std::alloc::Global;
 use stored_image::store_image;
+use telling::TellingSource;
 use tpcc_rows::memory::Memory;
 use workers::{Gate, Workers};
 
@@ -79,9 +82,42 @@ fn store_behind<K: Sink>(
     }
 }
 
+/// Runs the batches of a text from the executor's present state on, and then writes the image of the state after the last batch
+/// whose text was written.
+fn store_given<R: Host, S: Sink, K: Sink, G: Gate>(
+    crew: &Crew<'_, R, G>,
+    executor: &mut Executor,
+    text: Vec<u8>,
+    sink: &mut S,
+    tables: &mut K,
+) -> Result<u64, StoredRunFault>
+    requires alone { executor.old.earlier ≡ [] }
+    requires sound { IsSoundState executor.old.cards executor.old.present }
+    requires low { 1 ≤ executor.old.present.next }
+    requires sink { S.failed sink.old < 2 ^ 63 }
+    requires tables { K.failed tables.old < 2 ^ 63 }
+    ensures ok { IfOk result (StoredFrom executor.old.cards executor.old.present text.items
+        (S.taken sink.old) (S.taken sink.new) (K.taken tables.old) (K.taken tables.new)) }
+    ensures line { OnOk result (executor.new ≡ line_after executor.old.cards executor.old.present text.items) }
+    ensures err { IfErr result (λ e. LeavesStoredState e executor.old.cards executor.old.present text.items
+        (S.taken sink.old) (S.taken sink.new) (K.taken tables.old) (K.taken tables.new)) }
+    ensures kinds { IfErr result IsOfStoredDatabase }
+    ensures none_read { in_run is_batches_read result ≡ false }
+    ensures sink_failures { S.failed sink.new ≡ S.failed sink.old + (if in_run is_write result then 1 else 0) }
+    ensures tables_failures { K.failed tables.new ≡ K.failed tables.old + (if in_store result then 1 else 0) }
+{
+    match run_given(crew, executor, text, sink) {
+        Ok(count) => match store_state(crew.alloc, executor, tables) {
+            Ok(()) => Ok(count),
+            Err(fault) => Err(StoredRunFault::Store(fault)),
+        },
+        Err(fault) => Err(store_behind(crew.alloc, executor, fault, tables)),
+    }
+}
+
 /// Reads all bytes of the batches, runs them from the executor's present state on, and then writes the image of the state after
 /// the last batch whose text was written.
-pub(crate) fn store_read<R: Host, B: Source, S: Sink, K: Sink, G: Gate>(
+pub(crate) fn store_read<R: Host, B: TellingSource, S: Sink, K: Sink, G: Gate>(
     crew: &Crew<'_, R, G>,
     executor: &mut Executor,
     batches: &mut B,
@@ -94,12 +130,13 @@ pub(crate) fn store_read<R: Host, B: Source, S: Sink, K: Sink, G: Gate>(
     requires batches { B.failed batches.old < 2 ^ 63 }
     requires sink { S.failed sink.old < 2 ^ 63 }
     requires tables { K.failed tables.old < 2 ^ 63 }
-    ensures ok { IfOk result (λ count. IfSome (B.left batches.old) (λ batch_bytes.
+    ensures ok { IfOk result (λ count. OfSource (B.left batches.old) (B.given batches.old) (B.given batches.new) (λ batch_bytes.
         StoredFrom executor.old.cards executor.old.present batch_bytes
         (S.taken sink.old) (S.taken sink.new) (K.taken tables.old) (K.taken tables.new) count)) }
-    ensures line { OnOk result (IfSome (B.left batches.old) (λ batch_bytes.
+    ensures line { OnOk result (OfSource (B.left batches.old) (B.given batches.old) (B.given batches.new) (λ batch_bytes.
         executor.new ≡ line_after executor.old.cards executor.old.present batch_bytes)) }
-    ensures err { IfErr result (λ e. IfSome (B.left batches.old) (λ batch_bytes.
+    ensures over { OnOk result (B.ended batches.new ≡ true) }
+    ensures err { IfErr result (λ e. OfSource (B.left batches.old) (B.given batches.old) (B.given batches.new) (λ batch_bytes.
         LeavesStoredState e executor.old.cards executor.old.present batch_bytes
         (S.taken sink.old) (S.taken sink.new) (K.taken tables.old) (K.taken tables.new))) }
     ensures kinds { IfErr result IsOfStoredDatabase }
@@ -107,18 +144,15 @@ pub(crate) fn store_read<R: Host, B: Source, S: Sink, K: Sink, G: Gate>(
     ensures sink_failures { S.failed sink.new ≡ S.failed sink.old + (if in_run is_write result then 1 else 0) }
     ensures tables_failures { K.failed tables.new ≡ K.failed tables.old + (if in_store result then 1 else 0) }
 {
-    match run_read(crew, executor, batches, sink) {
-        Ok(count) => match store_state(crew.alloc, executor, tables) {
-            Ok(()) => Ok(count),
-            Err(fault) => Err(StoredRunFault::Store(fault)),
-        },
-        Err(fault) => Err(store_behind(crew.alloc, executor, fault, tables)),
+    match read_batches(crew.alloc, batches) {
+        Ok(text) => store_given(crew, executor, text, sink, tables),
+        Err(error) => Err(store_behind(crew.alloc, executor, RunFault::Read(error), tables)),
     }
 }
 
 /// Runs batches as `run_text` does, and then writes the image of the state whose token was written last, from which a later run
 /// can resume. It is written after a run that ended early, too, unless its output failed or it ended before there was a state.
-pub fn run_and_store<R: Host, I: Source, B: Source, S: Sink, K: Sink, G: Gate>(
+pub fn run_and_store<R: Host, I: TellingSource, B: TellingSource, S: Sink, K: Sink, G: Gate>(
     rt: &R,
     alloc: Global,
     image: &mut I,
@@ -132,9 +166,12 @@ pub fn run_and_store<R: Host, I: Source, B: Source, S: Sink, K: Sink, G: Gate>(
     requires batches { B.failed batches.old < 2 ^ 63 }
     requires sink { S.failed sink.old < 2 ^ 63 }
     requires tables { K.failed tables.old < 2 ^ 63 }
-    ensures ok { IfOk result (λ count. IfSome (I.left image.old) (λ image_bytes. IfSome (B.left batches.old) (λ batch_bytes.
+    ensures ok { IfOk result (λ count. OfSource (I.left image.old) (I.given image.old) (I.given image.new) (λ image_bytes.
+        OfSource (B.left batches.old) (B.given batches.old) (B.given batches.new) (λ batch_bytes.
         StoredWhole image_bytes batch_bytes (S.taken sink.old) (S.taken sink.new) (K.taken tables.old) (K.taken tables.new) count))) }
-    ensures err { IfErr result (λ e. IfSome (I.left image.old) (λ image_bytes. IfSome (B.left batches.old) (λ batch_bytes.
+    ensures over { OnOk result ((I.ended image.new ≡ true) × (B.ended batches.new ≡ true)) }
+    ensures err { IfErr result (λ e. OfSource (I.left image.old) (I.given image.old) (I.given image.new) (λ image_bytes.
+        OfSource (B.left batches.old) (B.given batches.old) (B.given batches.new) (λ batch_bytes.
         LeavesStoredRun e image_bytes batch_bytes (S.taken sink.old) (S.taken sink.new) (K.taken tables.old) (K.taken tables.new)))) }
 
     // A stream is reported as failed exactly if it failed.
@@ -143,7 +180,7 @@ pub fn run_and_store<R: Host, I: Source, B: Source, S: Sink, K: Sink, G: Gate>(
     ensures sink_failures { S.failed sink.new ≡ S.failed sink.old + (if in_run is_write result then 1 else 0) }
     ensures tables_failures { K.failed tables.new ≡ K.failed tables.old + (if in_store result then 1 else 0) }
 {
-    let mut executor = match load_executor(rt, alloc, image) {
+    let mut executor = match load_told(rt, alloc, image) {
         Ok(executor) => executor,
         Err(fault) => return Err(StoredRunFault::Run(fault)),
     };

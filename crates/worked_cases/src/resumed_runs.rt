@@ -16,6 +16,7 @@ use session::serve_on;
 use std::alloc::Global;
 use std::io::ErrorKind;
 use std::str;
+use telling::Telling;
 use workers::{NoGate, Workers};
 
 /// The last request of the first batch leaves no history, so that its number is known by what is told alone.
@@ -118,7 +119,7 @@ fn ran<R: Host + AllocGlobal>(
     let Some(mut executor) = stand(rt, image, word) else {
         return None;
     };
-    let mut source = BytesSource::new(batches, 4_096);
+    let mut source = Telling::new(BytesSource::new(batches, 4_096));
     let mut sink = BytesSink::new(rt.alloc(), 4_096);
     let mut stored = BytesSink::new(rt.alloc(), 4_096);
     let (count, fault) = match run_and_store_on(

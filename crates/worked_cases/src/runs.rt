@@ -8,6 +8,7 @@ use requests::{BytesSink, BytesSource, FailAt};
 use runner::{StoredRunFault, check_text, make_text, run_and_store, run_text};
 use std::alloc::Global;
 use std::thread::Threads;
+use telling::Telling;
 use workers::{NoGate, Workers};
 
 /// An end of a run: the sources of the image and of the batches, and the sinks of the text and of the image that is stored.
@@ -50,13 +51,13 @@ fn call_of(given: &Given<'_>, end: End) -> u64 {
     if given.end == end { given.call } else { NEVER }
 }
 
-fn source_of<'a>(given: &Given<'_>, bytes: &'a [u8], end: End) -> FailAt<BytesSource<'a>>
-    ensures { result.failures ≡ 0 }
+fn source_of<'a>(given: &Given<'_>, bytes: &'a [u8], end: End) -> Telling<FailAt<BytesSource<'a>>>
+    ensures { result.inner.failures ≡ 0 }
 {
-    FailAt::new(
+    Telling::new(FailAt::new(
         BytesSource::new(bytes, given.step.max(1)),
         call_of(given, end),
-    )
+    ))
 }
 
 fn sink_of(alloc: Global, given: &Given<'_>, end: End) -> FailAt<BytesSink>
@@ -86,7 +87,7 @@ pub fn run<R: Host + AllocGlobal>(rt: &R, given: &Given<'_>) -> Outcome {
         Ok(count) => (count, None),
         Err(fault) => (0, Some(StoredRunFault::Run(fault))),
     };
-    let of_sources = image.failures.saturating_add(batches.failures);
+    let of_sources = image.inner.failures.saturating_add(batches.inner.failures);
     Outcome {
         failures: of_sources.saturating_add(sink.failures),
         text: sink.inner.bytes,
@@ -106,7 +107,7 @@ pub fn check<R: Threads + Sync + AllocGlobal>(rt: &R, given: &Given<'_>) -> Outc
         Err(fault) => Some(StoredRunFault::Run(fault)),
     };
     Outcome {
-        failures: image.failures.saturating_add(sink.failures),
+        failures: image.inner.failures.saturating_add(sink.failures),
         text: sink.inner.bytes,
         stored: Vec::new(alloc),
         fault,

@@ -6,6 +6,7 @@ use requests::{BytesSink, BytesSource};
 use runner::{check_text, make_text, run_and_store, run_text};
 use session::serve;
 use std::alloc::Global;
+use telling::Telling;
 use workers::{NoGate, Workers};
 
 /// How many bytes an end gives or takes at a call.
@@ -39,8 +40,8 @@ fn answers<R: Host>(
     workers: usize,
 ) -> Option<Vec<u8>> {
     let workers = Workers::new(workers)?;
-    let mut image = BytesSource::new(image, STEP);
-    let mut batches = BytesSource::new(batches, STEP);
+    let mut image = Telling::new(BytesSource::new(image, STEP));
+    let mut batches = Telling::new(BytesSource::new(batches, STEP));
     let mut sink = BytesSink::new(alloc, STEP);
     run_text(
         rt,
@@ -122,7 +123,7 @@ fn load<R: Host>(rt: &R, alloc: Global, seed: u32, scale: Scale) -> Option<Vec<u
         orders: scale.of(3_000, 10),
     };
     let image = image(alloc, seed, size).ok()?;
-    let mut source = BytesSource::new(image.as_slice(), STEP);
+    let mut source = Telling::new(BytesSource::new(image.as_slice(), STEP));
     let mut sink = BytesSink::new(alloc, STEP);
     check_text(rt, alloc, &mut source, &mut sink).ok()?;
     Some(sink.bytes)
@@ -149,8 +150,8 @@ fn store<R: Host>(rt: &R, alloc: Global, seed: u32, scale: Scale) -> Option<Vec<
     };
     let image = image(alloc, seed, size).ok()?;
     let batches = mixed(alloc, seed, size, 2, scale.of(500, 40)).ok()?;
-    let mut source = BytesSource::new(image.as_slice(), STEP);
-    let mut requests = BytesSource::new(batches.as_slice(), STEP);
+    let mut source = Telling::new(BytesSource::new(image.as_slice(), STEP));
+    let mut requests = Telling::new(BytesSource::new(batches.as_slice(), STEP));
     let mut sink = BytesSink::new(alloc, STEP);
     let mut tables = BytesSink::new(alloc, STEP);
     run_and_store(
