@@ -1,2 +1,3 @@
+pub mod ChunkLemmas
 pub mod RowLemmas
 pub mod CommandLemmas

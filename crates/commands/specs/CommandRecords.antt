@@ -1,5 +1,5 @@
 -- What the record says that begins a command.
-use Rattle.std.specs.Prelude.{◌≤◌, codes, Result, Ok, if◌then◌else◌}
+use Rattle.std.specs.Prelude.{◌≤◌, Bool, true, false, codes, Result, Ok, if◌then◌else◌}
 use Rattle.csv.specs.Records.{field_at}
 use Rattle.commands.specs.declared.command.Control.{Control}
 use Rattle.commands.specs.declared.command.Control.TheVariants as control
@@ -27,6 +27,16 @@ opening_at fields =
     else if is_text (codes "I") (field_at fields 0) then alone_at fields control.Image >>= (λ c. Ok (opening.Control c))
     else if is_text (codes "A") (field_at fields 0) then alone_at fields control.At >>= (λ c. Ok (opening.Control c))
     else head_at fields >>= (λ head. Ok (opening.Batch head))
+
+-- the first field is that of a command: no request begins with one of these
+abbrev pub names_command : Fields → Bool
+names_command fields =
+    if is_text (codes "B") (field_at fields 0) then true
+    else if is_text (codes "C") (field_at fields 0) then true
+    else if is_text (codes "R") (field_at fields 0) then true
+    else if is_text (codes "T") (field_at fields 0) then true
+    else if is_text (codes "I") (field_at fields 0) then true
+    else is_text (codes "A") (field_at fields 0)
 
 -- a batch that begins has at most 1,024 requests
 abbrev pub IsShortOpening : Opening → Type 0

@@ -1,83 +1,131 @@
 -- The commands that a text holds.
-use Rattle.std.specs.Prelude.{◌≡◌, ◌⊎◌, ◌==◌, ◌+◌, ◌∷◌, ◌++◌, [], ℕ, nat_lt, List, length, Option, Some, None, Result, Ok, Err, if◌then◌else◌}
-use Rattle.commands.specs.CommandRecords.{opening_at}
-use Rattle.commands.specs.declared.command.Command.{Command}
+use Rattle.std.specs.Prelude.{◌≡◌, ◌⊎◌, ◌==◌, ◌+◌, ◌∷◌, ◌++◌, [], ℕ, nat_lt, Bool, true, false, List, length, Option, Some, None, Result, Ok, Err, if◌then◌else◌}
+use Rattle.commands.specs.CommandRecords.{names_command, opening_at}
+use Rattle.commands.specs.Rows.{Row, Rows, rows_in}
 use Rattle.commands.specs.declared.command.Command.TheVariants as command
-use Rattle.commands.specs.declared.command_reader.TheConstants.{LAST_RECORD}
+use Rattle.commands.specs.declared.command.Heard.{Heard}
+use Rattle.commands.specs.declared.command.Heard.TheVariants as heard
+use Rattle.commands.specs.declared.command.RecordFault.{RecordFault}
 use Rattle.commands.specs.declared.command_record.Opening.{Opening}
 use Rattle.commands.specs.declared.command_record.Opening.TheVariants as opening
+use Rattle.commands.specs.declared.record_reader.TheConstants.{LAST_RECORD, MOST_BYTES}
+use Rattle.csv.specs.declared.parser.State.{State}
 use Rattle.records.specs.Fields.{Fields}
-use Rattle.records.specs.Records.{records_in}
 use Rattle.records.specs.declared.fault.ReadError.{ReadError}
 use Rattle.records.specs.declared.fault.ReadError.TheVariants as err
 use Rattle.records.specs.declared.fault.Slip.{Slip}
 use Rattle.requests.specs.BatchRecords.{request_at}
-use Rattle.requests.specs.Batches.{End, Place, batch_of, between, clean, fault, fault_of, within}
+use Rattle.requests.specs.Batches.{End, batch_of, clean, fault}
 use Rattle.requests.specs.declared.batch_record.BatchHead.{BatchHead}
 use Rattle.requests.specs.declared.request.Request.{Request}
 
--- the commands, and the end after them
+-- the commands, with the faults among them, and the end after them
 abbrev pub Hearing : Type 0
-Hearing = List Command × End
+Hearing = List Heard × End
 
-abbrev pub with_front : Command → Hearing → Hearing
-with_front c hearing = (c ∷ hearing.0, hearing.1)
+abbrev pub with_front : Heard → Hearing → Hearing
+with_front h hearing = (h ∷ hearing.0, hearing.1)
+
+-- between commands, within a batch of which these requests were read, or behind a fault, where records are passed over up to the next
+-- that names a command
+pub data Place : Type 0 where
+  between : Place
+  within : BatchHead → List Request → Place
+  behind : Place
+
+-- the fault of the record of this number
+abbrev pub fault_at : ℕ → Slip → Heard
+fault_at n slip = heard.Fault (record { number = n; slip = slip })
 
 -- a batch with as many requests as its count is whole, and what follows goes on from there
 abbrev pub settled : BatchHead → List Request → (Place → Hearing) → Hearing
 settled head requests rest =
-    if length requests == head.count then with_front (command.Batch (batch_of head requests)) (rest between)
+    if length requests == head.count then with_front (heard.Command (command.Batch (batch_of head requests))) (rest between)
     else rest (within head requests)
 
 -- a record that begins a command, or is one
 abbrev pub opened : Opening → (Place → Hearing) → Hearing
 opened (opening.Batch head) rest = settled head [] rest
-opened (opening.Control c) rest = with_front (command.Control c) (rest between)
+opened (opening.Control c) rest = with_front (heard.Command (command.Control c)) (rest between)
 
--- the record of this number begins a command
+-- the record of this number begins a command, or is at fault
 abbrev pub begun : ℕ → Result Opening Slip → (Place → Hearing) → Hearing
 begun n (Ok first) rest = opened first rest
-begun n (Err e) rest = ([], fault (fault_of n e))
+begun n (Err slip) rest = with_front (fault_at n slip) (rest behind)
 
--- the record of this number is the batch's next request
+-- the record of this number is the batch's next request, or at fault: then none of the batch is a command
 abbrev pub continued : ℕ → BatchHead → List Request → Result Request Slip → (Place → Hearing) → Hearing
 continued n head requests (Ok request) rest = settled head (requests ++ request ∷ []) rest
-continued n head requests (Err e) rest = ([], fault (fault_of n e))
+continued n head requests (Err slip) rest = with_front (fault_at n slip) (rest behind)
+
+-- what the record of this number says at a place
+abbrev pub told : ℕ → Place → Fields → (Place → Hearing) → Hearing
+told n between r rest = begun n (opening_at r) rest
+told n (within head requests) r rest = continued n head requests (request_at r) rest
+told n behind r rest = if names_command r then begun n (opening_at r) rest else rest behind
+
+-- where no record follows the one of this number
+abbrev pub ended : ℕ → Place → Hearing
+ended n between = ([], clean)
+ended n (within head requests) = ([], fault (err.WrongCount (n + 1)))
+ended n behind = ([], clean)
+
+-- so many bytes, where a command may have so many
+abbrev pub measured : ℕ → Hearing → Hearing
+measured size hearing = if nat_lt MOST_BYTES size then ([], fault err.InputTooLong) else hearing
 
 -- a record of this number, where a session may have so many
 abbrev pub numbered : ℕ → Hearing → Hearing
 numbered n hearing = if nat_lt LAST_RECORD n then ([], fault err.InputTooLong) else hearing
 
--- what these records say, from the one of this number on
-unfoldable pub commands_from : List Fields → ℕ → Place → Hearing
-commands_from [] n between = ([], clean)
-commands_from [] n (within head requests) = ([], fault (err.WrongCount n))
-commands_from (r ∷ rs) n between = numbered n (begun n (opening_at r) (commands_from rs (n + 1)))
-commands_from (r ∷ rs) n (within head requests) = numbered n (continued n head requests (request_at r) (commands_from rs (n + 1)))
+-- the bytes that count at a place: those of a batch that isn't whole
+abbrev pub counted : ℕ → Place → ℕ
+counted size between = 0
+counted size (within head requests) = size
+counted size behind = 0
+
+-- what these records say, behind the one of this number, where so many bytes of a command were read; so many stand behind the last record
+unfoldable pub commands_from : List Row → ℕ → ℕ → ℕ → Place → Hearing
+commands_from [] rest n spent place = measured (spent + rest) (ended n place)
+commands_from (row ∷ rows) rest n spent place =
+    measured (spent + row.1) (numbered (n + 1) (told (n + 1) place row.0 (λ next. commands_from rows rest (n + 1) (counted (spent + row.1) next) next)))
+
+-- the same of records with the bytes behind them
+abbrev pub commands_of : Rows → ℕ → ℕ → Place → Hearing
+commands_of rows n spent place = commands_from rows.0 rows.1 n spent place
 
 -- the commands of a text, whose records are numbered from 1
 abbrev pub commands : List ℕ → Hearing
-commands bytes = commands_from (records_in bytes) 1 between
+commands bytes = commands_of (rows_in bytes) 0 0 between
 
 -- ---- what a reader has still to give
--- the commands, where its bytes are known; the number of the next record; and the error by which it stopped, if it did
+-- the bytes that were pulled and not read, if the text was begun, and where the last that was read leads; whether that was at fault;
+-- how many records were read; whether the text is at its end, and the error by which the reader stopped, if it did
 pub record CommandsLeft : Type 0 where
-  pub left : Option Hearing
-  pub number : ℕ
+  pub unread : Option (List ℕ)
+  pub state : State
+  pub is_behind : Bool
+  pub read : ℕ
+  pub is_over : Bool
   pub stopped : Option ReadError
 
--- a command was given
-abbrev pub Gives : Command → Option Hearing → Option Hearing → Type 0
-Gives c None new = Unit {0}
-Gives c (Some old) None = ⊥
-Gives c (Some old) (Some new) = old ≡ with_front c new
+-- a command was given, or a fault
+abbrev pub Gives : Heard → Option Hearing → Option Hearing → Type 0
+Gives h None new = Unit {0}
+Gives h (Some old) None = ⊥
+Gives h (Some old) (Some new) = old ≡ with_front h new
 
 -- none is left, and no fault
 abbrev pub IsOver : Option Hearing → Type 0
 IsOver None = Unit {0}
 IsOver (Some hearing) = hearing ≡ ([], clean)
 
--- no command is given for this reason: memory was refused, the bytes couldn't be read, or the fault that comes next is this one
+-- nothing is given for this reason: memory was refused, the bytes couldn't be read, or the session ends with this fault
 abbrev pub StopsBy : ReadError → Option Hearing → Type 0
 StopsBy e None = Unit {0}
 StopsBy e (Some hearing) = (e ≡ err.Memory) ⊎ (e ≡ err.Read) ⊎ (hearing ≡ ([], fault e))
+
+-- the source failed
+abbrev pub is_read : {A : Type 0} → Result A ReadError → Bool
+is_read (Err err.Read) = true
+is_read _ = false

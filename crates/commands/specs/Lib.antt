@@ -1,3 +1,5 @@
+pub mod Rows
+pub mod Machine
 pub mod CommandRecords
 pub mod Commands
 pub mod Reader

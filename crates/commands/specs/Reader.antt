@@ -1,48 +1,92 @@
 -- What a reader of commands has still to give.
-use Rattle.std.specs.Prelude.{◌≡◌, ◌≤◌, ◌+◌, ℕ, true, List, [], Option, Some, None, option_map}
-use Rattle.commands.specs.Commands.{CommandsLeft, Hearing, commands_from}
+use Rattle.std.specs.Io.KnownBytes.{prepend_known}
+use Rattle.std.specs.Prelude.{◌≡◌, ◌≤◌, ℕ, Bool, true, false, List, [], Option, Some, None, drop, take, option_map, if◌then◌else◌}
+use Rattle.commands.specs.Commands.{CommandsLeft, Hearing, Place, behind, between, commands_of, counted}
+use Rattle.commands.specs.Rows.{Rows, rows_from}
+use Rattle.commands.specs.Machine.{state_of}
+use Rattle.commands.specs.declared.chunk.Chunk.{Chunk}
+use Rattle.commands.specs.declared.command.Heard.{Heard}
+use Rattle.commands.specs.declared.command.Heard.TheVariants as heard
 use Rattle.commands.specs.declared.command_reader.CommandReader.TheInside.{Inside}
 use Rattle.commands.specs.declared.command_reader.Standing.{Standing}
 use Rattle.commands.specs.declared.command_reader.Standing.TheVariants as standing
-use Rattle.commands.specs.declared.command_reader.TheConstants.{LAST_RECORD}
-use Rattle.csv.specs.Reading.{Ready, default_config, is_flexible, reader_config, reader_state, reader_trim, source_of}
-use Rattle.csv.specs.declared.reader.Reader.{Reader}
-use Rattle.csv.specs.declared.reader.Trim.TheVariants as trim
-use Rattle.records.specs.Fields.{Fields}
-use Rattle.records.specs.Records.{records_after}
+use Rattle.commands.specs.declared.record_reader.RecordReader.{RecordReader}
+use Rattle.commands.specs.declared.record_reader.TheConstants.{LAST_RECORD}
+use Rattle.csv.specs.Reading.{strip_bom}
 use Rattle.records.specs.declared.fault.ReadError.{ReadError}
-use Rattle.requests.specs.Batches.{Place, between, clean, fault}
+use Rattle.requests.specs.Batches.{clean, fault}
+
+-- ---- bytes and records
+-- the bytes that were pulled and not read, and then those of the source
+abbrev pub pulled : Chunk → Option (List ℕ) → Option (List ℕ)
+pulled chunk known = prepend_known (drop chunk.at (take chunk.filled chunk.buffer)) known
+
+-- the bytes that were pulled and not read, where the text was begun
+abbrev pub unread_of : RecordReader → Option (List ℕ)
+unread_of reader = if reader.has_begun then Some (drop reader.chunk.at (take reader.chunk.filled reader.chunk.buffer)) else None
+
+-- these bytes, and then those of the source; a text that wasn't begun loses its mark
+abbrev pub before : Option (List ℕ) → Option (List ℕ) → Option (List ℕ)
+before None known = option_map strip_bom known
+before (Some bytes) known = prepend_known bytes known
+
+-- the bytes that a reader has left
+abbrev pub bytes_left : RecordReader → Option (List ℕ) → Option (List ℕ)
+bytes_left reader known = before (unread_of reader) known
+
+-- the records of those that were pulled and those of the source, where they are known
+abbrev pub rows_pulled : RecordReader → Option (List ℕ) → Option Rows
+rows_pulled reader known = option_map (λ bytes. rows_from (state_of reader.state) [] [] 0 bytes) (pulled reader.chunk known)
 
 -- the records that a reader has still to give, where its bytes are known
-abbrev pub rows_left : {R : Type 0} → (R → Option (List ℕ)) → Reader R → Option (List Fields)
-rows_left rem reader = option_map (λ bytes. records_after (reader_state reader) (Some bytes)) (source_of rem reader)
+abbrev pub rows_left : RecordReader → Option (List ℕ) → Option Rows
+rows_left reader known = option_map (λ bytes. rows_from (state_of reader.state) [] [] 0 bytes) (bytes_left reader known)
 
--- a reader with the defaults, no header row and records of any lengths
-pub record IsGoing {R : Type 0} (reader : Reader R) : Type 0 where
-  pub config : reader_config reader ≡ default_config
-  pub trim : reader_trim reader ≡ trim.None
-  pub flexible : is_flexible reader ≡ true
-  pub ready : Ready reader
-
--- this is so of the records before and after, where they are known; they don't cease to be known
-abbrev pub Turns : Option (List Fields) → Option (List Fields) → (List Fields → List Fields → Type 0) → Type 0
+-- this is so of what was known before and what is after; it doesn't cease to be known
+abbrev pub Turns : {A : Type 0} → Option A → Option A → (A → A → Type 0) → Type 0
 Turns None new P = Unit {0}
 Turns (Some old) None P = ⊥
 Turns (Some old) (Some new) P = P old new
 
--- this is so of the records that are left, where they are known
-abbrev pub WhereKnown : Option (List Fields) → (List Fields → Type 0) → Type 0
+-- this is so where it is known
+abbrev pub WhereKnown : {A : Type 0} → Option A → (A → Type 0) → Type 0
 WhereKnown None P = Unit {0}
-WhereKnown (Some rows) P = P rows
+WhereKnown (Some a) P = P a
 
+-- ---- commands
 -- the commands of these records
-abbrev pub heard : Option (List Fields) → ℕ → Place → Option Hearing
-heard rows number place = option_map (λ rs. commands_from rs number place) rows
+abbrev pub hearing_of : Option Rows → ℕ → ℕ → Place → Option Hearing
+hearing_of rows n spent place = option_map (λ rs. commands_of rs n spent place) rows
 
-abbrev pub left_by : Standing → Option Hearing → Option Hearing
-left_by standing.Going left = left
-left_by standing.Done left = Some ([], clean)
-left_by (standing.Stopped e) left = Some ([], fault e)
+-- what these records say behind the one of this number, which ends so many bytes of a command
+abbrev pub following : Rows → ℕ → ℕ → Place → Hearing
+following rows n spent place = commands_of rows n (counted spent place) place
+
+-- the place of a reader between commands
+abbrev pub gap : Bool → Place
+gap true = behind
+gap false = between
+
+-- the same behind what was heard
+abbrev pub gap_after : Heard → Place
+gap_after (heard.Command c) = between
+gap_after (heard.Fault f) = behind
+
+-- what is left at the end, or behind an error
+abbrev pub left_by : Bool → Option ReadError → Option Hearing → Option Hearing
+left_by over (Some e) left = Some ([], fault e)
+left_by true None left = Some ([], clean)
+left_by false None left = left
+
+-- the commands that a reader has still to give, where its source has these bytes left
+abbrev pub heard_from : CommandsLeft → Option (List ℕ) → Option Hearing
+heard_from left known =
+    left_by left.is_over left.stopped (hearing_of (option_map (λ bytes. rows_from left.state [] [] 0 bytes) (before left.unread known)) left.read 0 (gap left.is_behind))
+
+abbrev pub is_over : Standing → Bool
+is_over standing.Going = false
+is_over standing.Done = true
+is_over (standing.Stopped e) = false
 
 -- the error that was answered, if there was one
 abbrev pub stopped_by : Standing → Option ReadError
@@ -50,19 +94,16 @@ stopped_by standing.Going = None
 stopped_by standing.Done = None
 stopped_by (standing.Stopped e) = Some e
 
-module _ {R : Type 0} (rem : R → Option (List ℕ)) where
-  abbrev pub left_of : Inside R → CommandsLeft
-  left_of c = record {
-    left = left_by c.standing (heard (rows_left rem c.reader) c.number between);
-    number = c.number;
-    stopped = stopped_by c.standing;
-  }
+abbrev pub left_of : Inside → CommandsLeft
+left_of c = record {
+  unread = unread_of c.records;
+  state = state_of c.records.state;
+  is_behind = c.is_behind;
+  read = c.records.read;
+  is_over = is_over c.standing;
+  stopped = stopped_by c.standing;
+}
 
-abbrev pub CanRead : Standing → Type 0 → Type 0
-CanRead standing.Going P = P
-CanRead standing.Done P = Unit {0}
-CanRead (standing.Stopped e) P = Unit {0}
-
--- a number is there for the next record, and where a reader goes on it reads by the defaults
-abbrev pub IsSteady : {R : Type 0} → Inside R → Type 0
-IsSteady c = (c.number ≤ LAST_RECORD + 1) × CanRead c.standing (IsGoing c.reader)
+-- a number is there for each record that was read
+abbrev pub IsSteady : Inside → Type 0
+IsSteady c = c.records.read ≤ LAST_RECORD

@@ -1,4 +1,5 @@
 //! What a session is told to do.
+use records::fault::Slip;
 use requests::request::Batch;
 
 /// A command that is one record.
@@ -22,4 +23,18 @@ pub enum Command {
     /// The batch is executed.
     Batch(Batch),
     Control(Control),
+}
+
+/// What is wrong with a record, and its number.
+#[derive(Clone, Copy)]
+pub struct RecordFault {
+    pub number: u64,
+    pub slip: Slip,
+}
+
+/// What is heard of a session: a command, or the fault of a record in its place.
+#[derive(Drop)]
+pub enum Heard {
+    Command(Command),
+    Fault(RecordFault),
 }

@@ -1,19 +1,17 @@
 //! The commands of a text, one after the other, as its bytes come.
-ghost use Rattle.std.specs.Prelude.{◌≡◌, ◌+◌, ◌<◌, ◌≤◌, [], Err, IfErr, IfNone, IfOk, IfSome, None, OnSome, Some, option_map};
-ghost use Rattle.commands.specs.Commands.{Gives, IsOver, StopsBy, commands};
+ghost use Rattle.std.specs.Prelude.{◌≡◌, ◌+◌, ◌<◌, ◌≤◌, ◌^◌, ℕ, List, Option, [], Err, IfErr, IfNone, IfOk, IfSome, None, OnOk, OnSome, Some, if◌then◌else◌, option_map};
+ghost use Rattle.commands.specs.Commands.{Gives, IsOver, StopsBy, commands, is_read};
+ghost use Rattle.commands.specs.Reader.{heard_from};
 ghost use Rattle.requests.specs.Batches.{clean};
-ghost use Rattle.commands.specs.declared.command_reader.TheConstants.{LAST_RECORD};
+ghost use Rattle.commands.specs.declared.record_reader.TheConstants.{LAST_RECORD};
 
-use crate::command::Command;
-use crate::reading::read_command;
-use csv::{ByteRecord, Reader, ReaderBuilder};
+use crate::command::Heard;
+use crate::reading::read_heard;
+use crate::record_reader::RecordReader;
 use records::fault::ReadError;
+use records::io::Source;
 use std::alloc::Global;
-use std::io::Read;
 use std::marker::Model;
-
-/// The greatest number of a record.
-pub const LAST_RECORD: u64 = 999_999_999_999_999;
 
 /// Where a reader of commands stands.
 #[derive(Clone, Copy)]
@@ -23,65 +21,74 @@ enum Standing {
     Stopped(ReadError),
 }
 
-/// Reads commands in turn, each as soon as its last record's line end has come.
+/// Reads commands in turn, each as soon as its last record's line end has come. A record at fault stands for a command, and those behind
+/// it are passed over up to the next that names a command.
 #[derive(Drop)]
-pub struct CommandReader<R: Read + Drop> {
-    reader: Reader<R>,
-    fields: ByteRecord,
-    number: u64,
+pub struct CommandReader {
+    records: RecordReader,
+    is_behind: bool,
     standing: Standing,
 }
 
-impl<R: Read + Drop> Model for CommandReader<R> {
+impl Model for CommandReader {
     ghost use Rattle.commands.specs.Commands.{CommandsLeft};
     ghost use Rattle.commands.specs.Reader.{IsSteady, left_of};
 
     ghost Value = { CommandsLeft };
 
-    ghost view = { left_of R.remaining };
+    ghost view = { left_of };
 
     ghost invariant = { IsSteady };
 }
 
-impl<R: Read + Drop> CommandReader<R> {
-    /// All commands of the text are left.
-    pub fn new(alloc: Global, text: R) -> CommandReader<R>
-        ensures all { result.left ≡ option_map commands (R.remaining text) }
-        ensures number { result.number ≡ 1 }
+impl CommandReader {
+    /// All commands of the text are left that a source has.
+    pub fn new(alloc: Global) -> CommandReader
+        ensures all { (known : Option (List ℕ)) → heard_from result known ≡ option_map commands known }
+        ensures read { result.read ≡ 0 }
         ensures going { result.stopped ≡ None }
     {
         CommandReader {
-            reader: ReaderBuilder::new()
-                .has_headers(false)
-                .flexible(true)
-                .from_reader(alloc, text),
-            fields: ByteRecord::new(alloc),
-            number: 1,
+            records: RecordReader::new(alloc),
+            is_behind: false,
             standing: Standing::Going,
         }
     }
 
-    /// The next command, or none where the text ends between commands. An error that was answered is the answer of each
+    /// The next command or fault, or none where the text ends between commands. An error that was answered is the answer of each
     /// further call.
-    pub fn next_command(&mut self, alloc: Global) -> Result<Option<Command>, ReadError>
-        ensures command { IfOk result (λ o. IfSome o (λ c. Gives c self.old.left self.new.left)) }
-        ensures end { IfOk result (λ o. IfNone o (IsOver self.old.left)) }
-        ensures over { IfOk result (λ o. IfNone o (self.new.left ≡ Some ([], clean))) }
-        ensures err { IfErr result (λ e. StopsBy e self.old.left) }
+    pub fn next_heard<S: Source>(
+        &mut self,
+        alloc: Global,
+        source: &mut S,
+    ) -> Result<Option<Heard>, ReadError>
+        requires { S.failed source.old < 2 ^ 63 }
+        ensures heard { IfOk result (λ o. IfSome o (λ h. Gives h (heard_from self.old (S.left source.old)) (heard_from self.new (S.left source.new)))) }
+        ensures end { IfOk result (λ o. IfNone o (IsOver (heard_from self.old (S.left source.old)))) }
+        ensures over { IfOk result (λ o. IfNone o ((known : Option (List ℕ)) → heard_from self.new known ≡ Some ([], clean))) }
+        ensures err { IfErr result (λ e. StopsBy e (heard_from self.old (S.left source.old))) }
         ensures stopped { IfErr result (λ e. self.new.stopped ≡ Some e) }
+        ensures going { OnOk result (self.new.stopped ≡ None) }
         ensures again { IfSome self.old.stopped (λ e. result ≡ Err e) }
 
-        // Each command has a record, and the numbers of records have an end.
-        ensures further { IfOk result (λ o. OnSome o (self.old.number < self.new.number)) }
-        ensures within { self.new.number ≤ LAST_RECORD + 1 }
+        // Each has a record, and the numbers of records have an end.
+        ensures further { IfOk result (λ o. OnSome o (self.old.read < self.new.read)) }
+        ensures within { self.new.read ≤ LAST_RECORD }
+
+        // A source that failed is the reason of the answer, and is asked no more.
+        ensures failures { self.old.stopped ≡ None → S.failed source.new ≡ S.failed source.old + (if is_read result then 1 else 0) }
+        ensures no_failures { OnSome self.old.stopped (S.failed source.new ≡ S.failed source.old) }
     {
         match self.standing {
             Standing::Stopped(e) => return Err(e),
             Standing::Done => return Ok(None),
             Standing::Going => {}
         }
-        match read_command(alloc, &mut self.reader, &mut self.fields, &mut self.number) {
-            Ok(Some(command)) => Ok(Some(command)),
+        match read_heard(alloc, &mut self.records, source, self.is_behind) {
+            Ok(Some(heard)) => {
+                self.is_behind = matches!(heard, Heard::Fault(_));
+                Ok(Some(heard))
+            }
             Ok(None) => {
                 self.standing = Standing::Done;
                 Ok(None)

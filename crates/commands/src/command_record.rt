@@ -1,7 +1,7 @@
 //! The record that begins a command.
 ghost use Rattle.std.specs.Prelude.{◌≡◌, IfOk};
 ghost use Rattle.csv.specs.Records.{fields_of};
-ghost use Rattle.commands.specs.CommandRecords.{IsShortOpening, alone_at, opening_at, rollback_at};
+ghost use Rattle.commands.specs.CommandRecords.{IsShortOpening, alone_at, names_command, opening_at, rollback_at};
 
 use crate::command::Control;
 use csv::ByteRecord;
@@ -60,4 +60,26 @@ pub(crate) fn opening_at(fields: &ByteRecord) -> Result<Opening, Slip>
         return Ok(Opening::Control(alone(fields, Control::At)?));
     }
     Ok(Opening::Batch(batch_head(fields)?))
+}
+
+/// Whether a record's first field is that of a command.
+pub(crate) fn names_command(fields: &ByteRecord) -> bool
+    ensures { result ≡ names_command (fields_of fields.now) }
+{
+    if has_text(fields, 0, b"B") {
+        return true;
+    }
+    if has_text(fields, 0, b"C") {
+        return true;
+    }
+    if has_text(fields, 0, b"R") {
+        return true;
+    }
+    if has_text(fields, 0, b"T") {
+        return true;
+    }
+    if has_text(fields, 0, b"I") {
+        return true;
+    }
+    has_text(fields, 0, b"A")
 }

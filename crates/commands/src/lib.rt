@@ -2,10 +2,14 @@
 //! comes.
 #![tactic(auto)]
 
+mod chunk;
 pub mod command;
 pub mod command_reader;
 mod command_record;
+mod machine;
 mod reading;
+mod record_reader;
 
-pub use command::{Command, Control};
-pub use command_reader::{CommandReader, LAST_RECORD};
+pub use command::{Command, Control, Heard, RecordFault};
+pub use command_reader::CommandReader;
+pub use record_reader::{LAST_RECORD, MOST_BYTES};

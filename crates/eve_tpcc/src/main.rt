@@ -204,12 +204,13 @@ where
         return cannot_open(rt, image);
     };
     let mut image_source = Counting::new(image_file);
+    let mut input = Counting::new(rt.reader());
     let mut output = Telling::new(Counting::new(io::writer(rt)));
     let served = serve(
         rt,
         rt.alloc(),
         &mut image_source,
-        rt.reader(),
+        &mut input,
         &mut output,
         workers,
         &NoGate,

@@ -212,12 +212,13 @@ fn serve_loaded<R: Input + Print + Eprint + AllocGlobal + Host>(
     if let Err(status) = resume(rt, executor, from) {
         return status;
     }
+    let mut input = Counting::new(rt.reader());
     let mut output = Telling::new(Counting::new(io::writer(rt)));
     let served = serve_on(
         rt,
         rt.alloc(),
         executor,
-        rt.reader(),
+        &mut input,
         &mut output,
         workers,
         &NoGate,

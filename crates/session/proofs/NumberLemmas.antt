@@ -2,9 +2,10 @@
 use Rattle.std.proofs.Common.{◌≤◌, ℕ, List, [], ◌∷◌, ◌++◌, arith, inl, inr, sym, subst}
 use Rattle.std.proofs.lemmas.List.Elements.{All-append, All-cons, All-drop, All-head, All-nil, All-tail}
 use Rattle.std.specs.List.{All}
-use Rattle.commands.specs.declared.command.Command.{Command}
 use Rattle.commands.specs.declared.command.Command.TheVariants as command
 use Rattle.commands.specs.declared.command.Control.TheVariants as control
+use Rattle.commands.specs.declared.command.Heard.{Heard}
+use Rattle.commands.specs.declared.command.Heard.TheVariants as heard
 use Rattle.executor.specs.Lines.{IsReturned, Line, extended, states}
 use Rattle.requests.specs.declared.request.Batch.{Batch}
 use Rattle.session.specs.Answers.{Answers}
@@ -40,14 +41,15 @@ numbered-returned n old new back h =
     (all-front new.earlier (new.present ∷ []) kept, all-last new.earlier new.present kept)
 
 -- so it stays
-pub numbered-after : (c : Command) (old new : Line) (text : List ℕ) → AreNumbered old → Answers c old new text → AreNumbered new
-numbered-after (command.Batch batch) old new text h (inl (admitted, line, is)) = subst AreNumbered (sym line) (numbered-extended old batch h)
-numbered-after (command.Batch batch) old new text h (inr (e, why, line, is)) = subst AreNumbered (sym line) h
-numbered-after (command.Control control.Commit) old new text h (inl (n, at, line, is)) = subst AreNumbered (sym line) (All-drop IsNumbered 1 old.earlier h.0, h.1)
-numbered-after (command.Control control.Commit) old new text h (inr (none, (e, why, line, is))) = subst AreNumbered (sym line) h
-numbered-after (command.Control (control.RollbackTo n)) old new text h (inl (back, is)) = numbered-returned n old new back h
-numbered-after (command.Control (control.RollbackTo n)) old new text h (inr (none, (e, why, line, is))) = subst AreNumbered (sym line) h
-numbered-after (command.Control control.State) old new text h (line, is) = subst AreNumbered (sym line) h
-numbered-after (command.Control control.At) old new text h (line, is) = subst AreNumbered (sym line) h
-numbered-after (command.Control control.Image) old new text h (inl (line, is)) = subst AreNumbered (sym line) h
-numbered-after (command.Control control.Image) old new text h (inr (e, why, line, is)) = subst AreNumbered (sym line) h
+pub numbered-after : (c : Heard) (old new : Line) (text : List ℕ) → AreNumbered old → Answers c old new text → AreNumbered new
+numbered-after (heard.Command (command.Batch batch)) old new text h (inl (admitted, line, is)) = subst AreNumbered (sym line) (numbered-extended old batch h)
+numbered-after (heard.Command (command.Batch batch)) old new text h (inr (e, why, line, is)) = subst AreNumbered (sym line) h
+numbered-after (heard.Command (command.Control control.Commit)) old new text h (inl (n, at, line, is)) = subst AreNumbered (sym line) (All-drop IsNumbered 1 old.earlier h.0, h.1)
+numbered-after (heard.Command (command.Control control.Commit)) old new text h (inr (none, (e, why, line, is))) = subst AreNumbered (sym line) h
+numbered-after (heard.Command (command.Control (control.RollbackTo n))) old new text h (inl (back, is)) = numbered-returned n old new back h
+numbered-after (heard.Command (command.Control (control.RollbackTo n))) old new text h (inr (none, (e, why, line, is))) = subst AreNumbered (sym line) h
+numbered-after (heard.Command (command.Control control.State)) old new text h (line, is) = subst AreNumbered (sym line) h
+numbered-after (heard.Command (command.Control control.At)) old new text h (line, is) = subst AreNumbered (sym line) h
+numbered-after (heard.Command (command.Control control.Image)) old new text h (inl (line, is)) = subst AreNumbered (sym line) h
+numbered-after (heard.Command (command.Control control.Image)) old new text h (inr (e, why, line, is)) = subst AreNumbered (sym line) h
+numbered-after (heard.Fault f) old new text h (line, is) = subst AreNumbered (sym line) h

@@ -2,9 +2,10 @@
 use Rattle.std.proofs.Common.{◌≡◌, ◌∙◌, ℕ, zero, suc, ◌+◌, ◌≤◌, Bool, true, false, List, [], ◌∷◌, ◌++◌, length, map, take, Some, None, inl, inr, refl, sym, ap, subst, arith}
 use Rattle.std.specs.List.{slice_get}
 use Rattle.catalog.specs.CardMap.{Cards}
-use Rattle.commands.specs.declared.command.Command.{Command}
 use Rattle.commands.specs.declared.command.Command.TheVariants as command
 use Rattle.commands.specs.declared.command.Control.TheVariants as control
+use Rattle.commands.specs.declared.command.Heard.{Heard}
+use Rattle.commands.specs.declared.command.Heard.TheVariants as heard
 use Rattle.executor.specs.Headline.{MeetsConditions}
 use Rattle.executor.specs.Kept.{Kept, all_kept, none_kept, serial_line}
 use Rattle.executor.specs.Lines.{Line}
@@ -12,7 +13,7 @@ use Rattle.executor.specs.States.{IsSoundState}
 use Rattle.executor.proofs.SerialLines.{serial_line-committed, serial_line-extended, serial_line-returned}
 use Rattle.session.specs.Answers.{Answers, AnswersAll}
 use Rattle.session.specs.Laws.{SessionsAreSerial}
-use Rattle.session.specs.SessionHeadline.{AreAnswered, SessionHeadline, Turn, commands_of, kept_by, kept_on, text_of}
+use Rattle.session.specs.SessionHeadline.{AreAnswered, SessionHeadline, Turn, heard_in, kept_by, kept_on, text_of}
 use Rattle.tpcc_model.specs.Database.{Database, database}
 use Rattle.tpcc_model.specs.Serial.{State, serial}
 use Rattle.tpcc_model.specs.Soundness.{IsSound}
@@ -21,30 +22,31 @@ meets_conditions : (db : Database) → IsSound db → MeetsConditions db.rows
 meets_conditions db sound = record { condition_1 = sound.condition_1; conditions_2_to_4 = sound.districts }
 
 module _ (cards : Cards) (start : State) where
-  -- whether a command was refused, and the line after it
-  led : (kept : Kept) (c : Command) (new : Line) (text : List ℕ) → Answers c (serial_line cards start kept) new text
+  -- whether what was heard was refused, and the line after it
+  led : (kept : Kept) (c : Heard) (new : Line) (text : List ℕ) → Answers c (serial_line cards start kept) new text
       → (refused : Bool) × (new ≡ serial_line cards start (kept_by start c refused kept))
-  led kept (command.Batch batch) new text (inl (admitted, line, is)) = (false, line ∙ serial_line-extended cards start kept batch)
-  led kept (command.Batch batch) new text (inr (e, why, line, is)) = (true, line)
-  led kept (command.Control control.Commit) new text (inl (n, at, line, is)) = (false, line ∙ serial_line-committed cards start kept)
-  led kept (command.Control control.Commit) new text (inr (none, (e, why, line, is))) = (true, line)
-  led kept (command.Control (control.RollbackTo n)) new text (inl (back, is)) = (false, serial_line-returned cards start kept n new back)
-  led kept (command.Control (control.RollbackTo n)) new text (inr (none, (e, why, line, is))) = (true, line)
-  led kept (command.Control control.State) new text (line, is) = (false, line)
-  led kept (command.Control control.At) new text (line, is) = (false, line)
-  led kept (command.Control control.Image) new text (inl (line, is)) = (false, line)
-  led kept (command.Control control.Image) new text (inr (e, why, line, is)) = (true, line)
+  led kept (heard.Command (command.Batch batch)) new text (inl (admitted, line, is)) = (false, line ∙ serial_line-extended cards start kept batch)
+  led kept (heard.Command (command.Batch batch)) new text (inr (e, why, line, is)) = (true, line)
+  led kept (heard.Command (command.Control control.Commit)) new text (inl (n, at, line, is)) = (false, line ∙ serial_line-committed cards start kept)
+  led kept (heard.Command (command.Control control.Commit)) new text (inr (none, (e, why, line, is))) = (true, line)
+  led kept (heard.Command (command.Control (control.RollbackTo n))) new text (inl (back, is)) = (false, serial_line-returned cards start kept n new back)
+  led kept (heard.Command (command.Control (control.RollbackTo n))) new text (inr (none, (e, why, line, is))) = (true, line)
+  led kept (heard.Command (command.Control control.State)) new text (line, is) = (false, line)
+  led kept (heard.Command (command.Control control.At)) new text (line, is) = (false, line)
+  led kept (heard.Command (command.Control control.Image)) new text (inl (line, is)) = (false, line)
+  led kept (heard.Command (command.Control control.Image)) new text (inr (e, why, line, is)) = (true, line)
+  led kept (heard.Fault f) new text (line, is) = (false, line)
 
   abbrev line_on : Kept → List Turn → Line
   line_on kept turns = serial_line cards start (kept_on start turns kept)
 
   -- the turns that commands had where these batches are kept
-  record AreTurns (kept : Kept) (commands : List Command) (new : Line) (text : List ℕ) : Type 0 where
+  record AreTurns (kept : Kept) (commands : List Heard) (new : Line) (text : List ℕ) : Type 0 where
     turns : List Turn
-    commands_are : commands_of turns ≡ commands
+    commands_are : heard_in turns ≡ commands
     text_is : text_of turns ≡ text
     line : new ≡ line_on kept turns
-    answers : (count : ℕ) (turn : Turn) → slice_get turns count ≡ Some turn → Answers turn.command (line_on kept (take count turns)) (line_on kept (take (count + 1) turns)) turn.text
+    answers : (count : ℕ) (turn : Turn) → slice_get turns count ≡ Some turn → Answers turn.heard (line_on kept (take count turns)) (line_on kept (take (count + 1) turns)) turn.text
     sound : (count : ℕ) → count ≤ length turns → IsSoundState cards (line_on kept (take count turns)).present
 
   no-turns : (kept : Kept) (new : Line) (text : List ℕ) → IsSoundState cards (serial cards start (all_kept kept)) → new ≡ serial_line cards start kept → text ≡ [] → AreTurns kept [] new text
@@ -61,33 +63,33 @@ module _ (cards : Cards) (start : State) where
     at (suc count) low = absurd (omega (arith, low))
 
   -- one turn before
-  module _ (kept : Kept) (c : Command) (refused : Bool) (first : List ℕ) (answered : Answers c (serial_line cards start kept) (serial_line cards start (kept_by start c refused kept)) first)
+  module _ (kept : Kept) (c : Heard) (refused : Bool) (first : List ℕ) (answered : Answers c (serial_line cards start kept) (serial_line cards start (kept_by start c refused kept)) first)
       (sound : IsSoundState cards (serial cards start (all_kept kept))) where
     abbrev here : Turn
-    here = record { command = c; refused = refused; text = first }
+    here = record { heard = c; refused = refused; text = first }
 
-    turn-more : (commands : List Command) (new : Line) (text rest : List ℕ) → AreTurns (kept_by start c refused kept) commands new rest → text ≡ first ++ rest → AreTurns kept (c ∷ commands) new text
+    turn-more : (commands : List Heard) (new : Line) (text rest : List ℕ) → AreTurns (kept_by start c refused kept) commands new rest → text ≡ first ++ rest → AreTurns kept (c ∷ commands) new text
     turn-more commands new text rest are parts = record {
       turns = here ∷ are.turns;
-      commands_are = ap (λ (cs : List Command). c ∷ cs) are.commands_are;
+      commands_are = ap (λ (cs : List Heard). c ∷ cs) are.commands_are;
       text_is = ap (λ (t : List ℕ). first ++ t) are.text_is ∙ sym parts;
       line = are.line;
       answers = answers;
       sound = sound_at;
     } where
-      answers : (count : ℕ) (turn : Turn) → slice_get (here ∷ are.turns) count ≡ Some turn → Answers turn.command (line_on kept (take count (here ∷ are.turns))) (line_on kept (take (count + 1) (here ∷ are.turns))) turn.text
+      answers : (count : ℕ) (turn : Turn) → slice_get (here ∷ are.turns) count ≡ Some turn → Answers turn.heard (line_on kept (take count (here ∷ are.turns))) (line_on kept (take (count + 1) (here ∷ are.turns))) turn.text
       answers zero turn at =
           let is : here ≡ turn = cc in
-          subst (λ (t : Turn). Answers t.command (line_on kept (take zero (here ∷ are.turns))) (line_on kept (take (zero + 1) (here ∷ are.turns))) t.text) is answered
+          subst (λ (t : Turn). Answers t.heard (line_on kept (take zero (here ∷ are.turns))) (line_on kept (take (zero + 1) (here ∷ are.turns))) t.text) is answered
       answers (suc count) turn at =
           let more : suc (count + 1) ≡ suc count + 1 = omega arith in
-          subst (λ n. Answers turn.command (line_on kept (take (suc count) (here ∷ are.turns))) (line_on kept (take n (here ∷ are.turns))) turn.text) more (are.answers count turn at)
+          subst (λ n. Answers turn.heard (line_on kept (take (suc count) (here ∷ are.turns))) (line_on kept (take n (here ∷ are.turns))) turn.text) more (are.answers count turn at)
 
       sound_at : (count : ℕ) → count ≤ length (here ∷ are.turns) → IsSoundState cards (line_on kept (take count (here ∷ are.turns))).present
       sound_at zero low = sound
       sound_at (suc count) low = are.sound count (omega (arith, low))
 
-  turns-on : (kept : Kept) (commands : List Command) (new : Line) (text : List ℕ) → IsSoundState cards (serial cards start (all_kept kept)) → AnswersAll commands (serial_line cards start kept) new text
+  turns-on : (kept : Kept) (commands : List Heard) (new : Line) (text : List ℕ) → IsSoundState cards (serial cards start (all_kept kept)) → AnswersAll commands (serial_line cards start kept) new text
       → AreTurns kept commands new text
   turns-on kept [] new text sound (line, none) = no-turns kept new text sound line none
   turns-on kept (c ∷ commands) new text sound (between, first, rest, answered, sound_now, all, parts) =

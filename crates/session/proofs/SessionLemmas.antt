@@ -3,7 +3,7 @@ use Rattle.std.proofs.Common.{◌≡◌, ◌∙◌, ℕ, List, [], ◌∷◌, �
 use Rattle.std.specs.Prelude.{IfOk, IfSome, Result, Ok, Err, Vec}
 use Rattle.std.specs.Io.KnownBytes.{Appends}
 use Rattle.commands.specs.Commands.{Gives, Hearing, IsOver, StopsBy}
-use Rattle.commands.specs.declared.command.Command.{Command}
+use Rattle.commands.specs.declared.command.Heard.{Heard}
 use Rattle.executor.specs.Executions.{refusal_for}
 use Rattle.executor.specs.Lines.{Line, extended}
 use Rattle.executor.specs.States.{IsSoundState}
@@ -26,7 +26,7 @@ use Rattle.memory_refusal.specs.declared.Memory.{Memory}
 
 -- ---- commands given
 -- these were given of all, and the others are left
-abbrev pub HasGiven : Option Hearing → List Command → Option Hearing → Type 0
+abbrev pub HasGiven : Option Hearing → List Heard → Option Hearing → Type 0
 HasGiven None done left = Unit {0}
 HasGiven (Some all) done None = ⊥
 HasGiven (Some all) done (Some left) = all ≡ (done ++ left.0, left.1)
@@ -36,15 +36,15 @@ given-none None left same = tt
 given-none (Some all) None same = cc
 given-none (Some all) (Some left) same = cc
 
-pub given-more : (all old new : Option Hearing) (done : List Command) (c : Command) → HasGiven all done old → Gives c old new → HasGiven all (done ++ c ∷ []) new
+pub given-more : (all old new : Option Hearing) (done : List Heard) (c : Heard) → HasGiven all done old → Gives c old new → HasGiven all (done ++ c ∷ []) new
 given-more None old new done c h gives = tt
 given-more (Some all) None new done c h gives = absurd h
 given-more (Some all) (Some old) None done c h gives = absurd gives
 given-more (Some all) (Some old) (Some new) done c h gives =
-    h ∙ ap (λ (r : Hearing). (done ++ r.0, r.1)) gives ∙ ap (λ (cs : List Command). (cs, new.1)) (sym (append_assoc done (c ∷ []) new.0))
+    h ∙ ap (λ (r : Hearing). (done ++ r.0, r.1)) gives ∙ ap (λ (cs : List Heard). (cs, new.1)) (sym (append_assoc done (c ∷ []) new.0))
 
 -- ---- commands answered
-pub answers-more : (done : List Command) (c : Command) (first mid last : Line) (text more : List ℕ) → AnswersAll done first mid text → Answers c mid last more → IsSoundState last.cards last.present → AnswersAll (done ++ c ∷ []) first last (text ++ more)
+pub answers-more : (done : List Heard) (c : Heard) (first mid last : Line) (text more : List ℕ) → AnswersAll done first mid text → Answers c mid last more → IsSoundState last.cards last.present → AnswersAll (done ++ c ∷ []) first last (text ++ more)
 answers-more [] c first mid last text more all one sound =
     (last, more, [], subst (λ (l : Line). Answers c l last more) all.0 one, sound, (refl, refl), ap (λ (t : List ℕ). t ++ more) all.1 ∙ sym (append-nil more))
 answers-more (d ∷ done) c first mid last text more (between, front, rest, answered, kept, all, parts) one sound =
@@ -56,17 +56,17 @@ front_more old mid new text more written (front, rest, parts, took) =
     (text ++ front, rest, ap (λ (t : List ℕ). text ++ t) parts ∙ sym (append_assoc text front rest), appends_twice old mid new text front written took)
 
 -- ---- a session that ends
-module _ (line mid : Line) (done : List Command) (text : List ℕ) (old now : Taken)
+module _ (line mid : Line) (done : List Heard) (text : List ℕ) (old now : Taken)
     (alone : line.earlier ≡ []) (sound : IsSoundState line.cards line.present) (answered : AnswersAll done line mid text) (written : Appends old now text) where
-  are_answered : (commands : List Command) → commands ≡ done → AreAnswered commands line mid text
-  are_answered commands same = subst (λ (cs : List Command). AreAnswered cs line mid text) (sym same) (sessions_are_serial done line mid text alone sound answered)
+  are_answered : (commands : List Heard) → commands ≡ done → AreAnswered commands line mid text
+  are_answered commands same = subst (λ (cs : List Heard). AreAnswered cs line mid text) (sym same) (sessions_are_serial done line mid text alone sound answered)
 
   -- where the text ends
   pub served : (all left : Option Hearing) → HasGiven all done left → IsOver left → IfSome all (λ hearing. Served line hearing old now)
   served None left given over = tt
   served (Some all) None given over = absurd given
   served (Some all) (Some left) given over =
-      let is : all ≡ (done, clean) = given ∙ ap (λ (r : Hearing). (done ++ r.0, r.1)) over ∙ ap (λ (cs : List Command). (cs, clean)) (append-nil done) in
+      let is : all ≡ (done, clean) = given ∙ ap (λ (r : Hearing). (done ++ r.0, r.1)) over ∙ ap (λ (cs : List Heard). (cs, clean)) (append-nil done) in
       (ap (λ (r : Hearing). r.1) is, (mid, text, are_answered all.0 (ap (λ (r : Hearing). r.0) is), written))
 
   -- where no further command is read
@@ -76,11 +76,11 @@ module _ (line mid : Line) (done : List Command) (text : List ℕ) (old now : Ta
   unread e (Some all) (Some left) given (inl memory) = inr (inl memory, (done, left.0, ap (λ (r : Hearing). r.0) given, (mid, text, are_answered done refl, written)))
   unread e (Some all) (Some left) given (inr (inl read)) = inr (inr read, (done, left.0, ap (λ (r : Hearing). r.0) given, (mid, text, are_answered done refl, written)))
   unread e (Some all) (Some left) given (inr (inr stop)) =
-      let is : all ≡ (done, fault e) = given ∙ ap (λ (r : Hearing). (done ++ r.0, r.1)) stop ∙ ap (λ (cs : List Command). (cs, fault e)) (append-nil done) in
+      let is : all ≡ (done, fault e) = given ∙ ap (λ (r : Hearing). (done ++ r.0, r.1)) stop ∙ ap (λ (cs : List Heard). (cs, fault e)) (append-nil done) in
       inl (ap (λ (r : Hearing). r.1) is, (mid, text, are_answered all.0 (ap (λ (r : Hearing). r.0) is), written))
 
   -- where the next command isn't answered
-  pub unanswered : (e : RunFault) (c : Command) (new : Taken) (all before left : Option Hearing) → HasGiven all done before → Gives c before left → LeavesAnswer e c mid now new
+  pub unanswered : (e : RunFault) (c : Heard) (new : Taken) (all before left : Option Hearing) → HasGiven all done before → Gives c before left → LeavesAnswer e c mid now new
       → IfSome all (λ hearing. LeavesSession e line hearing old new)
   unanswered e c new None before left given gives leaves = tt
   unanswered e c new (Some all) None left given gives leaves = absurd given

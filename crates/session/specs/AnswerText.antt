@@ -1,10 +1,13 @@
 -- The records that answer commands, beside those of a batch.
 use Rattle.std.specs.Prelude.{ℕ, List, [], ◌∷◌, ◌++◌, codes, decimal, length}
 use Rattle.catalog.specs.CardMap.{Cards}
+use Rattle.commands.specs.declared.command.RecordFault.{RecordFault}
 use Rattle.executor.specs.Refusals.{refusal_code, refusal_name}
 use Rattle.executor.specs.declared.refusal.Refusal.{Refusal}
+use Rattle.records.specs.Faults.{code_of, name_of}
 use Rattle.records.specs.Fields.{Fields}
 use Rattle.records.specs.Spelling.{text_of_record}
+use Rattle.requests.specs.Batches.{fault_of}
 use Rattle.runner.specs.StoredRuns.{state_image}
 use Rattle.runner.specs.Text.{token_digits}
 use Rattle.tpcc_model.specs.Serial.{State}
@@ -50,3 +53,10 @@ refused_fields refusal = codes "refused" ∷ decimal (refusal_code refusal) ∷ 
 
 abbrev pub refused_text : Refusal → List ℕ
 refused_text refusal = text_of_record (refused_fields refusal)
+
+-- `fault,CODE,Name,RECORD`: what is wrong with a record, and its number
+abbrev pub fault_fields : RecordFault → Fields
+fault_fields f = codes "fault" ∷ decimal (code_of (fault_of f.number f.slip)) ∷ name_of (fault_of f.number f.slip) ∷ decimal f.number ∷ []
+
+abbrev pub fault_text : RecordFault → List ℕ
+fault_text f = text_of_record (fault_fields f)

@@ -3,6 +3,8 @@ use Rattle.std.specs.Prelude.{◌≡◌, ◌⊎◌, ℕ, List, [], ◌∷◌, �
 use Rattle.commands.specs.declared.command.Command.{Command}
 use Rattle.commands.specs.declared.command.Command.TheVariants as command
 use Rattle.commands.specs.declared.command.Control.TheVariants as control
+use Rattle.commands.specs.declared.command.Heard.{Heard}
+use Rattle.commands.specs.declared.command.Heard.TheVariants as heard
 use Rattle.executor.specs.Executions.{IsRefusedFor, refusal_for}
 use Rattle.executor.specs.Lines.{HasNone, IsReturned, Line, committed, extended, states}
 use Rattle.executor.specs.Stamps.{stamp_of}
@@ -13,7 +15,7 @@ use Rattle.requests.specs.declared.request.Batch.{Batch}
 use Rattle.rollback.specs.declared.pointed.TheConstants.{POINTS}
 use Rattle.runner.specs.StampText.{at_text}
 use Rattle.runner.specs.Text.{batch_text}
-use Rattle.session.specs.AnswerText.{commit_text, image_answer, refused_text, rollback_text, state_text}
+use Rattle.session.specs.AnswerText.{commit_text, fault_text, image_answer, refused_text, rollback_text, state_text}
 
 -- ---- one command
 -- it is refused, for a reason that is one here, and the line is left as it was
@@ -45,18 +47,23 @@ AnswersImage old new text =
     ⊎ Refuses (λ e. e ≡ refusal.Memory) old new text
 
 -- a command, the line before and after it, and its answer
-abbrev pub Answers : Command → Line → Line → List ℕ → Type 0
-Answers (command.Batch batch) old new text = AnswersBatch batch old new text
-Answers (command.Control control.Commit) old new text = AnswersCommit old new text
-Answers (command.Control (control.RollbackTo sequence)) old new text = AnswersRollback sequence old new text
-Answers (command.Control control.State) old new text = (new ≡ old) × (text ≡ state_text old.present)
-Answers (command.Control control.Image) old new text = AnswersImage old new text
-Answers (command.Control control.At) old new text = (new ≡ old) × (text ≡ at_text (stamp_of old.present))
+abbrev pub AnswersCommand : Command → Line → Line → List ℕ → Type 0
+AnswersCommand (command.Batch batch) old new text = AnswersBatch batch old new text
+AnswersCommand (command.Control control.Commit) old new text = AnswersCommit old new text
+AnswersCommand (command.Control (control.RollbackTo sequence)) old new text = AnswersRollback sequence old new text
+AnswersCommand (command.Control control.State) old new text = (new ≡ old) × (text ≡ state_text old.present)
+AnswersCommand (command.Control control.Image) old new text = AnswersImage old new text
+AnswersCommand (command.Control control.At) old new text = (new ≡ old) × (text ≡ at_text (stamp_of old.present))
+
+-- the same of what was heard: a fault is told, and leaves the line as it was
+abbrev pub Answers : Heard → Line → Line → List ℕ → Type 0
+Answers (heard.Command c) old new text = AnswersCommand c old new text
+Answers (heard.Fault f) old new text = (new ≡ old) × (text ≡ fault_text f)
 
 -- ---- commands, one after the other
--- each on the line that those before it left, whose present state stays sound
-abbrev pub AnswersAll : List Command → Line → Line → List ℕ → Type 0
+-- and the faults among them, each on the line that those before it left, whose present state stays sound
+abbrev pub AnswersAll : List Heard → Line → Line → List ℕ → Type 0
 AnswersAll [] old new text = (new ≡ old) × (text ≡ [])
-AnswersAll (c ∷ commands) old new text =
-    (between : Line) × (first rest : List ℕ) × Answers c old between first × IsSoundState between.cards between.present
+AnswersAll (h ∷ commands) old new text =
+    (between : Line) × (first rest : List ℕ) × Answers h old between first × IsSoundState between.cards between.present
     × AnswersAll commands between new rest × (text ≡ first ++ rest)

@@ -2,7 +2,7 @@
 use Rattle.std.specs.Prelude.{◌≡◌, ◌⊎◌, ℕ, List, ◌++◌, Ok}
 use Rattle.std.specs.Io.KnownBytes.{Appends, Keeps}
 use Rattle.commands.specs.Commands.{Hearing, commands}
-use Rattle.commands.specs.declared.command.Command.{Command}
+use Rattle.commands.specs.declared.command.Heard.{Heard}
 use Rattle.executor.specs.Lines.{Line, opening_line}
 use Rattle.executor.specs.States.{IsSoundState}
 use Rattle.executor.specs.declared.refusal.Refusal.TheVariants as refusal
@@ -18,8 +18,8 @@ use Rattle.session.specs.Answers.{Answers}
 use Rattle.session.specs.SessionHeadline.{AreAnswered}
 use Rattle.tpcc_model.specs.Database.{Database}
 
--- these commands were answered, as the headline of sessions says, and no other byte was written
-abbrev pub Answered : List Command → Line → Taken → Taken → Type 0
+-- these commands and faults were answered, as the headline of sessions says, and no other byte was written
+abbrev pub Answered : List Heard → Line → Taken → Taken → Type 0
 Answered commands line old new = (last : Line) × (text : List ℕ) × AreAnswered commands line last text × Appends old new text
 
 -- all commands were answered, and no fault came behind them
@@ -27,16 +27,16 @@ abbrev pub Served : Line → Hearing → Taken → Taken → Type 0
 Served line hearing old new = (hearing.1 ≡ clean) × Answered hearing.0 line old new
 
 -- the first of the commands were answered
-abbrev pub AnsweredSome : Line → List Command → Taken → Taken → Type 0
-AnsweredSome line commands old new = (done rest : List Command) × (commands ≡ done ++ rest) × Answered done line old new
+abbrev pub AnsweredSome : Line → List Heard → Taken → Taken → Type 0
+AnsweredSome line commands old new = (done rest : List Heard) × (commands ≡ done ++ rest) × Answered done line old new
 
 -- a beginning of the answers to the first of the commands was written
-abbrev pub AnsweredFront : Line → List Command → Taken → Taken → Type 0
+abbrev pub AnsweredFront : Line → List Heard → Taken → Taken → Type 0
 AnsweredFront line commands old new =
-    (done rest : List Command) × (commands ≡ done ++ rest) × (last : Line) × (text : List ℕ) × AreAnswered done line last text × AppendsFront old new text
+    (done rest : List Heard) × (commands ≡ done ++ rest) × (last : Line) × (text : List ℕ) × AreAnswered done line last text × AppendsFront old new text
 
--- what a session leaves that ended early: at a fault of the text all commands before it were answered; where the bytes couldn't be
--- read or memory was refused, all commands so far
+-- what a session leaves that ended early: where the text ends with a fault all commands before it were answered; where the bytes couldn't
+-- be read or memory was refused, all commands so far
 abbrev pub LeavesSession : RunFault → Line → Hearing → Taken → Taken → Type 0
 LeavesSession (run_fault.Read e) line hearing old new =
     ((hearing.1 ≡ fault e) × Answered hearing.0 line old new)
@@ -47,15 +47,15 @@ LeavesSession _ line hearing old new = ⊥
 
 -- ---- one command
 -- it was answered, which left a sound state, and the answer written
-abbrev pub IsAnswered : Command → Line → Line → Taken → Taken → Type 0
-IsAnswered c line last old new = (text : List ℕ) × Answers c line last text × IsSoundState last.cards last.present × Appends old new text
+abbrev pub IsAnswered : Heard → Line → Line → Taken → Taken → Type 0
+IsAnswered h line last old new = (text : List ℕ) × Answers h line last text × IsSoundState last.cards last.present × Appends old new text
 
 -- what is left where it wasn't: nothing was written, or a beginning of the answer
-abbrev pub LeavesAnswer : RunFault → Command → Line → Taken → Taken → Type 0
-LeavesAnswer run_fault.Memory c line old new = Keeps old new
-LeavesAnswer run_fault.Write c line old new =
-    (last : Line) × (text : List ℕ) × Answers c line last text × IsSoundState last.cards last.present × AppendsFront old new text
-LeavesAnswer _ c line old new = ⊥
+abbrev pub LeavesAnswer : RunFault → Heard → Line → Taken → Taken → Type 0
+LeavesAnswer run_fault.Memory h line old new = Keeps old new
+LeavesAnswer run_fault.Write h line old new =
+    (last : Line) × (text : List ℕ) × Answers h line last text × IsSoundState last.cards last.present × AppendsFront old new text
+LeavesAnswer _ h line old new = ⊥
 
 -- ---- from the bytes of an image and of commands
 -- the image gives a database, on which all commands were answered

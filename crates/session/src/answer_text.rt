@@ -3,13 +3,17 @@ ghost use Rattle.std.specs.Prelude.{◌≡◌, ◌∷◌, [], IfOk, OnOk};
 ghost use Rattle.csv.specs.Records.{partial_of};
 ghost use Rattle.records.specs.Spelling.{AddsFields};
 ghost use Rattle.executor.specs.Refusals.{refusal_name};
+ghost use Rattle.records.specs.Faults.{name_of};
 ghost use Rattle.runner.specs.Text.{token_digits};
-ghost use Rattle.session.specs.AnswerText.{commit_fields, commit_text, image_fields, image_head, refused_fields};
+ghost use Rattle.session.specs.AnswerText.{commit_fields, commit_text, fault_fields, fault_text, image_fields, image_head, refused_fields};
 ghost use Rattle.session.specs.AnswerText.{refused_text, told_fields, told_text};
 
+use commands::RecordFault;
 use csv::ByteRecord;
 use executor::Refusal;
+use records::fault::ReadError;
 use records::record_text::{push, push_number, record_text};
+use requests::reading::fault;
 use runner::text::digits_of;
 use std::alloc::Global;
 use tpcc_rows::memory::Memory;
@@ -112,5 +116,34 @@ pub(crate) fn refused_text(alloc: Global, refusal: Refusal) -> Result<Vec<u8>, M
 {
     let mut fields = ByteRecord::new(alloc);
     push_refused(&mut fields, refusal)?;
+    record_text(alloc, &fields)
+}
+
+/// Adds the name of a fault.
+fn push_fault_name(fields: &mut ByteRecord, error: ReadError) -> Result<(), Memory>
+    requires { partial_of fields.old ≡ [] }
+    ensures { OnOk result (AddsFields fields.old fields.new (name_of error ∷ [])) }
+{
+    push(fields, error.name().as_bytes())
+}
+
+/// Adds the fields of the record of a fault.
+fn push_fault(fields: &mut ByteRecord, found: RecordFault) -> Result<(), Memory>
+    requires { partial_of fields.old ≡ [] }
+    ensures { OnOk result (AddsFields fields.old fields.new (fault_fields found)) }
+{
+    let error = fault(found.number, found.slip);
+    push(fields, b"fault")?;
+    push_number(fields, u64::from(error.code()))?;
+    push_fault_name(fields, error)?;
+    push_number(fields, found.number)
+}
+
+/// The record of a fault.
+pub(crate) fn fault_text(alloc: Global, found: RecordFault) -> Result<Vec<u8>, Memory>
+    ensures { IfOk result (λ text. text.items ≡ fault_text found) }
+{
+    let mut fields = ByteRecord::new(alloc);
+    push_fault(&mut fields, found)?;
     record_text(alloc, &fields)
 }

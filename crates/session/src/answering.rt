@@ -3,11 +3,11 @@ ghost use Rattle.std.specs.Prelude.{◌≡◌, ◌≤◌, IfOk};
 ghost use Rattle.executor.specs.Stamps.{stamp_of};
 ghost use Rattle.runner.specs.StampText.{at_text};
 ghost use Rattle.executor.specs.States.{IsSoundState};
-ghost use Rattle.session.specs.Answers.{Answers, AnswersBatch, AnswersCommit, AnswersImage, AnswersRollback};
+ghost use Rattle.session.specs.Answers.{Answers, AnswersBatch, AnswersCommand, AnswersCommit, AnswersImage, AnswersRollback};
 ghost use Rattle.session.specs.AnswerText.{image_answer};
 
-use crate::answer_text::{commit_text, image_head, refused_text, told_text};
-use commands::{Command, Control};
+use crate::answer_text::{commit_text, fault_text, image_head, refused_text, told_text};
+use commands::{Command, Control, Heard};
 use executor::{Executor, Refusal};
 use requests::request::Batch;
 use runner::stamp_text::stamp_line;
@@ -86,8 +86,8 @@ fn at_text(alloc: Global, executor: &Executor) -> Result<Vec<u8>, Memory>
     Ok(text)
 }
 
-/// Does what a command says, or refuses it, and answers it. Where memory is refused for the answer, the command may have been done.
-pub(crate) fn answer<R: Threads + Sync, G: Gate>(
+/// Does what a command says, or refuses it, and answers it.
+fn answer_command<R: Threads + Sync, G: Gate>(
     rt: &R,
     alloc: Global,
     executor: &mut Executor,
@@ -97,7 +97,7 @@ pub(crate) fn answer<R: Threads + Sync, G: Gate>(
 ) -> Result<Vec<u8>, Memory>
     requires low { 1 ≤ executor.old.present.next }
     requires sound { IsSoundState executor.old.cards executor.old.present }
-    ensures text { IfOk result (λ text. Answers command.now executor.old executor.new text.items) }
+    ensures text { IfOk result (λ text. AnswersCommand command.now executor.old executor.new text.items) }
     ensures sound { IsSoundState executor.new.cards executor.new.present }
 {
     match command {
@@ -111,5 +111,26 @@ pub(crate) fn answer<R: Threads + Sync, G: Gate>(
         }
         Command::Control(Control::Image) => answer_image(alloc, executor),
         Command::Control(Control::At) => at_text(alloc, executor),
+    }
+}
+
+/// Does what a command says, or refuses it, and answers it; a fault is told. Where memory is refused for the answer, the command may have
+/// been done.
+pub(crate) fn answer<R: Threads + Sync, G: Gate>(
+    rt: &R,
+    alloc: Global,
+    executor: &mut Executor,
+    heard: &Heard,
+    workers: Workers,
+    gate: &G,
+) -> Result<Vec<u8>, Memory>
+    requires low { 1 ≤ executor.old.present.next }
+    requires sound { IsSoundState executor.old.cards executor.old.present }
+    ensures text { IfOk result (λ text. Answers heard.now executor.old executor.new text.items) }
+    ensures sound { IsSoundState executor.new.cards executor.new.present }
+{
+    match heard {
+        Heard::Command(command) => answer_command(rt, alloc, executor, command, workers, gate),
+        Heard::Fault(fault) => fault_text(alloc, *fault),
     }
 }

@@ -3,23 +3,23 @@ ghost use Rattle.std.specs.Prelude.{◌≡◌, ◌+◌, ◌<◌, ◌≤◌, ◌^
 ghost use Rattle.commands.specs.Commands.{commands};
 ghost use Rattle.executor.specs.States.{IsSoundState};
 ghost use Rattle.runner.specs.Runs.{is_write};
+ghost use Rattle.runner.specs.WholeRuns.{is_batches_read};
 ghost use Rattle.session.specs.Sessions.{IsOfSession, LeavesSession, Served};
 
 use crate::serving::serve_input;
 use executor::Executor;
 use hashers::Host;
-use records::io::Sink;
+use records::io::{Sink, Source};
 use runner::RunFault;
 use std::alloc::Global;
-use std::io::Read;
 use workers::{Gate, Workers};
 
 /// Reads commands in turn, and answers each on the state that an executor has before the next is read.
-pub fn serve_on<R: Host, C: Read + Drop, S: Sink, G: Gate>(
+pub fn serve_on<R: Host, C: Source, S: Sink, G: Gate>(
     rt: &R,
     alloc: Global,
     executor: &mut Executor,
-    input: C,
+    input: &mut C,
     sink: &mut S,
     workers: Workers,
     gate: &G,
@@ -27,13 +27,15 @@ pub fn serve_on<R: Host, C: Read + Drop, S: Sink, G: Gate>(
     requires alone { executor.old.earlier ≡ [] }
     requires low { 1 ≤ executor.old.present.next }
     requires sound { IsSoundState executor.old.cards executor.old.present }
-    requires count { S.failed sink.old < 2 ^ 63 }
-    ensures ok { OnOk result (IfSome (option_map commands (C.remaining input)) (λ hearing.
+    requires input { C.failed input.old < 2 ^ 63 }
+    requires sink { S.failed sink.old < 2 ^ 63 }
+    ensures ok { OnOk result (IfSome (option_map commands (C.left input.old)) (λ hearing.
         Served executor.old hearing (S.taken sink.old) (S.taken sink.new))) }
-    ensures err { IfErr result (λ e. IfSome (option_map commands (C.remaining input)) (λ hearing.
+    ensures err { IfErr result (λ e. IfSome (option_map commands (C.left input.old)) (λ hearing.
         LeavesSession e executor.old hearing (S.taken sink.old) (S.taken sink.new))) }
     ensures kinds { IfErr result IsOfSession }
-    ensures failures { S.failed sink.new ≡ S.failed sink.old + (if is_write result then 1 else 0) }
+    ensures input_failures { C.failed input.new ≡ C.failed input.old + (if is_batches_read result then 1 else 0) }
+    ensures sink_failures { S.failed sink.new ≡ S.failed sink.old + (if is_write result then 1 else 0) }
 {
     serve_input(rt, alloc, executor, input, sink, workers, gate)
 }

@@ -1,23 +1,23 @@
 //! Commands in, answers out: each is answered, and its answer handed on, before the next is read.
-ghost use Rattle.std.specs.Prelude.{◌≡◌, ◌+◌, ◌<◌, ◌≤◌, ◌^◌, [], IfErr, IfOk, IfSome, OnErr, OnOk, if◌then◌else◌, is_ok, option_map};
+ghost use Rattle.std.specs.Prelude.{◌≡◌, ◌+◌, ◌<◌, ◌≤◌, ◌^◌, [], false, None, IfErr, IfOk, IfSome, OnErr, OnOk, if◌then◌else◌, is_ok, option_map};
 ghost use Rattle.std.specs.Io.KnownBytes.{Appends};
 ghost use Rattle.commands.specs.Commands.{commands};
-ghost use Rattle.commands.specs.declared.command_reader.TheConstants.{LAST_RECORD};
+ghost use Rattle.commands.specs.Reader.{heard_from};
+ghost use Rattle.commands.specs.declared.record_reader.TheConstants.{LAST_RECORD};
 ghost use Rattle.executor.specs.States.{IsSoundState};
 ghost use Rattle.records.specs.Io.{AppendsFront};
 ghost use Rattle.runner.specs.Runs.{is_write};
-ghost use Rattle.runner.specs.WholeRuns.{is_image_read};
+ghost use Rattle.runner.specs.WholeRuns.{is_batches_read, is_image_read};
 ghost use Rattle.session.specs.Sessions.{IsAnswered, IsOfSession, LeavesAnswer, LeavesSession, LeavesWhole, Served, ServedWhole};
 
 use crate::answering::answer;
-use commands::{Command, CommandReader};
+use commands::{CommandReader, Heard};
 use executor::Executor;
 use hashers::Host;
 use records::io::{Failed, Sink, Source};
 use records::slurp::push_all;
 use runner::{RunFault, load_executor};
 use std::alloc::Global;
-use std::io::Read;
 use std::thread::Threads;
 use workers::{Gate, Workers};
 
@@ -32,12 +32,12 @@ fn send<S: Sink>(sink: &mut S, text: &[u8]) -> Result<(), Failed>
     sink.flush()
 }
 
-/// Answers a command, and hands the answer on.
+/// Answers what was heard, and hands the answer on.
 fn respond<R: Threads + Sync, S: Sink, G: Gate>(
     rt: &R,
     alloc: Global,
     executor: &mut Executor,
-    command: &Command,
+    heard: &Heard,
     sink: &mut S,
     workers: Workers,
     gate: &G,
@@ -45,11 +45,12 @@ fn respond<R: Threads + Sync, S: Sink, G: Gate>(
     requires low { 1 ≤ executor.old.present.next }
     requires sound { IsSoundState executor.old.cards executor.old.present }
     requires count { S.failed sink.old < 2 ^ 63 }
-    ensures ok { OnOk result (IsAnswered command.now executor.old executor.new (S.taken sink.old) (S.taken sink.new)) }
-    ensures err { IfErr result (λ e. LeavesAnswer e command.now executor.old (S.taken sink.old) (S.taken sink.new)) }
+    ensures ok { OnOk result (IsAnswered heard.now executor.old executor.new (S.taken sink.old) (S.taken sink.new)) }
+    ensures err { IfErr result (λ e. LeavesAnswer e heard.now executor.old (S.taken sink.old) (S.taken sink.new)) }
+    ensures no_read { is_batches_read result ≡ false }
     ensures failures { S.failed sink.new ≡ S.failed sink.old + (if is_write result then 1 else 0) }
 {
-    let Ok(text) = answer(rt, alloc, executor, command, workers, gate) else {
+    let Ok(text) = answer(rt, alloc, executor, heard, workers, gate) else {
         return Err(RunFault::Memory);
     };
     if send(sink, text.as_slice()).is_err() {
@@ -59,11 +60,12 @@ fn respond<R: Threads + Sync, S: Sink, G: Gate>(
 }
 
 /// Reads commands in turn, and answers each before the next is read.
-fn serve_commands<R: Threads + Sync, C: Read + Drop, S: Sink, G: Gate>(
+fn serve_commands<R: Threads + Sync, C: Source, S: Sink, G: Gate>(
     rt: &R,
     alloc: Global,
     executor: &mut Executor,
-    reader: &mut CommandReader<C>,
+    reader: &mut CommandReader,
+    input: &mut C,
     sink: &mut S,
     workers: Workers,
     gate: &G,
@@ -71,21 +73,25 @@ fn serve_commands<R: Threads + Sync, C: Read + Drop, S: Sink, G: Gate>(
     requires alone { executor.old.earlier ≡ [] }
     requires low { 1 ≤ executor.old.present.next }
     requires sound { IsSoundState executor.old.cards executor.old.present }
-    requires room { reader.old.number ≤ LAST_RECORD + 1 }
-    requires count { S.failed sink.old < 2 ^ 63 }
-    ensures ok { OnOk result (IfSome reader.old.left (λ hearing. Served executor.old hearing (S.taken sink.old) (S.taken sink.new))) }
-    ensures err { IfErr result (λ e. IfSome reader.old.left (λ hearing.
+    requires room { reader.old.read ≤ LAST_RECORD }
+    requires going { reader.old.stopped ≡ None }
+    requires input { C.failed input.old < 2 ^ 63 }
+    requires sink { S.failed sink.old < 2 ^ 63 }
+    ensures ok { OnOk result (IfSome (heard_from reader.old (C.left input.old)) (λ hearing.
+        Served executor.old hearing (S.taken sink.old) (S.taken sink.new))) }
+    ensures err { IfErr result (λ e. IfSome (heard_from reader.old (C.left input.old)) (λ hearing.
         LeavesSession e executor.old hearing (S.taken sink.old) (S.taken sink.new))) }
     ensures kinds { IfErr result IsOfSession }
-    ensures failures { S.failed sink.new ≡ S.failed sink.old + (if is_write result then 1 else 0) }
+    ensures input_failures { C.failed input.new ≡ C.failed input.old + (if is_batches_read result then 1 else 0) }
+    ensures sink_failures { S.failed sink.new ≡ S.failed sink.old + (if is_write result then 1 else 0) }
 {
     'commands: loop {
-        let command = match reader.next_command(alloc) {
-            Ok(Some(command)) => command,
+        let heard = match reader.next_heard(alloc, input) {
+            Ok(Some(heard)) => heard,
             Ok(None) => return Ok(()),
             Err(error) => return Err(RunFault::Read(error)),
         };
-        if let Err(fault) = respond(rt, alloc, executor, &command, sink, workers, gate) {
+        if let Err(fault) = respond(rt, alloc, executor, &heard, sink, workers, gate) {
             return Err(fault);
         }
     }
@@ -102,11 +108,11 @@ fn keep_threads<R: Host>(rt: &R, alloc: Global, executor: &mut Executor, workers
 /// Reads the commands of a text in turn, and answers each before the next is read. Its frame has the reader's room, that of `serve`
 /// the executor's.
 #[inline(never)]
-pub(crate) fn serve_input<R: Host, C: Read + Drop, S: Sink, G: Gate>(
+pub(crate) fn serve_input<R: Host, C: Source, S: Sink, G: Gate>(
     rt: &R,
     alloc: Global,
     executor: &mut Executor,
-    input: C,
+    input: &mut C,
     sink: &mut S,
     workers: Workers,
     gate: &G,
@@ -114,38 +120,45 @@ pub(crate) fn serve_input<R: Host, C: Read + Drop, S: Sink, G: Gate>(
     requires alone { executor.old.earlier ≡ [] }
     requires low { 1 ≤ executor.old.present.next }
     requires sound { IsSoundState executor.old.cards executor.old.present }
-    requires count { S.failed sink.old < 2 ^ 63 }
-    ensures ok { OnOk result (IfSome (option_map commands (C.remaining input)) (λ hearing.
+    requires input { C.failed input.old < 2 ^ 63 }
+    requires sink { S.failed sink.old < 2 ^ 63 }
+    ensures ok { OnOk result (IfSome (option_map commands (C.left input.old)) (λ hearing.
         Served executor.old hearing (S.taken sink.old) (S.taken sink.new))) }
-    ensures err { IfErr result (λ e. IfSome (option_map commands (C.remaining input)) (λ hearing.
+    ensures err { IfErr result (λ e. IfSome (option_map commands (C.left input.old)) (λ hearing.
         LeavesSession e executor.old hearing (S.taken sink.old) (S.taken sink.new))) }
     ensures kinds { IfErr result IsOfSession }
-    ensures failures { S.failed sink.new ≡ S.failed sink.old + (if is_write result then 1 else 0) }
+    ensures input_failures { C.failed input.new ≡ C.failed input.old + (if is_batches_read result then 1 else 0) }
+    ensures sink_failures { S.failed sink.new ≡ S.failed sink.old + (if is_write result then 1 else 0) }
 {
-    let mut reader = CommandReader::new(alloc, input);
+    let mut reader = CommandReader::new(alloc);
     keep_threads(rt, alloc, executor, workers);
-    serve_commands(rt, alloc, executor, &mut reader, sink, workers, gate)
+    serve_commands(rt, alloc, executor, &mut reader, input, sink, workers, gate)
 }
 
-/// Loads an image, and then reads commands in turn, each of which is answered before the next is read. What is written is the same
-/// for every number of workers, whoever is told of the executions, and however the bytes of the commands come in pieces.
+/// Loads an image, and then reads commands in turn, each of which is answered before the next is read. A record at fault is answered by
+/// the fault, and changes nothing; those behind it are passed over up to the next that names a command. What is written is the same for
+/// every number of workers, whoever is told of the executions, and however the bytes of the commands come in pieces.
 #[inline(never)]
-pub fn serve<R: Host, I: Source, C: Read + Drop, S: Sink, G: Gate>(
+pub fn serve<R: Host, I: Source, C: Source, S: Sink, G: Gate>(
     rt: &R,
     alloc: Global,
     image: &mut I,
-    input: C,
+    input: &mut C,
     sink: &mut S,
     workers: Workers,
     gate: &G,
 ) -> Result<(), RunFault>
     requires image { I.failed image.old < 2 ^ 63 }
+    requires input { C.failed input.old < 2 ^ 63 }
     requires sink { S.failed sink.old < 2 ^ 63 }
-    ensures ok { OnOk result (IfSome (I.left image.old) (λ image_bytes. IfSome (C.remaining input) (λ command_bytes.
+    ensures ok { OnOk result (IfSome (I.left image.old) (λ image_bytes. IfSome (C.left input.old) (λ command_bytes.
         ServedWhole image_bytes command_bytes (S.taken sink.old) (S.taken sink.new)))) }
-    ensures err { IfErr result (λ e. IfSome (I.left image.old) (λ image_bytes. IfSome (C.remaining input) (λ command_bytes.
+    ensures err { IfErr result (λ e. IfSome (I.left image.old) (λ image_bytes. IfSome (C.left input.old) (λ command_bytes.
         LeavesWhole e image_bytes command_bytes (S.taken sink.old) (S.taken sink.new)))) }
+
+    // An end that failed is the reason of the answer, and every failure is answered.
     ensures image_failures { I.failed image.new ≡ I.failed image.old + (if is_image_read result then 1 else 0) }
+    ensures input_failures { C.failed input.new ≡ C.failed input.old + (if is_batches_read result then 1 else 0) }
     ensures sink_failures { S.failed sink.new ≡ S.failed sink.old + (if is_write result then 1 else 0) }
 {
     // The executor is used where it was made: moved, it would take its room on the stack twice.

@@ -9,7 +9,7 @@ use crate::runs::Outcome;
 use crate::text::Text;
 use executor::Executor;
 use hashers::Host;
-use requests::{BytesSink, BytesSource};
+use requests::{BytesSink, BytesSource, Counting};
 use runner::stamp_text::{stamp_line, stamp_of};
 use runner::{load_executor, run_and_store_on};
 use session::serve_on;
@@ -161,12 +161,13 @@ fn served<R: Host + AllocGlobal>(
     let Some(mut executor) = stand(rt, image, word) else {
         return None;
     };
+    let mut input = Counting::new(Pieces::new(commands, 7, usize::MAX, ErrorKind::BrokenPipe));
     let mut sink = BytesSink::new(rt.alloc(), 4_096);
     let ended = serve_on(
         rt,
         rt.alloc(),
         &mut executor,
-        Pieces::new(commands, 7, usize::MAX, ErrorKind::BrokenPipe),
+        &mut input,
         &mut sink,
         Workers::new(1).unwrap(),
         &NoGate,

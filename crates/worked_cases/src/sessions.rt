@@ -5,7 +5,7 @@ use crate::pieces::Pieces;
 use crate::runs::{Outcome, are_same, put_printed};
 use crate::text::Text;
 use hashers::Host;
-use requests::{BytesSink, BytesSource, ReadError};
+use requests::{BytesSink, BytesSource, Counting, ReadError};
 use runner::{RunFault, StoredRunFault};
 use session::serve;
 use std::io::ErrorKind;
@@ -53,12 +53,18 @@ fn served<R: Host + AllocGlobal>(
     fails: usize,
     workers: usize,
 ) -> Outcome {
+    let mut input = Counting::new(Pieces::new(
+        commands,
+        size.max(1),
+        fails,
+        ErrorKind::BrokenPipe,
+    ));
     let mut sink = BytesSink::new(rt.alloc(), 64);
     let served = serve(
         rt,
         rt.alloc(),
         &mut BytesSource::new(image, 4_096),
-        Pieces::new(commands, size.max(1), fails, ErrorKind::BrokenPipe),
+        &mut input,
         &mut sink,
         Workers::new(workers).unwrap_or(Workers::new(1).unwrap()),
         &NoGate,

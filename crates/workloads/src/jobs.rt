@@ -67,7 +67,8 @@ fn session<R: Host>(
     let workers = Workers::new(workers)?;
     let mut image = BytesSource::new(image, STEP);
     let mut sink = BytesSink::new(alloc, STEP);
-    serve(rt, alloc, &mut image, commands, &mut sink, workers, &NoGate).ok()?;
+    let mut input = BytesSource::new(commands, STEP);
+    serve(rt, alloc, &mut image, &mut input, &mut sink, workers, &NoGate).ok()?;
     Some(sink.bytes)
 }
 

@@ -7,17 +7,17 @@ use Rattle.session.proofs.serving.serve.Goals as goal
 
 pub returns-in-Err-clause-err : goal.returns-in-Err-clause-err
 returns-in-Err-clause-err g c =
-    unopened_session (g.I.Source.left c.args.image.now) (g.C.Read.remaining c.args.input) c.in-Err.fault (g.S.Sink.taken c.args.sink.now)
+    unopened_session (g.I.Source.left c.args.image.now) (g.C.Source.left c.args.input.now) c.in-Err.fault (g.S.Sink.taken c.args.sink.now)
     (subst (λ r. IfErr r (λ e. IfSome (g.I.Source.left c.args.image.now) (λ bytes. IsUnopened e bytes))) c.in-Err.is c.load_executor-loaded.ensures.err)
 
 pub returns-in-Ok-clause-ok : goal.returns-in-Ok-clause-ok
 returns-in-Ok-clause-ok g c =
-    served_whole (g.I.Source.left c.args.image.now) (g.C.Read.remaining c.args.input) c.in-Ok.executor (option_map commands (g.C.Read.remaining c.args.input))
+    served_whole (g.I.Source.left c.args.image.now) (g.C.Source.left c.args.input.now) c.in-Ok.executor (option_map commands (g.C.Source.left c.args.input.now))
     (g.S.Sink.taken c.args.sink.now) (g.S.Sink.taken c.serve_input.new.sink)
     (subst (λ r. IfOk r (λ line. IfSome (g.I.Source.left c.args.image.now) (λ bytes. IsOpened bytes line))) c.in-Ok.is c.load_executor-loaded.ensures.ok) refl c.serve_input.result c.serve_input.ensures.ok
 
 pub returns-in-Ok-clause-err : goal.returns-in-Ok-clause-err
 returns-in-Ok-clause-err g c =
-    left_whole (g.I.Source.left c.args.image.now) (g.C.Read.remaining c.args.input) c.in-Ok.executor (option_map commands (g.C.Read.remaining c.args.input))
+    left_whole (g.I.Source.left c.args.image.now) (g.C.Source.left c.args.input.now) c.in-Ok.executor (option_map commands (g.C.Source.left c.args.input.now))
     (g.S.Sink.taken c.args.sink.now) (g.S.Sink.taken c.serve_input.new.sink)
     (subst (λ r. IfOk r (λ line. IfSome (g.I.Source.left c.args.image.now) (λ bytes. IsOpened bytes line))) c.in-Ok.is c.load_executor-loaded.ensures.ok) refl c.serve_input.result c.serve_input.ensures.kinds c.serve_input.ensures.err
