@@ -1,5 +1,5 @@
 -- Bytes that were pulled, one after the other.
-use Rattle.std.proofs.Common.{◌≡◌, ◌∙◌, ◌<◌, ◌+◌, ℕ, List, [], ◌∷◌, ◌++◌, drop, get_or, length, take, Option, Some, None, min, refl, sym, ap, arith}
+use Rattle.std.proofs.Common.{◌≡◌, ◌∙◌, ◌<◌, ◌+◌, ℕ, List, [], ◌∷◌, ◌++◌, drop, get_or, length, take, Option, Some, None, sym, ap, arith}
 use Rattle.std.proofs.lemmas.List.{drop_more, get_or-take, length-take}
 use Rattle.std.specs.Io.KnownBytes.{Consumes, Keeps, prepend_known}
 

@@ -1,21 +1,18 @@
 -- Commands, record by record.
-use Rattle.std.proofs.Common.{◌≡◌, ◌⊎◌, ◌∙◌, ◌<◌, ◌≤◌, ◌+◌, ◌-◌, ℕ, Bool, List, [], ◌∷◌, ◌++◌, length, Option, Some, None, true, false, refl, sym, ap, inl, inr, arith}
-use Rattle.std.specs.Prelude.{◌==◌, nat_lt, Ok, Err, option_map}
+use Rattle.std.proofs.Common.{◌≡◌, ◌⊎◌, ◌∙◌, ◌<◌, ◌≤◌, ◌+◌, ◌-◌, ℕ, Bool, List, [], ◌∷◌, length, Option, Some, None, true, false, refl, inl, inr, arith}
+use Rattle.std.specs.Prelude.{◌==◌, nat_lt, option_map}
 use Rattle.std.specs.Io.KnownBytes.{Keeps}
 use Rattle.commands.proofs.RowLemmas.{by-keeps}
 use Rattle.commands.specs.CommandRecords.{names_command, opening_at}
-use Rattle.commands.specs.Commands.{Hearing, IsOver, Place, StopsBy, behind, begun, between, commands_from, commands_of, ended, fault_at, opened, settled, told, with_front, within}
+use Rattle.commands.specs.Commands.{Hearing, Place, StopsBy, begun, between, commands_from, commands_of, ended, settled, told, with_front, within}
 use Rattle.commands.specs.Reader.{Turns, WhereKnown, following, gap, hearing_of}
-use Rattle.commands.specs.Rows.{EndsWithin, IsLonger, Row, Rows, with_row}
+use Rattle.commands.specs.Rows.{EndsWithin, IsLonger, Rows, with_row}
 use Rattle.commands.specs.declared.command.Command.TheVariants as command
 use Rattle.commands.specs.declared.command.Heard.TheVariants as heard
-use Rattle.commands.specs.declared.command_record.Opening.{Opening}
 use Rattle.commands.specs.declared.record_reader.TheConstants.{LAST_RECORD, MOST_BYTES}
 use Rattle.records.specs.Fields.{Fields}
 use Rattle.records.specs.declared.fault.ReadError.{ReadError}
 use Rattle.records.specs.declared.fault.ReadError.TheVariants as err
-use Rattle.records.specs.declared.fault.Slip.{Slip}
-use Rattle.requests.specs.BatchRecords.{request_at}
 use Rattle.requests.specs.Batches.{batch_of, clean, fault}
 use Rattle.requests.specs.declared.batch_record.BatchHead.{BatchHead}
 use Rattle.requests.specs.declared.request.Request.{Request}

@@ -1,3 +1,4 @@
 pub mod ChunkLemmas
 pub mod RowLemmas
 pub mod CommandLemmas
+pub mod LawLemmas

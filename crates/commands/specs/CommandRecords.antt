@@ -1,5 +1,5 @@
 -- What the record says that begins a command.
-use Rattle.std.specs.Prelude.{◌≤◌, Bool, true, false, codes, Result, Ok, if◌then◌else◌}
+use Rattle.std.specs.Prelude.{◌≤◌, Bool, true, codes, Result, Ok, if◌then◌else◌}
 use Rattle.csv.specs.Records.{field_at}
 use Rattle.commands.specs.declared.command.Control.{Control}
 use Rattle.commands.specs.declared.command.Control.TheVariants as control

@@ -5,7 +5,6 @@ use Rattle.commands.specs.Rows.{Row, Rows, rows_in}
 use Rattle.commands.specs.declared.command.Command.TheVariants as command
 use Rattle.commands.specs.declared.command.Heard.{Heard}
 use Rattle.commands.specs.declared.command.Heard.TheVariants as heard
-use Rattle.commands.specs.declared.command.RecordFault.{RecordFault}
 use Rattle.commands.specs.declared.command_record.Opening.{Opening}
 use Rattle.commands.specs.declared.command_record.Opening.TheVariants as opening
 use Rattle.commands.specs.declared.record_reader.TheConstants.{LAST_RECORD, MOST_BYTES}

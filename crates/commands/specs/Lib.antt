@@ -3,3 +3,4 @@ pub mod Machine
 pub mod CommandRecords
 pub mod Commands
 pub mod Reader
+pub mod Laws

@@ -1,6 +1,6 @@
 -- What a reader of commands has still to give.
 use Rattle.std.specs.Io.KnownBytes.{prepend_known}
-use Rattle.std.specs.Prelude.{◌≡◌, ◌≤◌, ℕ, Bool, true, false, List, [], Option, Some, None, drop, take, option_map, if◌then◌else◌}
+use Rattle.std.specs.Prelude.{◌≤◌, ℕ, Bool, true, false, List, [], Option, Some, None, drop, take, option_map, if◌then◌else◌}
 use Rattle.commands.specs.Commands.{CommandsLeft, Hearing, Place, behind, between, commands_of, counted}
 use Rattle.commands.specs.Rows.{Rows, rows_from}
 use Rattle.commands.specs.Machine.{state_of}

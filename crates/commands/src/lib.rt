@@ -6,6 +6,7 @@ mod chunk;
 pub mod command;
 pub mod command_reader;
 mod command_record;
+pub mod laws;
 mod machine;
 mod reading;
 mod record_reader;

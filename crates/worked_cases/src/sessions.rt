@@ -1,11 +1,14 @@
-//! A session on a made database, whose commands come in pieces of several sizes, with several numbers of workers. The answers to
-//! the first are shown, and of the others whether they are the same. Then each read of the commands fails in turn: what was
-//! written is to be a beginning of those answers.
+//! A session on a made database, whose commands come in pieces of several sizes, with several numbers of workers. Some of its records
+//! are at fault, and the last batch is cut off. The answers to the first are shown, and of the others whether they are the same. Then
+//! each read of the commands fails in turn: what was written is to be a beginning of those answers. Then commands that never end.
+ghost use Rattle.std.specs.Prelude.{None};
+
+use crate::faults::put_fault;
 use crate::pieces::Pieces;
 use crate::runs::{Outcome, are_same, put_printed};
 use crate::text::Text;
 use hashers::Host;
-use requests::{BytesSink, BytesSource, Counting, ReadError};
+use requests::{BytesSink, BytesSource, Counting, Failed, ReadError, Source};
 use runner::{RunFault, StoredRunFault};
 use session::serve;
 use std::io::ErrorKind;
@@ -35,6 +38,24 @@ R,1
 R,5
 T
 commit
+P,1,2,1,1,I,1,100
+T
+B,102,commit,2
+P,1,2,1,1,I,1,100
+P,1,2,1,1,I,0,100
+S,1,1,12
+C
+B,102,commit,3
+P,1,2,1,1,I,1,100
+T
+P,1,2,1,1,I,1,100
+R,1,2
+R,-1
+B,102,commit,1025
+P,1,2,1,1,I,1,100
+T
+B,103,commit,2
+P,1,2,1,1,I,1,100
 ";
 
 /// A read that no session comes to.
@@ -53,12 +74,7 @@ fn served<R: Host + AllocGlobal>(
     fails: usize,
     workers: usize,
 ) -> Outcome {
-    let mut input = Counting::new(Pieces::new(
-        commands,
-        size.max(1),
-        fails,
-        ErrorKind::BrokenPipe,
-    ));
+    let mut input = Counting::new(Pieces::new(commands, size.max(1), fails, ErrorKind::BrokenPipe));
     let mut sink = BytesSink::new(rt.alloc(), 64);
     let served = serve(
         rt,
@@ -78,7 +94,7 @@ fn served<R: Host + AllocGlobal>(
         stored: Vec::new(rt.alloc()),
         fault,
         count: 0,
-        failures: 0,
+        failures: input.failures,
     }
 }
 
@@ -104,10 +120,64 @@ fn show_reads<R: Host + AllocGlobal>(rt: &R, out: &mut Text, image: &[u8], whole
     for fails in 0..6 {
         let outcome = served(rt, image, COMMANDS, 64, fails, 1);
         let has_ended = whole.starts_with(outcome.text.as_slice())
+            && outcome.failures == 1
             && outcome.fault == Some(StoredRunFault::Run(RunFault::Read(ReadError::Read)));
         out.number("read ", fails);
         out.fact(" fails, a beginning is written: ", has_ended);
         out.put(b"\n");
+    }
+}
+
+/// A text that goes on by the same byte and never ends.
+#[derive(Drop)]
+struct Endless<'a> {
+    front: &'a [u8],
+    byte: u8,
+}
+
+impl<'a> Source for Endless<'a> {
+    ghost left = { λ _. None };
+
+    ghost failed = { λ _. 0 };
+
+    fn pull(&mut self, into: &mut [u8]) -> Result<usize, Failed> {
+        let count = self.front.len().min(into.len());
+        if count == 0 {
+            into.fill(self.byte);
+            return Ok(into.len());
+        }
+        let (front, rest) = self.front.split_at(count);
+        into[..count].copy_from_slice(front);
+        self.front = rest;
+        Ok(count)
+    }
+
+    fn failures(&self) -> u64 {
+        0
+    }
+}
+
+/// Shows what comes of a text behind which the same byte comes for ever.
+fn show_endless<R: Host + AllocGlobal>(
+    rt: &R,
+    out: &mut Text,
+    image: &[u8],
+    front: &[u8],
+    byte: u8,
+) {
+    let mut sink = BytesSink::new(rt.alloc(), 64);
+    let served = serve(
+        rt,
+        rt.alloc(),
+        &mut BytesSource::new(image, 4_096),
+        &mut Endless { front, byte },
+        &mut sink,
+        Workers::new(1).unwrap(),
+        &NoGate,
+    );
+    out.put(sink.bytes.as_slice());
+    if let Err(fault) = served {
+        put_fault(out, Some(StoredRunFault::Run(fault)));
     }
 }
 
@@ -117,6 +187,8 @@ pub fn show_sessions<R: Host + AllocGlobal>(rt: &R, out: &mut Text, image: &[u8]
     put_printed(out, &whole);
     show_cuts(rt, out, image, &whole, &CUTS);
     show_reads(rt, out, image, whole.text.as_slice());
+    show_endless(rt, out, image, b"A\nT,\"", b'x');
+    show_endless(rt, out, image, b"A\n", b'\n');
     let asked = served(rt, image, b"I\n", 1, NEVER, 1);
     let written = asked.text.as_slice();
     let is_image = written.starts_with(b"image,0,") && written.ends_with(image);

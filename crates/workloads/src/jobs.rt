@@ -68,7 +68,10 @@ fn session<R: Host>(
     let mut image = BytesSource::new(image, STEP);
     let mut sink = BytesSink::new(alloc, STEP);
     let mut input = BytesSource::new(commands, STEP);
-    serve(rt, alloc, &mut image, &mut input, &mut sink, workers, &NoGate).ok()?;
+    serve(
+        rt, alloc, &mut image, &mut input, &mut sink, workers, &NoGate,
+    )
+    .ok()?;
     Some(sink.bytes)
 }
 

@@ -1,4 +1,4 @@
-use Rattle.std.proofs.Common.{◌≡◌, ◌∙◌, ◌≤◌, None, arith, false, rules, true}
+use Rattle.std.proofs.Common.{◌≡◌, ◌∙◌, None, arith, false, rules, true}
 use Rattle.commands.proofs.CommandLemmas.{ended-gap, then-known, then-stops, then-turns, told-between, told-named, told-passed, turns-by}
 use Rattle.commands.specs.CommandRecords.{names_command, opening_at}
 use Rattle.commands.specs.Commands.{StopsBy, begun, commands_of, told}

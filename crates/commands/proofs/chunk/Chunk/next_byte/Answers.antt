@@ -1,4 +1,4 @@
-use Rattle.std.proofs.Common.{◌≡◌, ◌<◌, arith, false, length, rules, sym, true}
+use Rattle.std.proofs.Common.{◌≡◌, ◌<◌, arith, length, rules}
 use Rattle.std.specs.Io.KnownBytes.{Keeps}
 use Rattle.csv.proofs.ReadFacts.{keeps-from, prepend-nil}
 use Rattle.commands.proofs.ChunkLemmas.{kept-consumes, next-pulled}

@@ -1,11 +1,11 @@
-use Rattle.std.proofs.Common.{◌≡◌, ◌∙◌, ◌+◌, ◌≤◌, ◌-◌, [], arith, rules, sym, true, false, Option, Some, None}
+use Rattle.std.proofs.Common.{◌≡◌, ◌∙◌, ◌+◌, ◌≤◌, [], arith, rules, sym, true, None}
 use Rattle.std.specs.Io.KnownBytes.{Keeps}
 use Rattle.csv.proofs.ReadFacts.{on-ok}
 use Rattle.commands.proofs.CommandLemmas.{ends-scan, late-scan, stops-scan, told-scan}
 use Rattle.commands.specs.Commands.{Place, StopsBy}
 use Rattle.commands.specs.Machine.{state_of}
-use Rattle.commands.specs.Reader.{Turns, WhereKnown, bytes_left, hearing_of, pulled, rows_left, rows_pulled}
-use Rattle.commands.specs.Rows.{EndsWithin, rows_from, with_row}
+use Rattle.commands.specs.Reader.{bytes_left, hearing_of, pulled, rows_left, rows_pulled}
+use Rattle.commands.specs.Rows.{rows_from}
 use Rattle.commands.specs.declared.record_reader.TheConstants.{LAST_RECORD, MOST_BYTES}
 use Rattle.csv.specs.Records.{fields_of}
 use Rattle.commands.proofs.record_reader.RecordReader.next_record.Goals as goal

@@ -1,10 +1,9 @@
-use Rattle.std.proofs.Common.{◌≡◌, ◌∙◌, ◌+◌, ◌-◌, ◌≤◌, ◌∷◌, [], ℕ, List, ap, arith, false, inr, refl, rules, sym, true}
+use Rattle.std.proofs.Common.{◌≡◌, ◌∙◌, ◌+◌, ◌-◌, ◌≤◌, ◌∷◌, [], ap, arith, false, inr, refl, rules, sym, true}
 use Rattle.std.specs.Io.KnownBytes.{Consumes, IsAtEnd, Keeps}
-use Rattle.commands.proofs.RowLemmas.{IsAt, ends, goes, last, no-record, too-long}
+use Rattle.commands.proofs.RowLemmas.{ends, goes, last, no-record, too-long}
 use Rattle.commands.specs.Machine.{state_of}
 use Rattle.commands.specs.Reader.{pulled}
-use Rattle.commands.specs.Rows.{Rows, rows_from}
-use Rattle.commands.specs.declared.chunk.Chunk.{Chunk}
+use Rattle.commands.specs.Rows.{rows_from}
 use Rattle.commands.specs.declared.record_reader.RecordReader.{RecordReader}
 use Rattle.commands.specs.declared.record_reader.TheConstants.{MOST_BYTES}
 use Rattle.csv.specs.Machine.{ends_at_end, is_end, step}
