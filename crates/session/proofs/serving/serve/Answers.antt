@@ -5,8 +5,8 @@ use Rattle.std.specs.Prelude.{IfErr, IfOk, IfSome}
 use Rattle.runner.specs.Openings.{IsOpened, IsUnopened}
 use Rattle.session.proofs.serving.serve.Goals as goal
 
-pub returns-in-Err-clause-err : goal.returns-in-Err-clause-err
-returns-in-Err-clause-err g c =
+pub returns-clause-err : goal.returns-clause-err
+returns-clause-err g c =
     unopened_session (g.I.Source.left c.args.image.now) (g.C.Source.left c.args.input.now) c.in-Err.fault (g.S.Sink.taken c.args.sink.now)
     (subst (λ r. IfErr r (λ e. IfSome (g.I.Source.left c.args.image.now) (λ bytes. IsUnopened e bytes))) c.in-Err.is c.load_executor-loaded.ensures.err)
 
