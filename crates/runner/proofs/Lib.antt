@@ -7,3 +7,4 @@ pub mod FieldLemmas
 pub mod ShortBatches
 pub mod ExecutedBatches
 pub mod SourcedRuns
+pub mod ResumedLemmas

@@ -8,3 +8,4 @@ pub mod CheckTexts
 pub mod StoredRuns
 pub mod StampText
 pub mod Laws
+pub mod ResumedRuns
