@@ -5,11 +5,11 @@ ghost use Rattle.executor.specs.States.{IsSoundState};
 
 use crate::store_file::{StoreFile, open_store};
 use crate::{cannot_create, cannot_open, report};
-use executor::{Executor, Stamp};
+use executor::{Executor, NumbersTaken, Stamp};
 use hashers::Host;
 use records::io::Counting;
 use runner::stamp_text::{stamp_line, stamp_of};
-use runner::{RunFault, StoredRunFault, load_told, run_and_store_on, run_on};
+use runner::{ResumedFault, RunFault, StoredRunFault, load_told, run_and_store_on, run_from};
 use session::serve_on;
 use std::io::Input;
 use std::process::ExitCode;
@@ -36,6 +36,12 @@ pub fn stamp_from(rt: &impl Eprint, word: Option<&str>) -> Result<Option<Stamp>,
     }
 }
 
+/// Says that requests of the image's history have the numbers from which it was to go on.
+fn refuse(rt: &impl Eprint, taken: NumbersTaken) -> ExitCode {
+    let _ = eprintln!(rt; "eve-tpcc: command line: --from: {taken}");
+    ExitCode::from(2)
+}
+
 /// Gives the executor's state the stamp, if there is one.
 fn resume(rt: &impl Eprint, executor: &mut Executor, from: &Option<Stamp>) -> Result<(), ExitCode>
     requires alone { executor.old.earlier ≡ [] }
@@ -49,16 +55,15 @@ fn resume(rt: &impl Eprint, executor: &mut Executor, from: &Option<Stamp>) -> Re
     let Some(stamp) = from else {
         return Ok(());
     };
-    if let Err(taken) = executor.resume(stamp) {
-        let _ = eprintln!(rt; "eve-tpcc: command line: --from: {taken}");
-        return Err(ExitCode::from(2));
+    match executor.resume(stamp) {
+        Ok(()) => Ok(()),
+        Err(taken) => Err(refuse(rt, taken)),
     }
-    Ok(())
 }
 
-/// Prints the stamp of the executor's state.
-fn tell(rt: &impl Eprint, executor: &Executor) {
-    if let Ok(text) = str::from_utf8(stamp_line(&executor.stamp()).as_slice()) {
+/// Prints a stamp.
+fn tell(rt: &impl Eprint, stamp: &Stamp) {
+    if let Ok(text) = str::from_utf8(stamp_line(stamp).as_slice()) {
         let _ = eprint!(rt; "{text}");
     }
 }
@@ -74,13 +79,13 @@ pub struct Asked<'a> {
     pub at: bool,
 }
 
-/// Runs batches from the executor's present state on, and stores the last state if there is a file for it.
+/// Runs batches from the executor's present state on, and stores the last state in a file.
 #[inline(never)]
-fn run_batches<R: Files + Print + AllocGlobal + Host>(
+fn run_and_store_batches<R: Files + Print + AllocGlobal + Host>(
     rt: &R,
     executor: &mut Executor,
     batches: R::File,
-    store: Option<StoreFile<R::File>>,
+    store: StoreFile<R::File>,
     workers: Workers,
 ) -> Result<u64, StoredRunFault>
 where
@@ -91,19 +96,7 @@ where
 {
     let mut batches_source = Telling::new(Counting::new(batches));
     let mut output = Telling::new(Counting::new(io::writer(rt)));
-    let Some(file) = store else {
-        let ran = run_on(
-            rt,
-            rt.alloc(),
-            executor,
-            &mut batches_source,
-            &mut output,
-            workers,
-            &NoGate,
-        );
-        return ran.map_err(StoredRunFault::Run);
-    };
-    let mut tables = Telling::new(Counting::new(file));
+    let mut tables = Telling::new(Counting::new(store));
     run_and_store_on(
         rt,
         rt.alloc(),
@@ -130,7 +123,7 @@ fn run_loaded<R: Files + Print + Eprint + AllocGlobal + Host>(
     rt: &R,
     executor: &mut Executor,
     batches: R::File,
-    store: Option<StoreFile<R::File>>,
+    store: StoreFile<R::File>,
     asked: &Asked<'_>,
     from: &Option<Stamp>,
 ) -> ExitCode
@@ -144,9 +137,9 @@ where
     if let Err(status) = resume(rt, executor, from) {
         return status;
     }
-    let ran = run_batches(rt, executor, batches, store, asked.workers);
+    let ran = run_and_store_batches(rt, executor, batches, store, asked.workers);
     if asked.at && is_left_whole(&ran) {
-        tell(rt, executor);
+        tell(rt, &executor.stamp());
     }
     match ran {
         Ok(_) => ExitCode::SUCCESS,
@@ -168,6 +161,44 @@ fn store_of<R: Files + Eprint>(
     }
 }
 
+/// Runs batches from where the image's state is told to stand, and prints the last state's stamp if asked.
+#[inline(never)]
+fn run_resumed<R: Files + Print + Eprint + AllocGlobal + Host>(
+    rt: &R,
+    image: R::File,
+    batches: R::File,
+    asked: &Asked<'_>,
+    from: &Option<Stamp>,
+) -> ExitCode
+where
+    R::File: Drop,
+    requires { IfSome from.now IsWithinLimits }
+{
+    let mut image_source = Telling::new(Counting::new(image));
+    let mut batches_source = Telling::new(Counting::new(batches));
+    let mut output = Telling::new(Counting::new(io::writer(rt)));
+    let resumed = run_from(
+        rt,
+        rt.alloc(),
+        &mut image_source,
+        *from,
+        &mut batches_source,
+        &mut output,
+        asked.workers,
+        &NoGate,
+    );
+    if let (true, Some(stamp)) = (asked.at, resumed.at) {
+        tell(rt, &stamp);
+    }
+    match resumed.ran {
+        Ok(_) => ExitCode::SUCCESS,
+        Err(ResumedFault::Taken(taken)) => refuse(rt, taken),
+        Err(ResumedFault::Unopened(fault) | ResumedFault::Ended(fault)) => {
+            report(rt, &StoredRunFault::Run(fault))
+        }
+    }
+}
+
 /// Runs batches on the database of an image, whose state has the given stamp; without one it is a state before any batch.
 #[inline(never)]
 pub fn run_asked<R: Files + Print + Eprint + AllocGlobal + Host>(
@@ -186,7 +217,8 @@ where
         return cannot_open(rt, asked.batches);
     };
     let store = match store_of(rt, asked.store) {
-        Ok(store) => store,
+        Ok(Some(store)) => store,
+        Ok(None) => return run_resumed(rt, image, batches, asked, from),
         Err(status) => return status,
     };
     let mut image_source = Telling::new(Counting::new(image));
