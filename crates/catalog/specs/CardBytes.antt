@@ -1,4 +1,4 @@
--- The bytes of cards, and the digest of them all: of each the code of its key, the length of the body, and the body.
+-- The bytes of a card: its key's code, the length of the body, and the body; and the digest of all cards.
 use Rattle.std.specs.Prelude.{◌≡◌, ℕ, ◌+◌, ◌*◌, ◌^◌, List, [], ◌∷◌, ◌++◌, codes}
 use Rattle.std.specs.FinMap as map
 use Rattle.std.specs.List.{flat_map}
@@ -16,8 +16,7 @@ use Rattle.tpcc_rows.specs.Encodings.{bytes_16, bytes_32, bytes_64, short_text, 
 use Rattle.tpcc_rows.specs.Limits.{IsBetween}
 use Rattle.tpcc_rows.specs.declared.key.RowKey.TheVariants as row_key
 
--- the code of a card's key: that of its row, and one of its own of a district, which has two rows, and of an item, which
--- has none
+-- the code of a card's key: its row's; districts, which have two rows, and items, which have none, get codes of their own
 abbrev pub card_code : CardKey → ℕ
 card_code (key.Warehouse w) = code (row_key.Warehouse w)
 card_code (key.District w d) = 2 * 2 ^ 56 + district_code w d
@@ -33,7 +32,7 @@ IsCardKey (key.Customer w d c) = IsKey (row_key.Customer w d c)
 IsCardKey (key.Stock w i) = IsKey (row_key.Stock w i)
 IsCardKey (key.Item i) = IsBetween 1 100000 i
 
--- keys of cards stand in the order of their codes
+-- keys of cards are ordered as their codes
 abbrev pub OrderIsOfCardCodes : Type 0
 OrderIsOfCardCodes = (a b : CardKey) → IsCardKey a → IsCardKey b → card_key_cmp a b ≡ nat_cmp (card_code a) (card_code b)
 
@@ -55,6 +54,6 @@ abbrev pub cards_bytes : List (CardKey × Card) → List ℕ
 cards_bytes [] = []
 cards_bytes (e ∷ es) = card_bytes e.0 e.1 ++ cards_bytes es
 
--- the digest of a catalog: that of its cards in rising code
+-- the digest of a catalog: its cards' bytes in ascending code, hashed
 unfoldable pub catalog_digest : Cards → List ℕ
 catalog_digest cards = sha256 (cards_bytes (map.entries cards))

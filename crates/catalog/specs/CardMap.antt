@@ -26,7 +26,7 @@ cards_code = finmap.code key_row.coded card_row.coded
 abbrev pub keyed : Card → CardKey × Card
 keyed card = (card_key card, card)
 
--- each card stands at its own key
+-- each card is at its own key
 abbrev pub AreKeyed : Cards → Type 0
 AreKeyed cards = (key : CardKey) (card : Card) → finmap.get cards key ≡ Some card → card_key card ≡ key
 
@@ -42,16 +42,16 @@ has_key key card = eq_by_cmp card_key_cmp key (card_key card)
 abbrev pub cards_in : List (CardKey × Card) → Cards
 cards_in entries = finmap.from_sorted entries
 
--- two of the cards have one key
+-- two of the cards share a key
 abbrev pub has_twins : List Card → Bool
 has_twins [] = false
 has_twins (card ∷ later) = list_any (λ twin. has_key (card_key twin) card) later || has_twins later
 
--- the cards of a list, of each key the first one
+-- the cards of a list; a key's first one counts
 abbrev pub firsts : List (CardKey × Card) → Cards
 firsts entries = finmap.from_entries entries
 
--- the cards of the list, and those of other keys
+-- the cards of the list replace those with their keys
 abbrev pub over : List (CardKey × Card) → Cards → Cards
 over late cards = firsts (late ++ finmap.entries cards)
 

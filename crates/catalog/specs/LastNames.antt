@@ -22,17 +22,17 @@ customer_cards cards = customers_among (map.entries cards)
 abbrev pub is_holder : ℕ → ℕ → List ℕ → CustomerCard → Bool
 is_holder w d last c = c.warehouse == w && c.district == d && bytes_eq c.last last
 
--- the first stands before the second: by C_FIRST, and then by C_ID
+-- the first is before the second: by C_FIRST, then by C_ID
 abbrev pub stands_before : CustomerCard → CustomerCard → Bool
 stands_before a b = is_lt (ordering_then (slice_cmp nat_cmp a.first b.first) (nat_cmp a.customer b.customer))
 
--- as many of the holders stand before this one as before the one at n/2 rounded up, counted from 1
+-- this holder is the one at n/2 rounded up, counted from 1: as many are before it
 abbrev pub is_middle : List CustomerCard → CustomerCard → Bool
 is_middle holders c = count_by (λ other. stands_before other c) holders == (length holders + 1) / 2 - 1
 
 unfoldable pub middle_of : List CustomerCard → Option ℕ
 middle_of holders = option_map (λ c. c.customer) (find (is_middle holders) holders)
 
--- the number of the customer of the district whom the last name means, where any has it
+-- the number of the district's customer chosen by the last name, if any has it
 unfoldable pub customer_by_last : Cards → ℕ → ℕ → List ℕ → Option ℕ
 customer_by_last cards w d last = middle_of (filter (is_holder w d last) (customer_cards cards))

@@ -1,4 +1,4 @@
--- The customers in the order in which they are found by last name.
+-- The customers, sorted for the search by last name.
 use Rattle.std.specs.Prelude.{◌≡◌, ℕ, ◌+◌, ◌<◌, ◌≤◌, Bool, true, false, List, length, slice_index_or, count_by}
 use Rattle.std.specs.Cmp.Lexicographic.{slice_cmp}
 use Rattle.std.specs.List.Sorted.{IsSorted}
@@ -21,7 +21,7 @@ name_of c = (c.warehouse, c.district, c.last)
 abbrev pub name_cmp : Name → Name → Ordering
 name_cmp a b = ordering_then (nat_cmp a.0 b.0) (ordering_then (nat_cmp a.1 b.1) (slice_cmp nat_cmp a.2 b.2))
 
--- and then by C_FIRST and C_ID
+-- then by C_FIRST and C_ID
 abbrev pub named_cmp : NamedCustomer → NamedCustomer → Ordering
 named_cmp a b = ordering_then (name_cmp (name_of a) (name_of b)) (ordering_then (slice_cmp nat_cmp a.first b.first) (nat_cmp a.customer b.customer))
 
@@ -34,7 +34,7 @@ pub record AreInOrder (cards : List CustomerCard) (names : List NamedCustomer) :
 abbrev pub has_name : Name → NamedCustomer → Bool
 has_name t c = eq_by_cmp name_cmp (name_of c) t
 
--- just the customers from start on, as many as count, have the name
+-- exactly the `count` customers from `start` on have the name
 pub record StandsAt (names : List NamedCustomer) (t : Name) (start count : ℕ) : Type 0 where
   pub within : start + count ≤ length names
   pub before : (i : ℕ) (d : NamedCustomer) → i < start → has_name t (slice_index_or names i d) ≡ false

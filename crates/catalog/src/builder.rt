@@ -1,4 +1,4 @@
-//! How a catalog is made.
+//! Builds catalogs.
 ghost use Rattle.std.specs.Prelude.{◌≡◌, ◌++◌, IfOk, IfErr, IsSome, Ok, OnErr, OnOk, None, Some, false, is_some, true};
 ghost use Rattle.std.specs.FinMap as map;
 ghost use Rattle.catalog.specs.CardKinds.{card_key};
@@ -33,11 +33,11 @@ impl From<Memory> for CatalogError {
     }
 }
 
-/// A catalog that is being made: a finite map from keys to cards, each card at its own key.
+/// A catalog under construction: a finite map from keys to cards, each at its own key.
 #[derive(Drop)]
 pub struct CatalogBuilder {
     in_order: Rising,
-    /// Cards that came out of order, each in place of another one of its key.
+    /// Cards that came out of order; each replaces an earlier one with its key.
     late: BTreeMap<CardKey, Card>,
 }
 
@@ -53,7 +53,7 @@ impl Model for CatalogBuilder {
     ghost invariant = { λ s. AreKeyed (over s.late.entries s.in_order) };
 }
 
-/// The late cards and the earlier ones of other keys.
+/// Merges the late cards into the earlier ones; a late card replaces one with its key.
 fn with_earlier(
     late: BTreeMap<CardKey, Card>,
     cards: Vec<(CardKey, Card)>,
@@ -80,7 +80,7 @@ impl CatalogBuilder {
         }
     }
 
-    /// Takes a card in order, whose key no late one has; or gives it back.
+    /// Takes a card that comes in order and whose key no late one has, or gives it back.
     fn push(&mut self, card: Card) -> Result<Option<Card>, Memory>
         ensures fresh { result ≡ Ok None → map.get self.old (card_key card) ≡ None }
         ensures taken { result ≡ Ok None → self.new ≡ map.insert self.old (card_key card) card }
@@ -94,7 +94,7 @@ impl CatalogBuilder {
         self.in_order.push(key, card)
     }
 
-    /// Takes a card out of order, in place of the one that has its key. The answer is whether there was one.
+    /// Takes a card out of order, replacing one with its key, and says whether there was one.
     fn insert(&mut self, card: Card) -> Result<bool, Memory>
         ensures ok { OnOk result (self.new ≡ map.insert self.old (card_key card) card) }
         ensures twin { IfOk result (λ twin. twin ≡ is_some (map.get self.old (card_key card))) }
@@ -106,7 +106,7 @@ impl CatalogBuilder {
         Ok(is_twin)
     }
 
-    /// One card more, whose key none of the others has. After `Twice` it stands in place of the other one.
+    /// Adds a card with a new key. On `Twice` it has replaced the other one.
     pub fn add(&mut self, card: Card) -> Result<(), CatalogError>
         ensures ok { OnOk result (self.new ≡ map.insert self.old (card_key card) card) }
         ensures fresh { OnOk result (map.get self.old (card_key card) ≡ None) }
@@ -125,7 +125,7 @@ impl CatalogBuilder {
         }
     }
 
-    /// The catalog, whose customers are put in the order of their names.
+    /// The finished catalog, with its customers sorted by name.
     pub fn finish(self, alloc: Global) -> Result<Catalog, Memory>
         ensures cards { IfOk result (λ catalog. catalog ≡ self) }
         ensures keyed { IfOk result AreKeyed }
@@ -141,7 +141,7 @@ impl CatalogBuilder {
 }
 
 impl Catalog {
-    /// The catalog of these cards, of which no two have one key; `Twice` where two have.
+    /// The catalog of these cards; `Twice` if two share a key.
     pub fn new(alloc: Global, cards: Vec<Card>) -> Result<Catalog, CatalogError>
         ensures ok { IfOk result (λ catalog. catalog ≡ cards_of cards.items) }
         ensures keyed { IfOk result AreKeyed }

@@ -8,7 +8,7 @@ use tpcc_rows::id::{CustomerId, DistrictId, ItemId, WarehouseId};
 use tpcc_rows::number::{Price, Rate};
 use tpcc_rows::text::Text;
 
-/// The key of a card. The derived order is that of the keys' codes: the kind first, then the columns from the left.
+/// The key of a card. The derived order is that of the codes: the kind first, then the columns from the left.
 #[derive(Clone, Copy, PartialEq, Eq, PartialOrd, Ord)]
 pub enum CardKey {
     Warehouse {
@@ -88,7 +88,7 @@ impl Model for DistrictInfos {
 }
 
 impl DistrictInfos {
-    /// The texts of the ten districts in their order, None where they aren't ten.
+    /// The texts of the ten districts in order; `None` if they aren't ten.
     pub fn new(infos: Vec<Text<24>>) -> Option<DistrictInfos>
         ensures { result ≡ (if vec_len infos == 10 then Some infos.items else None) }
     {
@@ -118,7 +118,7 @@ pub struct StockCard {
 }
 
 impl StockCard {
-    /// The one of S_DIST_01 to S_DIST_10 that has the district's number.
+    /// S_DIST_nn of the district.
     pub fn district_info(&self, district: DistrictId) -> &Text<24>
         ensures { result.now ≡ district_info self.now district }
     {

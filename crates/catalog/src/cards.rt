@@ -15,7 +15,7 @@ use tpcc_rows::id::{CustomerId, DistrictId, ItemId, WarehouseId};
 use tpcc_rows::memory::Memory;
 use tpcc_rows::text::Text;
 
-/// A finite map from keys to cards, each card at its own key. It is made by a `CatalogBuilder`, and doesn't change.
+/// An immutable map from keys to cards, each at its own key, built by a `CatalogBuilder`.
 #[derive(Drop)]
 pub struct Catalog {
     cards: Vec<(CardKey, Card)>,
@@ -41,7 +41,7 @@ impl Model for Catalog {
 }
 
 impl Catalog {
-    /// The catalog of these cards, which stand in the order of their keys.
+    /// The catalog of these cards, sorted by key.
     pub(crate) fn from_cards(alloc: Global, cards: Vec<(CardKey, Card)>) -> Result<Catalog, Memory>
         requires order { are_in_order card_key_cmp cards.items ≡ true }
         requires keyed { AreKeyed (cards_in cards.items) }
@@ -57,7 +57,7 @@ impl Catalog {
         })
     }
 
-    /// The card of a key, where there is one.
+    /// The card of a key, if there is one.
     pub fn get(&self, key: &CardKey) -> Option<&Card>
         ensures { option_copied result ≡ map.get self.now key.now }
     {
@@ -96,8 +96,8 @@ impl Catalog {
         self.get(&key)?.as_customer()
     }
 
-    /// The customer of the district whom a last name means (TPC-C clauses 2.5.2.2 and 2.6.2.2): of n with this name,
-    /// in the order of C_FIRST and then C_ID, the one at n/2 rounded up.
+    /// Finds a customer by last name (TPC-C clauses 2.5.2.2 and 2.6.2.2): of n in the district with this name, ordered by
+    /// C_FIRST and then C_ID, the one at n/2 rounded up.
     #[tactic(auto, unfolding(crate::specs::LastNames::customer_by_last))]
     pub fn by_last(
         &self,
@@ -122,7 +122,7 @@ impl Catalog {
         self.get(&CardKey::Item { item })?.as_item()
     }
 
-    /// How many cards there are.
+    /// The number of cards.
     pub fn len(&self) -> usize
         ensures value { result ≡ length (map.entries self.now) }
         ensures small { result < 2 ^ 63 }
@@ -130,7 +130,7 @@ impl Catalog {
         self.cards().len()
     }
 
-    /// The cards with their keys, in rising code.
+    /// The cards with their keys, in ascending code.
     pub fn cards(&self) -> &[(CardKey, Card)]
         ensures all { result.now ≡ map.entries self.now }
         ensures keyed { AreKeyed self.now }

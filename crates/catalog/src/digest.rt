@@ -1,4 +1,4 @@
-//! The digest of a catalog, and the bytes of cards that it is of.
+//! The bytes of cards, and the digest of a catalog.
 ghost use Rattle.std.specs.Prelude.{◌≡◌, ◌≤◌, ◌++◌, length};
 ghost use Rattle.std.specs.List.{flat_map};
 ghost use Rattle.catalog.specs.CardBytes.{card_body, card_bytes, card_code, catalog_digest, credit_text};
@@ -14,8 +14,7 @@ use tpcc_rows::number::Rate;
 use tpcc_rows::row_buf::RowBuf;
 use tpcc_rows::text::Text;
 
-/// The code of a card's key: that of its row, and one of its own of a district, which has two rows, and of an item,
-/// which has none.
+/// The code of a card's key: its row's; districts, which have two rows, and items, which have none, get codes of their own.
 fn card_code(key: &CardKey) -> u64
     ensures { result ≡ card_code key.now }
 {
@@ -76,7 +75,7 @@ fn push_customer(card: &CustomerCard, out: &mut RowBuf)
     out.push_16(card.discount.value());
 }
 
-/// How many bytes the texts take, with the byte before each.
+/// The bytes of the texts, with a length byte each.
 fn infos_len(infos: &DistrictInfos) -> u16
     ensures value { result ≡ length (flat_map short_text infos.now) }
     ensures fits { result ≤ 250 }
@@ -135,7 +134,7 @@ fn push_card(card: &Card, out: &mut RowBuf)
     }
 }
 
-/// Fills the buffer anew with the bytes of a card.
+/// Replaces the buffer's content by the bytes of a card.
 #[tactic(auto, unfolding(crate::specs::CardBytes::card_bytes))]
 fn encode_card(key: &CardKey, card: &Card, out: &mut RowBuf)
     ensures { out.new ≡ card_bytes key.now card.now }
@@ -146,7 +145,7 @@ fn encode_card(key: &CardKey, card: &Card, out: &mut RowBuf)
 }
 
 impl Catalog {
-    /// The digest of all cards. It takes no memory.
+    /// The digest of all cards, without allocating.
     pub fn digest(&self) -> [u8; 32]
         ensures { result ≡ catalog_digest self.now }
     {

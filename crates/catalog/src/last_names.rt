@@ -14,7 +14,7 @@ use tpcc_rows::id::{CustomerId, DistrictId, WarehouseId};
 use tpcc_rows::memory::Memory;
 use tpcc_rows::text::Text;
 
-/// What a customer is found by, and its number.
+/// A customer's names and number.
 #[derive(Drop)]
 pub(crate) struct NamedCustomer {
     warehouse: WarehouseId,
@@ -48,7 +48,7 @@ impl NamedCustomer {
         place.then_with(|| self.last.as_bytes().cmp(last.as_bytes()))
     }
 
-    // And then by C_FIRST and C_ID.
+    // Then by C_FIRST and C_ID.
     fn cmp(&self, other: &NamedCustomer) -> Ordering
         ensures { result ≡ named_cmp self.now other.now }
     {
@@ -70,7 +70,7 @@ fn named_customers(alloc: Global, cards: &[(CardKey, Card)]) -> Result<Vec<Named
     Ok(customers)
 }
 
-/// The customers in the order of warehouse, district, C_LAST, C_FIRST and C_ID.
+/// The customers, sorted by warehouse, district, C_LAST, C_FIRST and C_ID.
 #[derive(Drop)]
 pub(crate) struct LastNames {
     customers: Vec<NamedCustomer>,
@@ -86,7 +86,7 @@ impl Model for LastNames {
 }
 
 impl LastNames {
-    /// Those of these cards, which stand in the order of their keys.
+    /// The customers of these cards, which are sorted by key.
     pub(crate) fn new(alloc: Global, cards: &[(CardKey, Card)]) -> Result<LastNames, Memory>
         requires order { are_in_order card_key_cmp cards.now ≡ true }
         requires keyed { AreKeyed (cards_in cards.now) }
@@ -97,7 +97,7 @@ impl LastNames {
         Ok(LastNames { customers })
     }
 
-    /// Where the customers of the district with this last name begin, and how many they are.
+    /// The first of the district's customers with this last name, and their number.
     fn holders(
         &self,
         warehouse: WarehouseId,
@@ -115,7 +115,7 @@ impl LastNames {
         (start, count)
     }
 
-    /// The customer of the district whom the last name means, where any has it.
+    /// Finds a customer of the district by last name.
     pub(crate) fn middle(
         &self,
         warehouse: WarehouseId,

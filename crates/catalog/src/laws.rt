@@ -1,8 +1,7 @@
-//! A law of the keys of cards, as the contract of a function that does nothing.
+//! A law of the keys of cards, as the contract of an empty function.
 ghost use Rattle.catalog.specs.CardBytes.{OrderIsOfCardCodes};
 
-/// Keys of cards within their limits stand in the order of their codes, and so `Catalog::cards` gives the cards in
-/// rising code.
+/// Keys of cards within their limits are ordered as their codes, so `Catalog::cards` gives the cards in ascending code.
 pub fn card_order()
     ensures { OrderIsOfCardCodes }
 {}

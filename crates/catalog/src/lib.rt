@@ -1,5 +1,4 @@
-//! The fixed columns of the tables: a card for each warehouse, district, customer, stock and item, which never
-//! changes after loading.
+//! The columns that never change after loading: a card for each warehouse, district, customer, stock and item.
 #![tactic(auto)]
 
 pub mod builder;

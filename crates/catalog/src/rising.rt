@@ -1,4 +1,4 @@
-//! Cards that come in the order of their keys, as those of a stored image do.
+//! Cards that come in key order, as in a stored image.
 ghost use Rattle.std.specs.Prelude.{◌≡◌, [], None, Ok, OnErr, Some, IfOk, IsTrue, is_some, true};
 ghost use Rattle.std.specs.FinMap as map;
 ghost use Rattle.catalog.specs.CardMap.{IsBefore, IsBehind, card_key_cmp, cards_in};
@@ -10,8 +10,8 @@ use std::alloc::Global;
 use std::marker::Model;
 use tpcc_rows::memory::Memory;
 
-/// A finite map from keys to cards, which takes a card behind all others; and one of another kind than the items, whose cards are the
-/// last ones, also right before these. So items may come before stocks, as they do in an image.
+/// A sorted map of cards that takes a card at its end; or right before the items, the last kind, so that items may come before
+/// stocks, as in an image.
 #[derive(Drop)]
 pub(crate) struct Rising {
     others: Vec<(CardKey, Card)>,
@@ -65,7 +65,7 @@ impl Rising {
         }
     }
 
-    /// Takes a card behind all others, or gives it back.
+    /// Takes a card at the end, or gives it back.
     fn push_item(&mut self, key: CardKey, card: Card) -> Result<Option<Card>, Memory>
         ensures fresh { result ≡ Ok None → map.get self.old key ≡ None }
         ensures taken { result ≡ Ok None → self.new ≡ map.insert self.old key card }
@@ -93,7 +93,7 @@ impl Rising {
         Ok(None)
     }
 
-    /// Takes a card where its key comes next, or gives it back.
+    /// Takes a card whose key comes next, or gives it back.
     pub(crate) fn push(&mut self, key: CardKey, card: Card) -> Result<Option<Card>, Memory>
         ensures fresh { result ≡ Ok None → map.get self.old key ≡ None }
         ensures taken { result ≡ Ok None → self.new ≡ map.insert self.old key card }
@@ -106,14 +106,14 @@ impl Rising {
         }
     }
 
-    /// Whether one of the cards has the key.
+    /// Whether a card has the key.
     pub(crate) fn has(&self, key: &CardKey) -> bool
         ensures { result ≡ is_some (map.get self.now key.now) }
     {
         has(&self.others, key) || has(&self.items, key)
     }
 
-    /// The cards in their order.
+    /// The cards in order.
     pub(crate) fn into_cards(self) -> Result<Vec<(CardKey, Card)>, Memory>
         ensures order { IfOk result (λ cards. are_in_order card_key_cmp cards.items ≡ true) }
         ensures all { IfOk result (λ cards. cards_in cards.items ≡ self) }

@@ -1,5 +1,5 @@
-//! Cards in one piece of memory, in the order of their keys. Where the numbers of a kind have no gaps, as in a database of full
-//! scale, a card's place follows from its key, and is found at once.
+//! Cards in a vector sorted by key. If a kind's numbers have no gaps, as in a database of full scale, a card's place follows from
+//! its key.
 ghost use Rattle.std.specs.Prelude.{◌≡◌, IfOk, IsTrue, Ok, is_some, option_copied, true};
 ghost use Rattle.std.specs.FinMap as map;
 ghost use Rattle.catalog.specs.CardMap.{card_key_cmp, cards_in};
@@ -10,10 +10,10 @@ use std::alloc::Global;
 use std::collections::BTreeMap;
 use tpcc_rows::memory::Memory;
 
-/// Districts of a warehouse.
+/// The districts of a warehouse.
 const DISTRICTS: usize = 10;
 
-/// Where the cards of each kind begin, which stand in this order, after those of the warehouses.
+/// Where the cards of each kind begin, in this order after the warehouses.
 #[derive(Clone, Copy)]
 pub(crate) struct Layout {
     districts: usize,
@@ -47,18 +47,18 @@ impl Layout {
         }
     }
 
-    /// How many customers a district has, where all have as many.
+    /// The customers of a district, if all have the same number.
     fn customers_of_one(&self) -> usize {
         let districts = self.customers.saturating_sub(self.districts);
         self.stocks.saturating_sub(self.customers) / districts.max(1)
     }
 
-    /// How many stocks a warehouse has, where all have as many.
+    /// The stocks of a warehouse, if all have the same number.
     fn stocks_of_one(&self) -> usize {
         self.items.saturating_sub(self.stocks) / self.districts.max(1)
     }
 
-    /// Where the card of the key is, if no number of its kind is left out.
+    /// Where the key's card is, if its kind has no gaps.
     fn guess(&self, key: &CardKey) -> usize {
         match *key {
             CardKey::Warehouse { warehouse } => before(usize::from(warehouse.number())),
@@ -95,12 +95,12 @@ impl Layout {
     }
 }
 
-/// How many numbers from 1 on are less.
+/// The number of lesser numbers, from 1 on.
 fn before(number: usize) -> usize {
     number.saturating_sub(1)
 }
 
-/// Where the key's card is, or where one would stand.
+/// Where the key's card is, or would be inserted.
 fn place_of(cards: &[(CardKey, Card)], key: &CardKey) -> Result<usize, usize>
     requires { are_in_order card_key_cmp cards.now ≡ true }
     ensures { IsPlaceOf card_key_cmp key.now cards.now result }
@@ -108,7 +108,7 @@ fn place_of(cards: &[(CardKey, Card)], key: &CardKey) -> Result<usize, usize>
     cards.binary_search_by(|entry| entry.0.cmp(key))
 }
 
-/// The place of the key, where its card is at the guessed one.
+/// The guessed place of the key, if its card is there.
 fn guessed(cards: &[(CardKey, Card)], key: &CardKey, guess: usize) -> bool
     ensures { IsTrue result → IsPlaceOf card_key_cmp key.now cards.now (Ok guess) }
 {
@@ -118,7 +118,7 @@ fn guessed(cards: &[(CardKey, Card)], key: &CardKey, guess: usize) -> bool
     }
 }
 
-/// Whether one of the cards has the key.
+/// Whether a card has the key.
 pub(crate) fn has(cards: &[(CardKey, Card)], key: &CardKey) -> bool
     requires { are_in_order card_key_cmp cards.now ≡ true }
     ensures { result ≡ is_some (map.get (cards_in cards.now) key.now) }
@@ -126,7 +126,7 @@ pub(crate) fn has(cards: &[(CardKey, Card)], key: &CardKey) -> bool
     place_of(cards, key).is_ok()
 }
 
-/// The cards of a tree in their order, each moved.
+/// Moves the cards of a tree into a vector, in order.
 pub(crate) fn moved(
     alloc: Global,
     cards: BTreeMap<CardKey, Card>,
@@ -141,7 +141,7 @@ pub(crate) fn moved(
     Ok(moved)
 }
 
-/// The card of a key, where there is one.
+/// The card of a key, if there is one.
 pub(crate) fn found<'a>(
     cards: &'a [(CardKey, Card)],
     layout: &Layout,

@@ -1,4 +1,4 @@
--- What the record says that begins a command.
+-- The first record of a command.
 use Rattle.std.specs.Prelude.{◌≤◌, Bool, true, codes, Result, Ok, if◌then◌else◌}
 use Rattle.csv.specs.Records.{field_at}
 use Rattle.commands.specs.declared.command.Control.{Control}
@@ -28,7 +28,7 @@ opening_at fields =
     else if is_text (codes "A") (field_at fields 0) then alone_at fields control.At >>= (λ c. Ok (opening.Control c))
     else head_at fields >>= (λ head. Ok (opening.Batch head))
 
--- the first field is that of a command: no request begins with one of these
+-- the first field is a command's: no request begins with one of these
 abbrev pub names_command : Fields → Bool
 names_command fields =
     if is_text (codes "B") (field_at fields 0) then true

@@ -18,15 +18,15 @@ use Rattle.requests.specs.Batches.{End, batch_of, clean, fault}
 use Rattle.requests.specs.declared.batch_record.BatchHead.{BatchHead}
 use Rattle.requests.specs.declared.request.Request.{Request}
 
--- the commands, with the faults among them, and the end after them
+-- the commands, with the faults among them, then the end
 abbrev pub Hearing : Type 0
 Hearing = List Heard × End
 
 abbrev pub with_front : Heard → Hearing → Hearing
 with_front h hearing = (h ∷ hearing.0, hearing.1)
 
--- between commands, within a batch of which these requests were read, or behind a fault, where records are passed over up to the next
--- that names a command
+-- between commands, within a batch after these requests, or behind a fault, where records are skipped up to the next that names a
+-- command
 pub data Place : Type 0 where
   between : Place
   within : BatchHead → List Request → Place
@@ -36,60 +36,60 @@ pub data Place : Type 0 where
 abbrev pub fault_at : ℕ → Slip → Heard
 fault_at n slip = heard.Fault (record { number = n; slip = slip })
 
--- a batch with as many requests as its count is whole, and what follows goes on from there
+-- a batch with all its requests is complete, and reading continues behind it
 abbrev pub settled : BatchHead → List Request → (Place → Hearing) → Hearing
 settled head requests rest =
     if length requests == head.count then with_front (heard.Command (command.Batch (batch_of head requests))) (rest between)
     else rest (within head requests)
 
--- a record that begins a command, or is one
+-- a record that begins or is a command
 abbrev pub opened : Opening → (Place → Hearing) → Hearing
 opened (opening.Batch head) rest = settled head [] rest
 opened (opening.Control c) rest = with_front (heard.Command (command.Control c)) (rest between)
 
--- the record of this number begins a command, or is at fault
+-- the record of this number begins a command, or is faulty
 abbrev pub begun : ℕ → Result Opening Slip → (Place → Hearing) → Hearing
 begun n (Ok first) rest = opened first rest
 begun n (Err slip) rest = with_front (fault_at n slip) (rest behind)
 
--- the record of this number is the batch's next request, or at fault: then none of the batch is a command
+-- the record of this number is the batch's next request, or faulty: then the batch is dropped
 abbrev pub continued : ℕ → BatchHead → List Request → Result Request Slip → (Place → Hearing) → Hearing
 continued n head requests (Ok request) rest = settled head (requests ++ request ∷ []) rest
 continued n head requests (Err slip) rest = with_front (fault_at n slip) (rest behind)
 
--- what the record of this number says at a place
+-- the meaning of the record of this number, by place
 abbrev pub told : ℕ → Place → Fields → (Place → Hearing) → Hearing
 told n between r rest = begun n (opening_at r) rest
 told n (within head requests) r rest = continued n head requests (request_at r) rest
 told n behind r rest = if names_command r then begun n (opening_at r) rest else rest behind
 
--- where no record follows the one of this number
+-- no record follows the one of this number
 abbrev pub ended : ℕ → Place → Hearing
 ended n between = ([], clean)
 ended n (within head requests) = ([], fault (err.WrongCount (n + 1)))
 ended n behind = ([], clean)
 
--- so many bytes, where a command may have so many
+-- this number of bytes, if a command may have as many
 abbrev pub measured : ℕ → Hearing → Hearing
 measured size hearing = if nat_lt MOST_BYTES size then ([], fault err.InputTooLong) else hearing
 
--- a record of this number, where a session may have so many
+-- a record of this number, if a session may have as many
 abbrev pub numbered : ℕ → Hearing → Hearing
 numbered n hearing = if nat_lt LAST_RECORD n then ([], fault err.InputTooLong) else hearing
 
--- the bytes that count at a place: those of a batch that isn't whole
+-- the bytes that count at a place: those of an incomplete batch
 abbrev pub counted : ℕ → Place → ℕ
 counted size between = 0
 counted size (within head requests) = size
 counted size behind = 0
 
--- what these records say, behind the one of this number, where so many bytes of a command were read; so many stand behind the last record
+-- the commands of these records, behind the one of this number and this many bytes of a command; this many bytes follow the last record
 unfoldable pub commands_from : List Row → ℕ → ℕ → ℕ → Place → Hearing
 commands_from [] rest n spent place = measured (spent + rest) (ended n place)
 commands_from (row ∷ rows) rest n spent place =
     measured (spent + row.1) (numbered (n + 1) (told (n + 1) place row.0 (λ next. commands_from rows rest (n + 1) (counted (spent + row.1) next) next)))
 
--- the same of records with the bytes behind them
+-- the same for records with the bytes behind them
 abbrev pub commands_of : Rows → ℕ → ℕ → Place → Hearing
 commands_of rows n spent place = commands_from rows.0 rows.1 n spent place
 
@@ -97,9 +97,9 @@ commands_of rows n spent place = commands_from rows.0 rows.1 n spent place
 abbrev pub commands : List ℕ → Hearing
 commands bytes = commands_of (rows_in bytes) 0 0 between
 
--- ---- what a reader has still to give
--- the bytes that were pulled and not read, if the text was begun, and where the last that was read leads; whether that was at fault;
--- how many records were read; whether the text is at its end, and the error by which the reader stopped, if it did
+-- ---- what a reader has yet to give
+-- the bytes pulled and not yet read, if the text was begun; the state after the last byte read; whether a fault was met; the number
+-- of records read; whether the text ended; and the error that stopped the reader, if any
 pub record CommandsLeft : Type 0 where
   pub unread : Option (List ℕ)
   pub state : State
@@ -108,18 +108,18 @@ pub record CommandsLeft : Type 0 where
   pub is_over : Bool
   pub stopped : Option ReadError
 
--- a command was given, or a fault
+-- a command or a fault was given
 abbrev pub Gives : Heard → Option Hearing → Option Hearing → Type 0
 Gives h None new = Unit {0}
 Gives h (Some old) None = ⊥
 Gives h (Some old) (Some new) = old ≡ with_front h new
 
--- none is left, and no fault
+-- none is left, nor a fault
 abbrev pub IsOver : Option Hearing → Type 0
 IsOver None = Unit {0}
 IsOver (Some hearing) = hearing ≡ ([], clean)
 
--- nothing is given for this reason: memory was refused, the bytes couldn't be read, or the session ends with this fault
+-- why nothing is given: out of memory, a failed read, or a fault that ends the session
 abbrev pub StopsBy : ReadError → Option Hearing → Type 0
 StopsBy e None = Unit {0}
 StopsBy e (Some hearing) = (e ≡ err.Memory) ⊎ (e ≡ err.Read) ⊎ (hearing ≡ ([], fault e))

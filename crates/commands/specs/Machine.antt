@@ -1,4 +1,4 @@
--- The states of a reader of records, and what a byte does, as `csv` has them.
+-- The states and transitions of a reader of records, as in `csv`.
 use Rattle.std.specs.Prelude.{◌≡◌}
 use Rattle.commands.specs.declared.machine.Action.{Action}
 use Rattle.commands.specs.declared.machine.Action.TheVariants as action
@@ -23,6 +23,6 @@ action_of action.Copy = act.Copy
 action_of action.EndField = act.EndField
 action_of action.EndRecord = act.EndRecord
 
--- a byte leads to this state, by this action
+-- the state and action for a byte
 abbrev pub Leads : State → Action → Where.State × Its.Action → Type 0
 Leads s a its = (state_of s ≡ its.0) × (action_of a ≡ its.1)

@@ -1,4 +1,4 @@
-//! The bytes of a source, pulled many at once and read one by one.
+//! A buffered source, read byte by byte.
 ghost use Rattle.std.specs.Prelude.{◌≡◌, ◌+◌, ◌<◌, ◌≤◌, ◌^◌, ◌∷◌, [], true, false, drop, take, is_ok, if◌then◌else◌, option_map, IfOk, IfNone, IfSome, OnOk};
 ghost use Rattle.std.specs.Io.KnownBytes.{Consumes, IsAtEnd, Keeps};
 ghost use Rattle.commands.specs.Reader.{pulled};
@@ -13,7 +13,7 @@ fn is_mark(first: u8, second: u8, third: u8) -> bool
     first == 0xEF && second == 0xBB && third == 0xBF
 }
 
-/// Bytes that were pulled, and how many of them were read.
+/// The bytes pulled, and the number of those read.
 #[derive(Drop)]
 pub(crate) struct Chunk {
     buffer: [u8; 8192],
@@ -33,7 +33,7 @@ impl Chunk {
         }
     }
 
-    /// Whether all bytes were read that were pulled.
+    /// Whether all pulled bytes were read.
     fn is_read(&self) -> bool
         ensures none { result ≡ true → drop self.now.at (take self.now.filled self.now.buffer) ≡ [] }
         ensures some { result ≡ false → (self.now.at < self.now.filled) × (self.now.at < 8192) }
@@ -41,7 +41,7 @@ impl Chunk {
         self.at >= self.filled.min(self.buffer.len())
     }
 
-    /// Pulls more bytes, where all were read. None means the end.
+    /// Pulls more bytes, if all were read. None means the end.
     #[inline(never)]
     fn pull<S: Source>(&mut self, source: &mut S) -> Result<usize, Failed>
         requires empty { drop self.old.at (take self.old.filled self.old.buffer) ≡ [] }
@@ -78,7 +78,7 @@ impl Chunk {
         Ok(true)
     }
 
-    /// Begins a text: a byte order mark at its start is left out, and no more is pulled than may be one.
+    /// Begins a text: skips a byte order mark, pulling no more than one needs.
     #[inline(never)]
     pub fn begin<S: Source>(&mut self, source: &mut S) -> Result<(), Failed>
         requires { S.failed source.old < 2 ^ 63 }

@@ -1,38 +1,38 @@
-//! What a session is told to do.
+//! The commands of a session.
 use records::fault::Slip;
 use requests::request::Batch;
 
 /// A command that is one record.
 #[derive(Clone, Copy)]
 pub enum Control {
-    /// The oldest uncommitted batch is committed.
+    /// Commits the oldest uncommitted batch.
     Commit,
-    /// The state after the batch of this number is the present one again.
+    /// Rolls back to the state after the batch of this number.
     RollbackTo(u64),
-    /// The present state is told.
+    /// Prints the present state's number and token.
     State,
-    /// The image of the present state is written.
+    /// Writes the image of the present state.
     Image,
-    /// Where the present state stands is told.
+    /// Prints the present stamp.
     At,
 }
 
-/// What a session is told to do.
+/// A command of a session.
 #[derive(Drop)]
 pub enum Command {
-    /// The batch is executed.
+    /// Executes the batch.
     Batch(Batch),
     Control(Control),
 }
 
-/// What is wrong with a record, and its number.
+/// What is wrong with a record, and the record's number.
 #[derive(Clone, Copy)]
 pub struct RecordFault {
     pub number: u64,
     pub slip: Slip,
 }
 
-/// What is heard of a session: a command, or the fault of a record in its place.
+/// A command, or the fault of a record in its place.
 #[derive(Drop)]
 pub enum Heard {
     Command(Command),

@@ -1,4 +1,4 @@
-//! The commands of a text, one after the other, as its bytes come.
+//! Reads the commands of a text, as its bytes come.
 ghost use Rattle.std.specs.Prelude.{◌≡◌, ◌+◌, ◌<◌, ◌≤◌, ◌^◌, ℕ, List, Option, [], Err, IfErr, IfNone, IfOk, IfSome, None, OnOk, OnSome, Some, if◌then◌else◌, option_map};
 ghost use Rattle.commands.specs.Commands.{Gives, IsOver, StopsBy, commands, is_read};
 ghost use Rattle.commands.specs.Reader.{heard_from};
@@ -13,7 +13,7 @@ use records::io::Source;
 use std::alloc::Global;
 use std::marker::Model;
 
-/// Where a reader of commands stands.
+/// The state of a reader of commands.
 #[derive(Clone, Copy)]
 enum Standing {
     Going,
@@ -21,8 +21,8 @@ enum Standing {
     Stopped(ReadError),
 }
 
-/// Reads commands in turn, each as soon as its last record's line end has come. A record at fault stands for a command, and those behind
-/// it are passed over up to the next that names a command.
+/// Reads commands one by one, each as soon as its last record's line end has come. A faulty record counts as a command, and the
+/// records behind it are skipped up to the next that names a command.
 #[derive(Drop)]
 pub struct CommandReader {
     records: RecordReader,
@@ -42,7 +42,7 @@ impl Model for CommandReader {
 }
 
 impl CommandReader {
-    /// All commands of the text are left that a source has.
+    /// A reader at the start of a source's text.
     pub fn new(alloc: Global) -> CommandReader
         ensures all { (known : Option (List ℕ)) → heard_from result known ≡ option_map commands known }
         ensures read { result.read ≡ 0 }
@@ -55,8 +55,7 @@ impl CommandReader {
         }
     }
 
-    /// The next command or fault, or none where the text ends between commands. An error that was answered is the answer of each
-    /// further call.
+    /// Reads the next command or fault, or `None` at the end. After an error each further call returns it again.
     pub fn next_heard<S: Source>(
         &mut self,
         alloc: Global,
@@ -71,11 +70,11 @@ impl CommandReader {
         ensures going { OnOk result (self.new.stopped ≡ None) }
         ensures again { IfSome self.old.stopped (λ e. result ≡ Err e) }
 
-        // Each has a record, and the numbers of records have an end.
+        // Each takes a record, and record numbers are bounded.
         ensures further { IfOk result (λ o. OnSome o (self.old.read < self.new.read)) }
         ensures within { self.new.read ≤ LAST_RECORD }
 
-        // A source that failed is the reason of the answer, and is asked no more.
+        // A failed source is the cause of the error, and isn't asked again.
         ensures failures { self.old.stopped ≡ None → S.failed source.new ≡ S.failed source.old + (if is_read result then 1 else 0) }
         ensures no_failures { OnSome self.old.stopped (S.failed source.new ≡ S.failed source.old) }
     {

@@ -1,4 +1,4 @@
-//! The record that begins a command.
+//! The first record of a command.
 ghost use Rattle.std.specs.Prelude.{◌≡◌, IfOk};
 ghost use Rattle.csv.specs.Records.{fields_of};
 ghost use Rattle.commands.specs.CommandRecords.{IsShortOpening, alone_at, names_command, opening_at, rollback_at};
@@ -8,18 +8,19 @@ use csv::ByteRecord;
 use records::fault::Slip;
 use records::fields::{has_text, number_at};
 use requests::batch_record::{BatchHead, batch_head};
+use tpcc_rows::id::END_OF_NUMBERS;
 
-/// The greatest number of a state to go back to.
-const LAST_SEQUENCE: u64 = 999_999_999_999_999;
+/// The greatest number of a batch to roll back to.
+const LAST_SEQUENCE: u64 = END_OF_NUMBERS - 1;
 
-/// What the first record of a command says: a batch begins, or it is the whole command.
+/// The first record of a command: it begins a batch, or is the whole command.
 #[derive(Clone, Copy)]
 pub(crate) enum Opening {
     Batch(BatchHead),
     Control(Control),
 }
 
-/// The number of a state, in the second of two fields.
+/// Parses the batch number, in the second of two fields.
 fn rollback(fields: &ByteRecord) -> Result<Control, Slip>
     ensures { result ≡ rollback_at (fields_of fields.now) }
 {
@@ -29,7 +30,7 @@ fn rollback(fields: &ByteRecord) -> Result<Control, Slip>
     Ok(Control::RollbackTo(number_at(fields, 1, 0, LAST_SEQUENCE)?))
 }
 
-/// A command that is one field.
+/// Parses a command of one field.
 fn alone(fields: &ByteRecord, control: Control) -> Result<Control, Slip>
     ensures { result ≡ alone_at (fields_of fields.now) control }
 {
@@ -39,7 +40,7 @@ fn alone(fields: &ByteRecord, control: Control) -> Result<Control, Slip>
     Ok(control)
 }
 
-/// What the record says that begins a command.
+/// Parses the first record of a command.
 pub(crate) fn opening_at(fields: &ByteRecord) -> Result<Opening, Slip>
     ensures value { result ≡ opening_at (fields_of fields.now) }
     ensures range { IfOk result IsShortOpening }
@@ -62,7 +63,7 @@ pub(crate) fn opening_at(fields: &ByteRecord) -> Result<Opening, Slip>
     Ok(Opening::Batch(batch_head(fields)?))
 }
 
-/// Whether a record's first field is that of a command.
+/// Whether a record's first field is a command's.
 pub(crate) fn names_command(fields: &ByteRecord) -> bool
     ensures { result ≡ names_command (fields_of fields.now) }
 {

@@ -1,12 +1,12 @@
-//! Laws of commands, as contracts of functions that do nothing.
+//! Laws of commands, as contracts of empty functions.
 ghost use Rattle.commands.specs.Laws.{BatchesAreHeard, RowsAreRecords};
 
-/// The records by which commands are read are those by which batches are.
+/// Commands are read from the same records as batches.
 pub fn same_records()
     ensures { RowsAreRecords }
 {}
 
-/// A session hears the batches that a run reads of the same text; where the run ends with a fault, the session tells it and goes on.
+/// A session hears the batches that a run reads from the same text; where the run ends with a fault, the session reports it and goes on.
 pub fn same_batches()
     ensures { BatchesAreHeard }
 {}

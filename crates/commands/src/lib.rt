@@ -1,5 +1,5 @@
-//! The commands of a session: batches of requests, and what is to become of them, as the records of a text that is read as it
-//! comes.
+//! The commands of a session, as the records of a text that is read as it comes: batches to execute, commits, rollbacks and
+//! questions.
 #![tactic(auto)]
 
 mod chunk;

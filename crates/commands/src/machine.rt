@@ -1,10 +1,10 @@
-//! What a byte does to a reader of records, as `csv` reads them by its defaults.
+//! The state machine of a reader of records, as in `csv` by default.
 ghost use Rattle.std.specs.Prelude.{◌≡◌};
 ghost use Rattle.commands.specs.Machine.{Leads, state_of};
 ghost use Rattle.csv.specs.Machine.{ends_at_end, in_field, start_field, start_record, step};
 ghost use Rattle.csv.specs.Reading.{default_config};
 
-/// Where a reader stands in a record.
+/// The state within a record.
 #[derive(Clone, Copy, PartialEq, Eq)]
 pub(crate) enum State {
     StartRecord,
@@ -12,11 +12,11 @@ pub(crate) enum State {
     InField,
     InQuoted,
     AfterQuote,
-    /// Behind a carriage return that ended a record.
+    /// After a carriage return that ended a record.
     AfterReturn,
 }
 
-/// What a byte does.
+/// The action of a byte.
 #[derive(Clone, Copy, PartialEq, Eq)]
 pub(crate) enum Action {
     Skip,
@@ -82,7 +82,7 @@ fn after_return(byte: u8) -> (State, Action)
     start_record(byte)
 }
 
-/// The state after a byte, and what the byte does.
+/// The state after a byte, and the byte's action.
 pub(crate) fn step(state: State, byte: u8) -> (State, Action)
     ensures { Leads result.0 result.1 (step default_config (state_of state) byte) }
 {

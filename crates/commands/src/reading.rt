@@ -1,4 +1,4 @@
-//! A command, or a fault in its place, read from the records that a text has left.
+//! Reads a command, or a fault in its place, from a text's remaining records.
 ghost use Rattle.std.specs.Prelude.{◌≡◌, ◌+◌, ◌<◌, ◌≤◌, ◌^◌, [], IfErr, IfNone, IfOk, IfSome, OnOk, OnSome, if◌then◌else◌, option_map};
 ghost use Rattle.commands.specs.CommandRecords.{opening_at};
 ghost use Rattle.commands.specs.Commands.{StopsBy, begun, commands_of, is_read, settled, with_front};
@@ -17,8 +17,8 @@ use requests::request::{Batch, Requests};
 use requests::request_record::request;
 use std::alloc::Global;
 
-/// Reads the record that is to begin a command: the next one, or behind a fault the next that names a command. The answer is how many
-/// bytes of the command were read then.
+/// Reads the first record of a command: the next one, or behind a fault the next that names a command. Returns the number of bytes
+/// of the command read so far.
 fn next_opening<S: Source>(
     records: &mut RecordReader,
     source: &mut S,
@@ -51,7 +51,7 @@ fn next_opening<S: Source>(
     }
 }
 
-/// Reads the requests of a batch that begins so, of which so many bytes were read. Where one is at fault, none of the batch is a command.
+/// Reads the requests of a batch with this first record, of which this many bytes were read. If one is faulty, the batch is dropped.
 fn read_batch<S: Source>(
     alloc: Global,
     records: &mut RecordReader,

@@ -1,4 +1,4 @@
-//! The records of a text, one after the other, as its bytes come.
+//! Reads the records of a text, as its bytes come.
 ghost use Rattle.std.specs.Prelude.{◌≡◌, ◌⊎◌, ◌+◌, ◌-◌, ◌<◌, ◌≤◌, ◌^◌, ◌++◌, ◌∷◌, [], ℕ, List, Option, true, IfErr, IfNone, IfOk, IfSome, OnOk, OnSome, if◌then◌else◌, is_ok, option_map};
 ghost use Rattle.std.specs.Io.KnownBytes.{Keeps};
 ghost use Rattle.commands.specs.Commands.{Place, StopsBy, commands_of, ended, is_read, told};
@@ -17,29 +17,30 @@ use csv::ByteRecord;
 use records::fault::ReadError;
 use records::io::{Failed, Source};
 use std::alloc::Global;
+use tpcc_rows::id::END_OF_NUMBERS;
 
 /// The greatest number of a record.
-pub const LAST_RECORD: u64 = 999_999_999_999_999;
+pub const LAST_RECORD: u64 = END_OF_NUMBERS - 1;
 
-/// The most bytes of a command, and of a record that is passed over: 64 MB.
+/// The most bytes of a command, and of a skipped record: 64 MB.
 pub const MOST_BYTES: u64 = 67_108_864;
 
-/// Reads the records of a text in turn, each as soon as its line end has come.
+/// Reads the records of a text one by one, each as soon as its line end has come.
 #[derive(Drop)]
 pub(crate) struct RecordReader {
     chunk: Chunk,
     has_begun: bool,
     state: State,
-    /// The field at hand.
+    /// The current field.
     field: Vec<u8>,
-    /// The record that was read last.
+    /// The last record read.
     pub fields: ByteRecord,
-    /// How many records were read.
+    /// The number of records read.
     pub read: u64,
 }
 
 impl RecordReader {
-    /// All records of a text are left.
+    /// A reader at the start of a text.
     pub fn new(alloc: Global) -> RecordReader
         ensures all { (known : Option (List ℕ)) → rows_left result known ≡ option_map rows_in known }
         ensures read { result.read ≡ 0 }
@@ -54,7 +55,7 @@ impl RecordReader {
         }
     }
 
-    /// The field at hand joins the record.
+    /// Adds the current field to the record.
     fn end_field(&mut self) -> Result<(), ReadError>
         requires { partial_of self.old.fields ≡ [] }
         ensures fields { OnOk result (fields_of self.new.fields ≡ fields_of self.old.fields ++ self.old.field.items ∷ []) }
@@ -68,7 +69,7 @@ impl RecordReader {
         Ok(())
     }
 
-    /// Does what a byte does to the record at hand, and says whether it ends the record.
+    /// Applies a byte to the current record, and says whether it ends the record.
     fn take(&mut self, byte: u8) -> Result<bool, ReadError>
         requires { partial_of self.old.fields ≡ [] }
         ensures state { OnOk result (state_of self.new.state ≡ (step default_config (state_of self.old.state) byte).0) }
@@ -117,7 +118,7 @@ impl RecordReader {
         Ok(true)
     }
 
-    /// Reads the bytes of the next record, if there is one. The answer is how many of the command were read then.
+    /// Reads the bytes of the next record, if there is one. Returns the number of bytes of the command read so far.
     fn scan<S: Source>(&mut self, source: &mut S, spent: u64) -> Result<Option<u64>, ReadError>
         requires fields { fields_of self.old.fields ≡ [] }
         requires partial { partial_of self.old.fields ≡ [] }
@@ -157,7 +158,7 @@ impl RecordReader {
         }
     }
 
-    /// Leaves out a byte order mark at the start of the text.
+    /// Skips a byte order mark at the start of the text.
     fn begin<S: Source>(&mut self, source: &mut S) -> Result<(), Failed>
         requires { S.failed source.old < 2 ^ 63 }
         ensures keeps { OnOk result (Keeps (bytes_left self.old (S.left source.old)) (pulled self.new.chunk (S.left source.new))) }
@@ -174,7 +175,7 @@ impl RecordReader {
         Ok(())
     }
 
-    /// Reads the next record of a command of which so many bytes were read, if there is one. The answer is how many were read then.
+    /// Reads the next record of a command of which this many bytes were read, if there is one. Returns the number read then.
     pub fn next_record<S: Source>(
         &mut self,
         source: &mut S,

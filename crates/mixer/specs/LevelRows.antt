@@ -7,7 +7,7 @@ use Rattle.signatures_simd.specs.Bits.{bit}
 use Rattle.mixer.specs.declared.rows.Rows.{Rows}
 use Rattle.mixer.specs.declared.signing.Signed.{Signed}
 
--- what a request declares, and the footprints of those done, each with its level
+-- what a request declares, and the footprints placed so far, each with its level
 abbrev pub Declared : Type 0
 Declared = Footprint Granule
 
@@ -18,6 +18,6 @@ Done = List (ℕ × Declared)
 abbrev pub IsSigned : Signed → Declared → Type 0
 IsSigned s f = level_rows.IsSigned bit s.reads s.writes f
 
--- what the levels of those done read, and what they write
+-- what the levels so far read, and what they write
 abbrev pub AreRows : Rows → Done → Type 0
 AreRows rows done = level_rows.AreRows bit rows.reads.items rows.writes.items done

@@ -1,4 +1,4 @@
-//! A column has a number for each slot.
+//! Columns: a number a slot.
 ghost use Rattle.std.specs.Prelude.{◌≡◌, length, map, vec_len};
 ghost use Rattle.mixer.specs.Columns.{IsRaised, highest};
 ghost use Rattle.mixer.specs.Slots.{slot};
@@ -19,7 +19,7 @@ pub(crate) fn highest(column: &[u16], granules: &[Granule]) -> u16
     top
 }
 
-/// Raises the numbers at the slots of these granules, where they are lower, to this one.
+/// Raises the numbers at the slots of these granules to at least this one.
 pub(crate) fn raise(column: &mut Vec<u16>, granules: &[Granule], to: u16)
     requires { vec_len column.old ≡ SLOTS }
     ensures len { vec_len column.new ≡ SLOTS }

@@ -75,7 +75,7 @@ pub fn mix(alloc: Global, footprints: &[Footprint]) -> Result<Cut, Memory>
     cut_of(alloc, &levels)
 }
 
-/// The cut of a batch by the granules themselves, but for the few that share a slot: fewer levels, with more requests each, than by
+/// Cuts a batch by granules, which conflict only if they share a slot, as few do: fewer levels, with more requests each, than by
 /// signatures.
 pub fn mix_exactly(alloc: Global, footprints: &[Footprint]) -> Result<Cut, Memory>
     requires { length footprints.now ≤ 1024 }

@@ -5,7 +5,7 @@ ghost use Rattle.mixer.specs.Slots.{slot};
 use signatures_simd::{MULTIPLIER, packed};
 use tpcc_rows::granule::Granule;
 
-/// How many slots there are: so many that of the granules of a batch few share one.
+/// The number of slots: so many that few granules of a batch share one.
 pub(crate) const SLOTS: usize = 262_144;
 
 /// The slot of a granule, from 0 to 262,143.

@@ -9,7 +9,7 @@ use std::alloc::Global;
 use tpcc_rows::footprint::Footprint;
 use tpcc_rows::memory::Memory;
 
-/// For each slot, one more than the greatest level of those so far that write a granule of it, and of those that touch one.
+/// For each slot, one above the highest level so far that writes one of its granules, and that touches one.
 #[derive(Drop)]
 pub(crate) struct Table {
     written: Vec<u16>,
@@ -41,7 +41,7 @@ impl Table {
         })
     }
 
-    /// One more than the greatest level so far that writes what the request reads, or touches what it writes.
+    /// One above the highest level so far that writes what the request reads, or touches what it writes.
     fn level_of(&self, footprint: &Footprint) -> u16
         ensures level { (done : Done) → AreColumns self.now done → result ≡ level_after (meets_by slot) done footprint.now }
         ensures bound { result ≤ self.now.placed }
@@ -51,7 +51,7 @@ impl Table {
         behind_writes.max(behind_touches)
     }
 
-    /// The level of the next request, which joins the columns.
+    /// Puts the next request on its level, and returns that.
     pub(crate) fn place(&mut self, footprint: &Footprint) -> usize
         requires { self.old.placed < 1024 }
         ensures level { (done : Done) → AreColumns self.old done → result ≡ level_after (meets_by slot) done footprint.now }

@@ -1,4 +1,4 @@
--- How faults of an input are reported.
+-- How faults in an input are reported.
 use Rattle.std.specs.Prelude.{ℕ, List, codes, Option, Some, None}
 use Rattle.records.specs.declared.fault.ReadError.{ReadError}
 use Rattle.records.specs.declared.fault.ReadError.TheVariants as err

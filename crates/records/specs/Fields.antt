@@ -1,4 +1,4 @@
--- What the field of a record says.
+-- The values of a record's fields.
 use Rattle.std.specs.Prelude.{Bool, false, ◌==◌, ◌&&◌, nat_le, ◌-ℤ◌, ◌≤ℤ◌, ℕ, ℤ, pos, List, [], ◌∷◌, length, codes, Option, Some, None, Result, Ok, Err, if◌then◌else◌}
 use Rattle.std.specs.Char.{is_ascii_digit}
 use Rattle.std.specs.List.{list_all}
@@ -14,13 +14,13 @@ use Rattle.records.specs.declared.fault.Slip.TheVariants as slip
 abbrev pub Fields : Type 0
 Fields = List (List ℕ)
 
--- one field after another: the first fault from the left decides
+-- field by field: the first fault from the left decides
 infixl 10 ◌>>=◌
 abbrev pub ◌>>=◌ : {A B : Type 0} → Result A Slip → (A → Result B Slip) → Result B Slip
 (Ok x) >>= f = f x
 (Err e) >>= f = Err e
 
--- `0`, or digits of which the first isn't `0`
+-- `0`, or digits without a leading `0`
 abbrev pub is_numeral : List ℕ → Bool
 is_numeral [] = false
 is_numeral (c ∷ cs) = if c == 48 then length cs == 0 else list_all is_ascii_digit (c ∷ cs)
@@ -29,11 +29,11 @@ is_numeral (c ∷ cs) = if c == 48 then length cs == 0 else list_all is_ascii_di
 abbrev pub in_range : ℕ → ℕ → ℕ → Result ℕ Slip
 in_range low high n = if nat_le low n && nat_le n high then Ok n else Err slip.OutOfRange
 
--- what the bytes say as a number from low to high
+-- the bytes as a number from low to high
 abbrev pub number_in : ℕ → ℕ → List ℕ → Result ℕ Slip
 number_in low high bytes = if is_numeral bytes then in_range low high (digits_value 10 bytes) else Err slip.BadField
 
--- what is said by the field at a place, which is to be there
+-- the value of the field at a place; a missing field is a fault
 abbrev pub said_by : {A : Type 0} → (List ℕ → Result A Slip) → Option (List ℕ) → Result A Slip
 said_by says None = Err slip.WrongCount
 said_by says (Some bytes) = says bytes
@@ -46,11 +46,11 @@ number_at fields i low high = said_by (number_in low high) (field_at fields i)
 abbrev pub IsWithin : ℕ → ℤ → Type 0
 IsWithin most z = ((pos 0 -ℤ pos most) ≤ℤ z) × (z ≤ℤ pos most)
 
--- a number below zero, down to -most, from what comes after its sign: `-0` is none
+-- a negative number, down to -most, from the digits after its sign: `-0` isn't one
 abbrev pub below_zero : ℕ → List ℕ → Result ℤ Slip
 below_zero most digits = if bytes_eq digits (codes "0") then Err slip.BadField else number_in 0 most digits >>= λ n. Ok (pos 0 -ℤ pos n)
 
--- what the bytes say as a number from -most to most
+-- the bytes as a number from -most to most
 abbrev pub signed_in : ℕ → List ℕ → Result ℤ Slip
 signed_in most [] = Err slip.BadField
 signed_in most (c ∷ cs) = if c == 45 then below_zero most cs else number_in 0 most (c ∷ cs) >>= λ n. Ok (pos n)
@@ -58,14 +58,14 @@ signed_in most (c ∷ cs) = if c == 45 then below_zero most cs else number_in 0 
 abbrev pub signed_at : Fields → ℕ → ℕ → Result ℤ Slip
 signed_at fields i most = said_by (signed_in most) (field_at fields i)
 
--- what the bytes say as a text of at most so many bytes
+-- the bytes as a text of at most this length
 abbrev pub text_in : ℕ → List ℕ → Result (List ℕ) Slip
 text_in most bytes = ok_or (text_of most bytes) slip.BadField
 
 abbrev pub text_at : Fields → ℕ → ℕ → Result (List ℕ) Slip
 text_at fields i most = said_by (text_in most) (field_at fields i)
 
--- what a record says where it has so many fields
+-- a record's value, if it has this number of fields
 abbrev pub of_count : {A : Type 0} → ℕ → Fields → Result A Slip → Result A Slip
 of_count count fields said = if length fields == count then said else Err slip.WrongCount
 
@@ -74,6 +74,6 @@ abbrev pub is_text : List ℕ → Option (List ℕ) → Bool
 is_text text None = false
 is_text text (Some bytes) = bytes_eq bytes text
 
--- the number in the field at this place, or null where the field is a dash
+-- the number in the field at this place, or null for a dash
 abbrev pub number_or_null_at : Fields → ℕ → ℕ → ℕ → Result (Option ℕ) Slip
 number_or_null_at fields i low high = if is_text (codes "-") (field_at fields i) then Ok None else number_at fields i low high >>= λ n. Ok (Some n)

@@ -4,7 +4,7 @@ use Rattle.csv.specs.Writing.{default_writer, fields_written, has_written, with_
 use Rattle.csv.specs.declared.writer.Writer.{Writer}
 
 module _ {A : Type 0} where
-  -- a writer by the defaults, of records of any lengths, before the first field of one
+  -- a writer with the defaults, any numbers of fields, at the start of a record
   pub record IsWriting (writer : Writer (Vec ℕ A)) : Type 0 where
     pub setup : writer_setup writer ≡ with_flexible default_writer true
     pub fields : fields_written writer ≡ 0

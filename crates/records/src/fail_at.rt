@@ -1,9 +1,9 @@
-//! An end that fails at a chosen call.
+//! A source or sink that fails at a chosen call.
 ghost use Rattle.std.specs.Prelude.{◌≡◌, ◌==◌, ◌+◌, ◌-◌, ◌<◌, ◌^◌};
 
 use crate::io::{Failed, Sink, Source};
 
-/// An end whose call number `at`, counted from 0, fails, and with it each call that `inner` fails.
+/// Fails call number `at`, counted from 0, and each call that `inner` fails.
 #[derive(Drop)]
 pub struct FailAt<T> {
     pub inner: T,
@@ -13,7 +13,7 @@ pub struct FailAt<T> {
 }
 
 impl<T> FailAt<T> {
-    /// Nothing was called so far.
+    /// Before the first call.
     pub fn new(inner: T, at: u64) -> FailAt<T>
         ensures inner { result.inner ≡ inner }
         ensures at { result.at ≡ at }
@@ -28,7 +28,7 @@ impl<T> FailAt<T> {
         }
     }
 
-    /// Whether the call that begins is the one that fails.
+    /// Whether the current call is the one to fail.
     fn fails(&mut self) -> bool
         ensures same { self.new ≡ record self.old { calls = self.new.calls } }
         ensures value { result ≡ (self.old.calls == self.old.at) }
@@ -39,7 +39,7 @@ impl<T> FailAt<T> {
         call == self.at
     }
 
-    /// One failure more.
+    /// Counts a failure.
     fn failure(&mut self) -> Failed
         requires { self.old.failures + 1 < 2 ^ 64 }
         ensures { self.new ≡ record self.old { failures = self.old.failures + 1 } }

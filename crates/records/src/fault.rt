@@ -1,4 +1,4 @@
-//! Why an input gives no batch.
+//! Faults in an input.
 ghost use Rattle.std.specs.Prelude.{◌≡◌};
 ghost use Rattle.records.specs.Faults.{code_of, name_of, place_of};
 ghost use Rattle.records.specs.declared.fault.ReadError.TheVariants as read_error;
@@ -7,10 +7,10 @@ use std::alloc::{AllocError, AllocFailed};
 use thiserror::Error;
 use tpcc_rows::memory::Memory;
 
-/// Why an input gives no batch. A number is that of the record at fault, counted from 1.
+/// Why an input yields no batch. A number is the faulty record's, counted from 1.
 #[derive(Clone, Copy, Debug, PartialEq, Eq, Error)]
 pub enum ReadError {
-    /// A field is no number, text, verdict or form of choice.
+    /// A field isn't a number, text, verdict or form of choice.
     #[error("record {0}: a field isn't of its kind")]
     BadField(u64),
     /// A record has too few or too many fields, or is missing.
@@ -19,13 +19,13 @@ pub enum ReadError {
     /// A number is outside its limits.
     #[error("record {0}: a number is outside its limits")]
     OutOfRange(u64),
-    /// A record is of a kind that isn't wanted at its place.
+    /// A record of this kind doesn't belong here.
     #[error("record {0}: another kind of record is wanted here")]
     UnknownKind(u64),
     /// A batch has more requests than the limit.
     #[error("record {0}: the batch has too many requests")]
     BatchTooLong(u64),
-    /// Memory was refused.
+    /// An allocation failed.
     #[error("memory was refused")]
     Memory,
     /// The source failed.
@@ -69,7 +69,7 @@ impl ReadError {
         }
     }
 
-    /// The number of the record at fault, where the fault is one of a record.
+    /// The number of the faulty record, if the fault is a record's.
     pub fn record(self) -> Option<u64>
         ensures { result ≡ place_of self }
     {

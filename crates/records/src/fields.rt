@@ -1,4 +1,4 @@
-//! What the fields of a record say: numbers, money, texts, each within its limits.
+//! Parses the fields of a record: numbers, money, texts, each with its limits.
 ghost use Rattle.std.specs.Prelude.{◌≡◌, ◌<◌, ◌≤◌, ◌^◌, IfOk};
 ghost use Rattle.std.specs.Char.{is_ascii_digit};
 ghost use Rattle.std.specs.List.{list_all};
@@ -23,7 +23,7 @@ fn all_digits(field: &[u8]) -> bool
     field.iter().all(|byte| byte.is_ascii_digit())
 }
 
-/// Whether these bytes are a number: `0`, or digits of which the first isn't `0`.
+/// Whether these bytes are a number: `0`, or digits without a leading `0`.
 fn is_numeral(field: &[u8]) -> bool
     ensures { result ≡ is_numeral field.now }
 {
@@ -34,7 +34,7 @@ fn is_numeral(field: &[u8]) -> bool
     }
 }
 
-/// The number that a field says, from `low` to `high`.
+/// Parses a number from `low` to `high`.
 pub fn number(field: &[u8], low: u64, high: u64) -> Result<u64, Slip>
     requires { high < 2 ^ 60 }
     ensures value { result ≡ number_in low high field.now }
@@ -56,7 +56,7 @@ pub fn number(field: &[u8], low: u64, high: u64) -> Result<u64, Slip>
     Ok(number)
 }
 
-/// The number at this place of a record, from `low` to `high`.
+/// Parses the field at this place as a number from `low` to `high`.
 pub fn number_at(fields: &ByteRecord, i: usize, low: u64, high: u64) -> Result<u64, Slip>
     requires { high < 2 ^ 60 }
     ensures value { result ≡ number_at (fields_of fields.now) i low high }
@@ -68,7 +68,7 @@ pub fn number_at(fields: &ByteRecord, i: usize, low: u64, high: u64) -> Result<u
     }
 }
 
-/// A number below zero, from what comes after its sign.
+/// Parses a negative number, from the digits after its sign.
 fn number_below_zero(digits: &[u8], most: u64) -> Result<i64, Slip>
     requires { most < 2 ^ 60 }
     ensures value { result ≡ below_zero most digits.now }
@@ -81,7 +81,7 @@ fn number_below_zero(digits: &[u8], most: u64) -> Result<i64, Slip>
     Ok(0 - number as i64)
 }
 
-/// The number that a field says, from `-most` to `most`.
+/// Parses a number from `-most` to `most`.
 pub fn signed(field: &[u8], most: u64) -> Result<i64, Slip>
     requires { most < 2 ^ 60 }
     ensures value { result ≡ signed_in most field.now }
@@ -94,7 +94,7 @@ pub fn signed(field: &[u8], most: u64) -> Result<i64, Slip>
     }
 }
 
-/// The number at this place of a record, from `-most` to `most`.
+/// Parses the field at this place as a number from `-most` to `most`.
 pub fn signed_at(fields: &ByteRecord, i: usize, most: u64) -> Result<i64, Slip>
     requires { most < 2 ^ 60 }
     ensures value { result ≡ signed_at (fields_of fields.now) i most }
@@ -106,7 +106,7 @@ pub fn signed_at(fields: &ByteRecord, i: usize, most: u64) -> Result<i64, Slip>
     }
 }
 
-/// Whether a record has this text at this place.
+/// Whether the field at this place is this text.
 pub fn has_text(fields: &ByteRecord, i: usize, text: &[u8]) -> bool
     ensures { result ≡ is_text text.now (field_at (fields_of fields.now) i) }
 {
@@ -116,7 +116,7 @@ pub fn has_text(fields: &ByteRecord, i: usize, text: &[u8]) -> bool
     }
 }
 
-/// The text at this place of a record.
+/// Parses the field at this place as a text.
 pub fn text<const N: usize>(fields: &ByteRecord, i: usize) -> Result<Text<N>, Slip>
     ensures { result ≡ text_at (fields_of fields.now) i N }
 {

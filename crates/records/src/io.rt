@@ -1,22 +1,22 @@
-//! Where bytes come from and go to, with each failure counted.
+//! Sources and sinks of bytes, with failures counted.
 ghost use Rattle.std.specs.Prelude.{◌≡◌, ℕ, ◌+◌, ◌<◌, ◌≤◌, ◌^◌, List, Option, length, take, is_ok, if◌then◌else◌, IfOk, OnErr};
 ghost use Rattle.std.specs.Io.KnownBytes.{Appends, Consumes, IsAtEnd, Keeps};
 
 use std::io::{Read, Write};
 
-/// A call failed, and took or gave nothing.
+/// A call failed, and moved no bytes.
 #[derive(Clone, Copy, Debug, PartialEq, Eq)]
 pub struct Failed;
 
-/// What bytes are pulled from.
+/// A source of bytes.
 pub trait Source {
-    // The bytes that are left, where they are known.
+    // The remaining bytes, if known.
     ghost left: { Self → Option (List ℕ) };
 
-    // How many calls failed.
+    // The number of failed calls.
     ghost failed: { Self → ℕ };
 
-    /// The next bytes, at the front of `into`. For a slice that is not empty, 0 means the end.
+    /// Reads the next bytes into the front of `into`. For a nonempty slice, 0 means the end.
     fn pull(&mut self, into: &mut [u8]) -> Result<usize, Failed>
         requires { failed self.old < 2 ^ 63 }
         ensures within { IfOk result (λ n. n ≤ length into.new) }
@@ -25,20 +25,20 @@ pub trait Source {
         ensures err { OnErr result (Keeps (left self.old) (left self.new)) }
         ensures count { failed self.new ≡ failed self.old + (if is_ok result then 0 else 1) };
 
-    /// How many calls failed.
+    /// The number of failed calls.
     fn failures(&self) -> u64
         ensures { result ≡ failed self.now };
 }
 
-/// What bytes are pushed to.
+/// A sink of bytes.
 pub trait Sink {
-    // The bytes that were taken, where they are known.
+    // The bytes taken, if known.
     ghost taken: { Self → Option (List ℕ) };
 
-    // How many calls failed.
+    // The number of failed calls.
     ghost failed: { Self → ℕ };
 
-    /// Takes some bytes from the front, at least one of a slice that is not empty.
+    /// Takes a prefix, of at least one byte unless the slice is empty.
     fn push(&mut self, bytes: &[u8]) -> Result<usize, Failed>
         requires { failed self.old < 2 ^ 63 }
         ensures within { IfOk result (λ n. n ≤ length bytes.now) }
@@ -47,19 +47,19 @@ pub trait Sink {
         ensures err { OnErr result (Keeps (taken self.old) (taken self.new)) }
         ensures count { failed self.new ≡ failed self.old + (if is_ok result then 0 else 1) };
 
-    /// Hands on what was taken.
+    /// Flushes what was taken.
     fn flush(&mut self) -> Result<(), Failed>
         requires { failed self.old < 2 ^ 63 }
         ensures bytes { Keeps (taken self.old) (taken self.new) }
         ensures count { failed self.new ≡ failed self.old + (if is_ok result then 0 else 1) };
 
-    /// How many calls failed.
+    /// The number of failed calls.
     fn failures(&self) -> u64
         ensures { result ≡ failed self.now };
 }
 
-/// A reader or a writer as an end. Each of its errors is a failure, also an interruption, and so is a write of bytes
-/// that takes none of them.
+/// A reader or writer as a source or sink. Each error is a failure, even an interruption, and so is a write that takes no
+/// bytes.
 #[derive(Drop)]
 pub struct Counting<T> {
     pub inner: T,
@@ -67,7 +67,7 @@ pub struct Counting<T> {
 }
 
 impl<T> Counting<T> {
-    /// No failure so far.
+    /// Without failures so far.
     pub fn new(inner: T) -> Counting<T>
         ensures inner { result.inner ≡ inner }
         ensures count { result.failures ≡ 0 }
@@ -75,7 +75,7 @@ impl<T> Counting<T> {
         Counting { inner, failures: 0 }
     }
 
-    /// One failure more.
+    /// Counts a failure.
     fn failure(&mut self) -> Failed
         requires { self.old.failures + 1 < 2 ^ 64 }
         ensures { self.new ≡ record self.old { failures = self.old.failures + 1 } }

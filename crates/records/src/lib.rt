@@ -1,5 +1,4 @@
-//! Records as bytes: the ends that bytes come from and go to, the records that bytes hold, and the fields that records
-//! hold, read and written.
+//! Reads and writes CSV records: the sources and sinks of bytes, records, and their fields.
 #![tactic(auto)]
 
 pub mod fail_at;

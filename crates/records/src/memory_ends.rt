@@ -1,10 +1,10 @@
-//! Ends over memory, which give or take only so many bytes a call.
+//! In-memory sources and sinks that move a few bytes a call.
 ghost use Rattle.std.specs.Prelude.{◌≡◌, ◌<◌, [], Some};
 
 use crate::io::{Failed, Sink, Source};
 use std::alloc::Global;
 
-/// A source over a slice, which gives at most `step` bytes a call and never fails.
+/// A source over a slice that gives at most `step` bytes a call and never fails.
 #[derive(Drop)]
 pub struct BytesSource<'a> {
     pub left: &'a [u8],
@@ -40,7 +40,7 @@ impl<'a> Source for BytesSource<'a> {
     }
 }
 
-/// A sink over a `Vec`, which takes at most `step` bytes a call. It fails where memory is refused.
+/// A sink over a `Vec` that takes at most `step` bytes a call, and fails if an allocation does.
 #[derive(Drop)]
 pub struct BytesSink {
     pub bytes: Vec<u8>,
@@ -50,7 +50,7 @@ pub struct BytesSink {
 }
 
 impl BytesSink {
-    /// Nothing taken so far.
+    /// An empty sink.
     pub fn new(alloc: Global, step: usize) -> BytesSink
         requires { 0 < step }
         ensures bytes { result.bytes.items ≡ [] }

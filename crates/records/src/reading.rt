@@ -1,4 +1,4 @@
-//! The records of a text, one after the other.
+//! Reads the records of a text.
 ghost use Rattle.std.specs.Prelude.{◌≡◌, ◌∷◌, [], true, false, IfOk};
 ghost use Rattle.csv.specs.Records.{fields_of};
 ghost use Rattle.records.specs.Records.{IsGoing, records_in, records_left};
@@ -7,7 +7,7 @@ use csv::{ByteRecord, ErrorKind, Reader, ReaderBuilder};
 use std::alloc::Global;
 use tpcc_rows::memory::Memory;
 
-/// A reader of the records of a text with no header row, of any lengths.
+/// A reader of records with any numbers of fields, without a header row.
 pub fn records_of(alloc: Global, text: &[u8]) -> Reader<&[u8]>
     ensures going { IsGoing result }
     ensures all { records_left result ≡ records_in text.now }
@@ -18,8 +18,8 @@ pub fn records_of(alloc: Global, text: &[u8]) -> Reader<&[u8]>
         .from_reader(alloc, text)
 }
 
-/// Reads the next record, if there is one. A slice has no errors of its own, and a reader of records of any lengths
-/// refuses none, so what is left is want of memory.
+/// Reads the next record, if there is one. A slice has no errors and a reader of any numbers of fields refuses none, so
+/// only memory can run out.
 pub fn next_record(reader: &mut Reader<&[u8]>, fields: &mut ByteRecord) -> Result<bool, Memory>
     requires { IsGoing reader.old }
     ensures found { IfOk result (λ found. found ≡ true

@@ -1,4 +1,4 @@
-//! Records that are built field by field, and their text.
+//! Builds records field by field, and formats them.
 ghost use Rattle.std.specs.Prelude.{◌≡◌, ◌∷◌, [], OnOk, IfOk, decimal};
 ghost use Rattle.std.specs.Fmt.{signed_decimal};
 ghost use Rattle.csv.specs.Records.{fields_of, partial_of};
@@ -18,7 +18,7 @@ pub fn push(fields: &mut ByteRecord, field: &[u8]) -> Result<(), Memory>
     Ok(())
 }
 
-/// Adds a number in decimals.
+/// Adds a number in decimal.
 pub fn push_number(fields: &mut ByteRecord, number: u64) -> Result<(), Memory>
     requires { partial_of fields.old ≡ [] }
     ensures { OnOk result (AddsFields fields.old fields.new (decimal number ∷ [])) }
@@ -26,7 +26,7 @@ pub fn push_number(fields: &mut ByteRecord, number: u64) -> Result<(), Memory>
     push(fields, Buffer::new().format(number).as_bytes())
 }
 
-/// Adds a number that may be below zero.
+/// Adds a signed number.
 pub fn push_signed(fields: &mut ByteRecord, number: i64) -> Result<(), Memory>
     requires { partial_of fields.old ≡ [] }
     ensures { OnOk result (AddsFields fields.old fields.new (signed_decimal number ∷ [])) }
@@ -34,7 +34,7 @@ pub fn push_signed(fields: &mut ByteRecord, number: i64) -> Result<(), Memory>
     push(fields, Buffer::new().format(number).as_bytes())
 }
 
-/// Adds a number, or a dash where there is none.
+/// Adds a number, or a dash for none.
 pub fn push_number_or_dash(fields: &mut ByteRecord, number: Option<u64>) -> Result<(), Memory>
     requires { partial_of fields.old ≡ [] }
     ensures { OnOk result (AddsFields fields.old fields.new (number_or_dash number ∷ [])) }
@@ -45,7 +45,7 @@ pub fn push_number_or_dash(fields: &mut ByteRecord, number: Option<u64>) -> Resu
     }
 }
 
-/// The text of a record, with its line feed. Each record has a writer of its own, so it may be of any length.
+/// The text of a record with its line feed. Each record has a writer of its own, so numbers of fields may differ.
 pub fn record_text(alloc: Global, fields: &ByteRecord) -> Result<Vec<u8>, Memory>
     ensures { IfOk result (λ v. v.items ≡ text_of_record (fields_of fields.now)) }
 {

@@ -1,4 +1,4 @@
-//! Records written one after the other.
+//! Writes records.
 ghost use Rattle.std.specs.Prelude.{◌≡◌, ◌++◌, [], IfOk, OnOk};
 ghost use Rattle.csv.specs.Records.{fields_of};
 ghost use Rattle.records.specs.Spelling.{text_of_record};
@@ -8,7 +8,7 @@ use csv::{ByteRecord, Writer, WriterBuilder};
 use std::alloc::Global;
 use tpcc_rows::memory::Memory;
 
-/// A writer of records of any lengths.
+/// A writer of records with any numbers of fields.
 pub fn record_writer(alloc: Global) -> Writer<Vec<u8>>
     ensures writing { IsWriting result }
     ensures none { written result ≡ [] }
@@ -18,7 +18,7 @@ pub fn record_writer(alloc: Global) -> Writer<Vec<u8>>
         .from_writer(Vec::new(alloc))
 }
 
-/// Writes a record, with its line feed. A vector has no errors but want of memory.
+/// Writes a record with its line feed. With a vector only memory can run out.
 #[tactic(auto, using(crate::proofs::WriterLemmas::flexible_row))]
 pub fn write_record(writer: &mut Writer<Vec<u8>>, fields: &ByteRecord) -> Result<(), Memory>
     requires { IsWriting writer.old }

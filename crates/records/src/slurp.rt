@@ -1,4 +1,4 @@
-//! Whole inputs and whole texts, by loops over the ends.
+//! Reads whole inputs and writes whole texts.
 ghost use Rattle.std.specs.Prelude.{◌≡◌, ◌≢◌, ◌+◌, ◌<◌, ◌≤◌, ◌^◌, length, IfOk, OnOk, OnErr, IfErr, IfSome, IsErrOf, vec_len, is_ok, if◌then◌else◌};
 ghost use Rattle.std.specs.Io.KnownBytes.{Appends};
 ghost use Rattle.records.specs.Io.{AppendsFront, IsOfWholeInput};
@@ -7,16 +7,16 @@ use crate::fault::ReadError;
 use crate::io::{Failed, Sink, Source};
 use std::alloc::Global;
 
-/// How many bytes are pulled at once.
+/// Bytes a pull.
 const CHUNK: usize = 32_768;
 
-/// All that a source has left, of at most `limit` bytes.
+/// Reads all that a source has left, at most `limit` bytes.
 pub fn slurp<S: Source>(alloc: Global, source: &mut S, limit: usize) -> Result<Vec<u8>, ReadError>
     requires { S.failed source.old < 2 ^ 63 }
     ensures whole { IfOk result (λ v. IfSome (S.left source.old) (λ bytes. v.items ≡ bytes)) }
     ensures within { IfOk result (λ v. vec_len v ≤ limit) }
 
-    // Each error only for its reason, and no failure but the one that is answered.
+    // Each error has its cause, and the only failure is the one reported.
     ensures too_long { IsErrOf result ReadError.InputTooLong
         → IfSome (S.left source.old) (λ bytes. limit < length bytes) }
     ensures read { IsErrOf result ReadError.Read → S.failed source.new ≡ S.failed source.old + 1 }
@@ -40,7 +40,7 @@ pub fn slurp<S: Source>(alloc: Global, source: &mut S, limit: usize) -> Result<V
     }
 }
 
-/// Pushes all of a text. After a failure what was taken is a beginning of it.
+/// Pushes a whole text. After a failure a prefix was taken.
 pub fn push_all<S: Sink>(sink: &mut S, text: &[u8]) -> Result<(), Failed>
     requires { S.failed sink.old < 2 ^ 63 }
     ensures ok { OnOk result (Appends (S.taken sink.old) (S.taken sink.new) text.now) }

@@ -1,4 +1,4 @@
--- What a record of a file of batches says.
+-- The records of a file of batches.
 use Rattle.std.specs.Prelude.{ℕ, List, codes, Option, Result, Ok, Err, if◌then◌else◌}
 use Rattle.csv.specs.Records.{field_at}
 use Rattle.records.specs.Fields.{Fields, ◌>>=◌, is_text, number_at, of_count}
@@ -11,7 +11,7 @@ use Rattle.requests.specs.declared.request.Request.TheVariants as request
 use Rattle.requests.specs.declared.request.Verdict.{Verdict}
 use Rattle.requests.specs.declared.request.Verdict.TheVariants as verdict
 
--- what a new order's record says where it has 5 to 15 lines
+-- a new order's record with 5 to 15 lines
 abbrev pub of_lines : {A : Type 0} → Fields → Result A Slip → Result A Slip
 of_lines fields said = if has_lines fields then said else Err slip.WrongCount
 
@@ -21,7 +21,7 @@ verdict_of field =
     else if is_text (codes "rerun") field then Ok verdict.Rerun
     else Err slip.BadField
 
--- a count above the most requests of a batch is a fault of its own
+-- a count above the limit is a fault of its own
 abbrev pub too_long : {A : Type 0} → Result A Slip → Result A Slip
 too_long (Ok n) = Ok n
 too_long (Err slip.OutOfRange) = Err slip.BatchTooLong
@@ -35,11 +35,11 @@ head_fields fields = do
   count ← too_long (number_at fields 3 0 1024)
   Ok (record { moment = moment; verdict = verdict; count = count })
 
--- what the record says that begins a batch
+-- the first record of a batch
 abbrev pub head_at : Fields → Result BatchHead Slip
 head_at fields = if is_text (codes "B") (field_at fields 0) then of_count 4 fields (head_fields fields) else Err slip.UnknownKind
 
--- what a record says that is to be a request
+-- a record where a request is expected
 abbrev pub request_at : Fields → Result Request Slip
 request_at fields =
     if is_text (codes "N") (field_at fields 0) then of_lines fields (new_order_fields fields >>= (λ r. Ok (request.NewOrder r)))

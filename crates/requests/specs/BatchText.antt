@@ -1,4 +1,4 @@
--- How batches are spelled, and which of them are read from that.
+-- The text of batches, and which are read back from it.
 use Rattle.std.specs.Prelude.{◌≤◌, ◌∷◌, [], ℕ, List, All, length, map, codes, decimal}
 use Rattle.std.specs.List.{flat_map}
 use Rattle.tpcc_rows.specs.Limits.{IsBetween}

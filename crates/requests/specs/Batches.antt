@@ -11,7 +11,7 @@ use Rattle.records.specs.declared.fault.Slip.TheVariants as slip
 use Rattle.records.specs.declared.fault.ReadError.{ReadError}
 use Rattle.records.specs.declared.fault.ReadError.TheVariants as err
 
--- how an input ends: where a batch would begin, or with a fault
+-- how an input ends: between batches, or with a fault
 pub data End : Type 0 where
   clean : End
   fault : ReadError → End
@@ -24,14 +24,14 @@ fault_of n slip.OutOfRange = err.OutOfRange n
 fault_of n slip.UnknownKind = err.UnknownKind n
 fault_of n slip.BatchTooLong = err.BatchTooLong n
 
--- the batches, and the end after them
+-- the batches, then the end
 abbrev pub Reading : Type 0
 Reading = List Batch × End
 
 abbrev pub with_front : Batch → Reading → Reading
 with_front batch reading = (batch ∷ reading.0, reading.1)
 
--- between batches, or within one of which these requests were read
+-- between batches, or within one after these requests
 pub data Place : Type 0 where
   between : Place
   within : BatchHead → List Request → Place
@@ -39,7 +39,7 @@ pub data Place : Type 0 where
 abbrev pub batch_of : BatchHead → List Request → Batch
 batch_of head requests = record { moment = head.moment; verdict = head.verdict; requests = requests }
 
--- a batch with as many requests as its count is whole, and what follows goes on from there
+-- a batch with all its requests is complete, and reading continues behind it
 abbrev pub settled : BatchHead → List Request → (Place → Reading) → Reading
 settled head requests rest = if length requests == head.count then with_front (batch_of head requests) (rest between) else rest (within head requests)
 
@@ -53,7 +53,7 @@ abbrev pub continued : ℕ → BatchHead → List Request → Result Request Sli
 continued n head requests (Ok request) rest = settled head (requests ++ request ∷ []) rest
 continued n head requests (Err e) rest = ([], fault (fault_of n e))
 
--- what these records say, from the one of this number on
+-- the batches of these records, numbered from this one on
 unfoldable pub reading_from : List Fields → ℕ → Place → Reading
 reading_from [] n between = ([], clean)
 reading_from [] n (within head requests) = ([], fault (err.WrongCount n))
@@ -64,15 +64,15 @@ reading_from (r ∷ rs) n (within head requests) = continued n head requests (re
 abbrev pub batches : List ℕ → Reading
 batches bytes = reading_from (records_in bytes) 1 between
 
--- what a reader has still to give, and the error by which it stopped, if it did
+-- what a reader has yet to give, and the error that stopped it, if any
 pub record BatchesLeft : Type 0 where
   pub left : Reading
   pub stopped : Option ReadError
 
--- a reader that stopped by this error
+-- a reader stopped by this error
 abbrev pub stopped_at : ReadError → BatchesLeft
 stopped_at e = record { left = ([], fault e); stopped = Some e }
 
--- a reading stopped with this fault, or for want of memory
+-- the reading stopped with this fault, or out of memory
 abbrev pub StopsBy : ReadError → Reading → Type 0
 StopsBy e reading = (e ≡ err.Memory) ⊎ (reading ≡ ([], fault e))

@@ -1,4 +1,4 @@
--- What a reader of batches has still to give.
+-- What a reader of batches has yet to give.
 use Rattle.std.specs.Prelude.{◌+◌, ◌<◌, ◌^◌, ℕ, List, [], length, Option, Some, None}
 use Rattle.std.specs.Borrow.{Bor}
 use Rattle.csv.specs.declared.reader.Reader.{Reader}
@@ -9,7 +9,7 @@ use Rattle.requests.specs.declared.batch_reader.Standing.{Standing}
 use Rattle.requests.specs.declared.batch_reader.Standing.TheVariants as standing
 use Rattle.requests.specs.declared.batch_reader.BatchReader.TheInside.{Inside}
 
--- what the records that are left say, from the one of this number on
+-- the batches of the remaining records, numbered from this one on
 abbrev pub left_at : Reader (Bor (List ℕ)) → ℕ → Place → Reading
 left_at reader number = reading_from (records_left reader) number
 
@@ -18,7 +18,7 @@ left_by standing.Going left = left
 left_by standing.Done left = ([], clean)
 left_by (standing.Stopped e) left = ([], fault e)
 
--- the error that was answered, if there was one
+-- the error returned, if any
 abbrev pub stopped_by : Standing → Option ReadError
 stopped_by standing.Going = None
 stopped_by standing.Done = None
@@ -32,6 +32,6 @@ CanRead standing.Going P = P
 CanRead standing.Done P = Unit {0}
 CanRead (standing.Stopped e) P = Unit {0}
 
--- where a reader goes on, it has known bytes, and a number for each record that is left
+-- a reader that isn't stopped has known bytes, and a number for each remaining record
 abbrev pub IsSteady : Inside → Type 0
 IsSteady b = CanRead b.standing (IsGoing b.reader × (b.number + length (records_left b.reader) < 2 ^ 64))

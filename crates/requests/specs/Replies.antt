@@ -1,4 +1,4 @@
--- The records that replies are written as.
+-- The records of replies.
 use Rattle.std.specs.Prelude.{◌++◌, ◌∷◌, [], ℕ, List, Option, Some, None, codes, decimal, map}
 use Rattle.std.specs.Fmt.{signed_decimal}
 use Rattle.std.specs.List.{flat_map}
@@ -46,7 +46,7 @@ brand_text brand.Generic = codes "G"
 abbrev pub line_reply_fields : LineReply → Fields
 line_reply_fields line = signed_decimal line.stock ∷ brand_text line.brand ∷ decimal line.amount ∷ []
 
--- `credit`, and the data that a bad credit shows
+-- `credit`, and the data shown for bad credit
 abbrev pub credit_fields : ShownCredit → Fields
 credit_fields credit.Good = codes "GC" ∷ []
 credit_fields (credit.Bad shown) = codes "BC" ∷ shown ∷ []
@@ -84,7 +84,7 @@ order_status_fields r = customer_fields r ++ last_order_fields r.order
 abbrev pub refusal_fields : RequestRefusal → Fields
 refusal_fields refusal = refusal_code refusal ∷ refusal_text refusal ∷ []
 
--- what comes after the request's number: its kind, whether it was done, and what was found, or why it was refused
+-- what follows the request's number: its kind, its status, and the result or the reason of refusal
 abbrev pub outcome_fields : Reply → Fields
 outcome_fields (reply.NewOrder r) = kind_text kind.NewOrder ∷ codes "ok" ∷ new_order_fields r
 outcome_fields (reply.Payment r) = kind_text kind.Payment ∷ codes "ok" ∷ payment_fields r

@@ -1,4 +1,4 @@
--- What the record of a request says, of each kind.
+-- The records of requests, by kind.
 use Rattle.std.specs.Prelude.{Bool, ◌==◌, ◌&&◌, ◌+◌, ◌-◌, ◌*◌, ◌/◌, ℕ, zero, suc, List, [], ◌∷◌, length, codes, Result, Ok, Err, if◌then◌else◌}
 use Rattle.csv.specs.Records.{field_at}
 use Rattle.tpcc_rows.specs.Limits.{is_between}
@@ -14,7 +14,7 @@ use Rattle.requests.specs.declared.request.OrderedLine.{OrderedLine}
 use Rattle.requests.specs.declared.request.Payment.{Payment}
 use Rattle.requests.specs.declared.request.StockLevel.{StockLevel}
 
--- how many lines a new order's record has: three fields each, after the first four
+-- the number of lines of a new order's record: three fields each, after the first four
 abbrev pub line_count : Fields → ℕ
 line_count fields = (length fields - 4) / 3
 
@@ -30,7 +30,7 @@ ordered_line_at fields i = do
   quantity ← number_at fields (i + 2) 1 10
   Ok (record { item = item; supply = supply; quantity = quantity })
 
--- so many lines from this place on
+-- this number of lines from this place on
 unfoldable pub ordered_lines_at : Fields → ℕ → ℕ → Result (List OrderedLine) Slip
 ordered_lines_at fields i zero = Ok []
 ordered_lines_at fields i (suc n) = do

@@ -1,4 +1,4 @@
-//! The batches of a text, one after the other.
+//! Reads the batches of a text.
 ghost use Rattle.std.specs.Prelude.{◌≡◌, ◌+◌, ◌≤◌, [], length, IfOk, IfErr, IfSome, IfNone};
 ghost use Rattle.requests.specs.Batches.{StopsBy, batches, clean, stopped_at, with_front};
 
@@ -10,7 +10,7 @@ use records::reading::records_of;
 use std::alloc::Global;
 use std::marker::Model;
 
-/// Where a reader of batches stands.
+/// The state of a reader of batches.
 #[derive(Clone, Copy)]
 enum Standing {
     Going,
@@ -18,7 +18,7 @@ enum Standing {
     Stopped(ReadError),
 }
 
-/// Reads the batches of a text in turn.
+/// Reads the batches of a text one by one.
 #[derive(Drop)]
 pub struct BatchReader<'a> {
     reader: Reader<&'a [u8]>,
@@ -39,7 +39,7 @@ impl<'a> Model for BatchReader<'a> {
 }
 
 impl<'a> BatchReader<'a> {
-    /// All batches of the text are left.
+    /// A reader at the start of a text.
     pub fn new(alloc: Global, text: &'a [u8]) -> Result<BatchReader<'a>, ReadError>
         ensures all { IfOk result (λ r. r.left ≡ batches text.now) }
         ensures count { IfOk result (λ r. length r.left.0 ≤ length text.now + 1) }
@@ -54,8 +54,7 @@ impl<'a> BatchReader<'a> {
         })
     }
 
-    /// The next batch, or none where the text ends between batches. An error that was answered is the answer of each
-    /// further call.
+    /// Reads the next batch, or `None` at the end. After an error each further call returns it again.
     pub fn next_batch(&mut self, alloc: Global) -> Result<Option<Batch>, ReadError>
         ensures batch { IfOk result (λ o. IfSome o (λ b. self.old.left ≡ with_front b self.new.left)) }
         ensures end { IfOk result (λ o. IfNone o ((self.old.left ≡ ([], clean)) × (self.new.left ≡ ([], clean)))) }

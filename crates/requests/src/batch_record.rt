@@ -1,4 +1,4 @@
-//! The record that begins a batch.
+//! The first record of a batch.
 ghost use Rattle.std.specs.Prelude.{◌≡◌, ◌≤◌, IfOk};
 ghost use Rattle.csv.specs.Records.{field_at, fields_of};
 ghost use Rattle.records.specs.Fields.{number_at};
@@ -13,12 +13,12 @@ use tpcc_rows::number::Moment;
 /// The most requests of a batch.
 const MOST_REQUESTS: u64 = 1_024;
 
-/// What the first record of a batch says.
+/// The first record of a batch.
 #[derive(Clone, Copy)]
 pub struct BatchHead {
     pub moment: Moment,
     pub verdict: Verdict,
-    /// How many requests follow.
+    /// The number of requests that follow.
     pub count: u64,
 }
 
@@ -59,7 +59,7 @@ fn head_parts(fields: &ByteRecord) -> Result<BatchHead, Slip>
     })
 }
 
-/// What the record says that begins a batch.
+/// Parses the first record of a batch.
 pub fn batch_head(fields: &ByteRecord) -> Result<BatchHead, Slip>
     ensures value { result ≡ head_at (fields_of fields.now) }
     ensures range { IfOk result (λ head. head.count ≤ 1024) }

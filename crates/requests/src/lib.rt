@@ -1,4 +1,4 @@
-//! Requests and replies, and batches of requests as the records of a text.
+//! Requests, replies, and batches of requests as CSV records.
 #![tactic(auto)]
 
 pub mod batch_reader;

@@ -1,10 +1,10 @@
-//! The numbers that only a request has, each within its limits.
+//! The numbers that only requests have, each with its limits.
 ghost use Rattle.std.specs.Prelude.{◌≡◌};
 ghost use Rattle.tpcc_rows.specs.Limits.{IsBetween, between};
 
 use std::marker::Model;
 
-/// How many of an item a new order takes: 1 to 10 (TPC-C clause 2.4.1.5).
+/// The quantity of a new order's line: 1 to 10 (TPC-C clause 2.4.1.5).
 #[derive(Clone, Copy, PartialEq, Eq)]
 pub struct OrderedQuantity {
     value: u8,
@@ -24,7 +24,7 @@ impl Model for OrderedQuantity {
 }
 
 impl OrderedQuantity {
-    /// None outside the limits.
+    /// `None` outside the limits.
     pub fn new(value: u8) -> Option<OrderedQuantity>
         ensures { result ≡ between 1 10 value }
     {
@@ -43,7 +43,7 @@ impl OrderedQuantity {
     }
 }
 
-/// What a payment pays: 1.00 to 5,000.00, in whole cents (TPC-C clause 2.5.1.3).
+/// The amount of a payment: 1.00 to 5,000.00, in cents (TPC-C clause 2.5.1.3).
 #[derive(Clone, Copy, PartialEq, Eq)]
 pub struct PaymentAmount {
     cents: u32,
@@ -63,7 +63,7 @@ impl Model for PaymentAmount {
 }
 
 impl PaymentAmount {
-    /// None outside the limits.
+    /// `None` outside the limits.
     pub fn new(cents: u32) -> Option<PaymentAmount>
         ensures { result ≡ between 100 500000 cents }
     {
@@ -82,7 +82,7 @@ impl PaymentAmount {
     }
 }
 
-/// Below how many of an item a stock is low: 10 to 20 (TPC-C clause 2.8.1.2).
+/// The threshold below which a stock is low: 10 to 20 (TPC-C clause 2.8.1.2).
 #[derive(Clone, Copy, PartialEq, Eq)]
 pub struct Threshold {
     value: u8,
@@ -102,7 +102,7 @@ impl Model for Threshold {
 }
 
 impl Threshold {
-    /// None outside the limits.
+    /// `None` outside the limits.
     pub fn new(value: u8) -> Option<Threshold>
         ensures { result ≡ between 10 20 value }
     {

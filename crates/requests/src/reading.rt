@@ -1,4 +1,4 @@
-//! A batch, read from the records that a text has left.
+//! Reads a batch from a text's remaining records.
 ghost use Rattle.std.specs.Prelude.{◌≡◌, ◌+◌, ◌<◌, ◌^◌, ◌++◌, ◌∷◌, [], List, length, IfOk, IfErr, IfSome, IfNone, OnSome, OnOk};
 ghost use Rattle.requests.specs.Batches.{StopsBy, between, clean, fault_of, settled, with_front, within};
 ghost use Rattle.requests.specs.Reader.{left_at};
@@ -27,7 +27,7 @@ pub fn fault(number: u64, slip: Slip) -> ReadError
     }
 }
 
-/// The first record of the next batch, if there is one. `number` is that of the next record.
+/// Reads the first record of the next batch, if there is one. `number` is the next record's.
 #[tactic(auto, unfolding(crate::specs::Batches::reading_from))]
 fn read_head(
     reader: &mut Reader<&[u8]>,
@@ -55,7 +55,7 @@ fn read_head(
     }
 }
 
-/// The next request of a batch.
+/// Reads the next request of a batch.
 #[tactic(auto, unfolding(crate::specs::Batches::reading_from))]
 fn read_request(
     reader: &mut Reader<&[u8]>,
@@ -83,7 +83,7 @@ fn read_request(
     }
 }
 
-/// The next batch, if there is one. `number` is that of the next record.
+/// Reads the next batch, if there is one. `number` is the next record's.
 pub(crate) fn read_batch(
     alloc: Global,
     reader: &mut Reader<&[u8]>,

@@ -1,4 +1,4 @@
-//! What is answered to requests.
+//! Replies.
 ghost use Rattle.std.specs.Prelude.{◌≡◌, ◌<◌, ◌≤◌, [], ◌∷◌, ◌++◌, length};
 
 use crate::request::RequestKind;
@@ -8,25 +8,25 @@ use tpcc_rows::id::{CustomerId, ItemId, OrderId, WarehouseId};
 use tpcc_rows::number::{Amount, Carrier, Cents, LineQuantity, Moment, StockQuantity};
 use tpcc_rows::text::Text;
 
-/// Why a request changes nothing.
+/// Why a request was refused, without any change.
 #[derive(Clone, Copy, PartialEq, Eq)]
 pub enum RequestRefusal {
-    /// A new order names an item that isn't there (TPC-C clause 2.4.2.3).
+    /// A new order names an unknown item (TPC-C clause 2.4.2.3).
     ItemNotValid,
-    /// A warehouse, a district, a customer or a stock isn't there.
+    /// A warehouse, district, customer or stock is unknown.
     UnknownKey,
     /// A column would leave its limits.
     LimitReached,
 }
 
-/// `Brand` where the item's data and the stock's data both name it so, else `Generic` (TPC-C clause 2.4.2.2).
+/// `Brand` if the item's data and the stock's data both say so, else `Generic` (TPC-C clause 2.4.2.2).
 #[derive(Clone, Copy, PartialEq, Eq)]
 pub enum Brand {
     Brand,
     Generic,
 }
 
-/// What is answered for one line of a new order: what the stock then has, and what the line costs.
+/// The reply for a line of a new order: the stock's new quantity, and the line's amount.
 #[derive(Clone, Copy)]
 pub struct LineReply {
     pub stock: StockQuantity,
@@ -34,7 +34,7 @@ pub struct LineReply {
     pub amount: Amount,
 }
 
-/// What fills a list's places that are not in use.
+/// Fills a list's unused places.
 impl Default for LineReply {
     fn default() -> LineReply {
         LineReply {
@@ -45,7 +45,7 @@ impl Default for LineReply {
     }
 }
 
-/// What is answered for the lines of a new order: at most 15.
+/// The replies for the lines of a new order: at most 15.
 #[derive(Drop)]
 pub struct LineReplies {
     lines: ArrayVec<LineReply, 15>,
@@ -63,7 +63,7 @@ impl Model for LineReplies {
 }
 
 impl LineReplies {
-    /// No line.
+    /// No lines.
     pub fn new() -> LineReplies
         ensures { result ≡ [] }
     {
@@ -72,7 +72,7 @@ impl LineReplies {
         }
     }
 
-    /// One line more.
+    /// Appends a line.
     pub fn push(&mut self, line: LineReply)
         requires { length self.old < 15 }
         ensures { self.new ≡ self.old ++ line ∷ [] }
@@ -88,7 +88,7 @@ impl LineReplies {
     }
 }
 
-/// What is answered to a new order.
+/// The reply to a new order.
 #[derive(Drop)]
 pub struct NewOrderReply {
     pub order: OrderId,
@@ -96,14 +96,14 @@ pub struct NewOrderReply {
     pub lines: LineReplies,
 }
 
-/// A customer's credit, C_CREDIT, and what is shown of C_DATA where it is bad (TPC-C clause 2.5.3.3).
+/// A customer's credit, C_CREDIT, and the part of C_DATA shown if it is bad (TPC-C clause 2.5.3.3).
 #[derive(Drop)]
 pub enum ShownCredit {
     Good,
     Bad { data: Text<200> },
 }
 
-/// What is answered to a payment.
+/// The reply to a payment.
 #[derive(Drop)]
 pub struct PaymentReply {
     pub customer: CustomerId,
@@ -111,7 +111,7 @@ pub struct PaymentReply {
     pub credit: ShownCredit,
 }
 
-/// One line of an order that is shown.
+/// A line of a shown order.
 #[derive(Clone, Copy)]
 pub struct ShownLine {
     pub item: ItemId,
@@ -121,7 +121,7 @@ pub struct ShownLine {
     pub delivery: Option<Moment>,
 }
 
-/// What fills a list's places that are not in use.
+/// Fills a list's unused places.
 impl Default for ShownLine {
     fn default() -> ShownLine {
         ShownLine {
@@ -134,7 +134,7 @@ impl Default for ShownLine {
     }
 }
 
-/// The lines of an order that is shown: at most 15.
+/// The lines of a shown order: at most 15.
 #[derive(Drop)]
 pub struct ShownLines {
     lines: ArrayVec<ShownLine, 15>,
@@ -152,7 +152,7 @@ impl Model for ShownLines {
 }
 
 impl ShownLines {
-    /// No line.
+    /// No lines.
     pub fn new() -> ShownLines
         ensures { result ≡ [] }
     {
@@ -161,7 +161,7 @@ impl ShownLines {
         }
     }
 
-    /// One line more.
+    /// Appends a line.
     pub fn push(&mut self, line: ShownLine)
         requires { length self.old < 15 }
         ensures { self.new ≡ self.old ++ line ∷ [] }
@@ -179,7 +179,7 @@ impl ShownLines {
     }
 }
 
-/// The last order of a customer. Without a carrier it wasn't delivered yet.
+/// A customer's last order. Without a carrier it isn't delivered yet.
 #[derive(Drop)]
 pub struct ShownOrder {
     pub order: OrderId,
@@ -188,7 +188,7 @@ pub struct ShownOrder {
     pub lines: ShownLines,
 }
 
-/// What is answered to a question for the last order, which may not be there.
+/// The reply to an order status: the customer's last order, if there is one.
 #[derive(Drop)]
 pub struct OrderStatusReply {
     pub customer: CustomerId,
@@ -199,19 +199,19 @@ pub struct OrderStatusReply {
     pub order: Option<ShownOrder>,
 }
 
-/// What is answered to a delivery: by district from the first, the order that was delivered, if there was one.
+/// The reply to a delivery: for each district from the first, the delivered order, if any.
 #[derive(Clone, Copy)]
 pub struct DeliveryReply {
     pub orders: [Option<OrderId>; 10],
 }
 
-/// What is answered to the question for low stocks: how many items.
+/// The reply to a stock level: the number of low items.
 #[derive(Clone, Copy)]
 pub struct StockLevelReply {
     pub low_stock: u32,
 }
 
-/// What is answered to a request.
+/// The reply to a request.
 #[derive(Drop)]
 pub enum Reply {
     NewOrder(NewOrderReply),

@@ -1,4 +1,4 @@
-//! The records that replies are written as.
+//! The records of replies.
 ghost use Rattle.std.specs.Prelude.{◌≡◌, ◌++◌, ◌∷◌, [], OnOk, OnErr, IfOk, decimal, map};
 ghost use Rattle.std.specs.Fmt.{signed_decimal};
 ghost use Rattle.std.specs.List.{flat_map};
@@ -137,7 +137,7 @@ fn push_order_status(fields: &mut ByteRecord, reply: &OrderStatusReply) -> Resul
     push_last_order(fields, &reply.order)
 }
 
-/// The orders by district, each by its number, or a dash where the district had none to deliver.
+/// The order delivered in each district, or a dash.
 fn push_orders(fields: &mut ByteRecord, orders: &[Option<OrderId>]) -> Result<(), Memory>
     requires { partial_of fields.old ≡ [] }
     ensures { OnOk result (AddsFields fields.old fields.new (map number_or_dash orders.now)) }
@@ -188,7 +188,7 @@ fn push_refusal(fields: &mut ByteRecord, refusal: RequestRefusal) -> Result<(), 
     push(fields, refusal_text(refusal))
 }
 
-/// The kind of a request and whether it was done.
+/// The kind of a request, and its status.
 fn push_status(fields: &mut ByteRecord, kind: RequestKind, status: &[u8]) -> Result<(), Memory>
     requires { partial_of fields.old ≡ [] }
     ensures { OnOk result (AddsFields fields.old fields.new (kind_text kind ∷ status.now ∷ [])) }
@@ -243,7 +243,7 @@ pub fn reply_record(
     Ok(fields)
 }
 
-/// Writes the record of a reply at the end. A refusal changes nothing.
+/// Appends the record of a reply; on refusal nothing changes.
 pub fn write_reply(
     alloc: Global,
     number: RequestNumber,

@@ -1,4 +1,4 @@
-//! What clients ask: the five transactions' inputs, and batches of them.
+//! The five transactions' inputs, and batches of them.
 ghost use Rattle.std.specs.Prelude.{◌≡◌, ◌==◌, ◌++◌, ◌∷◌, [], All, OnErr, OnOk, Some, length};
 ghost use Rattle.requests.specs.Kinds.{kind_of};
 ghost use Rattle.requests.specs.Lines.{IsReadLine, ordered_lines_of};
@@ -14,14 +14,14 @@ use tpcc_rows::id::{CustomerId, DistrictId, ItemId, WarehouseId};
 use tpcc_rows::number::{Carrier, Moment};
 use tpcc_rows::text::Text;
 
-/// A customer by its number or by its last name (TPC-C clauses 2.5.1.2 and 2.6.1.2).
+/// A customer by number or by last name (TPC-C clauses 2.5.1.2 and 2.6.1.2).
 #[derive(Drop)]
 pub enum CustomerChoice {
     Number(CustomerId),
     LastName(Text<16>),
 }
 
-/// One line of a new order: which item, out of which warehouse's stock, and how many.
+/// A line of a new order: item, supplying warehouse and quantity.
 #[derive(Clone, Copy)]
 pub struct OrderedLine {
     pub item: ItemId,
@@ -29,7 +29,7 @@ pub struct OrderedLine {
     pub quantity: OrderedQuantity,
 }
 
-/// What fills a list's places that are not in use: one of item 1, out of warehouse 1.
+/// Fills a list's unused places: one of item 1, from warehouse 1.
 impl Default for OrderedLine {
     fn default() -> OrderedLine {
         OrderedLine {
@@ -60,7 +60,7 @@ impl Model for OrderedLines {
 }
 
 impl OrderedLines {
-    /// None where they are fewer than 5 or more than 15.
+    /// `None` unless they are 5 to 15.
     pub fn new(lines: &[OrderedLine]) -> Option<OrderedLines>
         ensures { result ≡ ordered_lines_of lines.now }
     {
@@ -96,7 +96,7 @@ pub struct NewOrder {
     pub lines: OrderedLines,
 }
 
-/// A payment by a customer, who may be of another district, also of another warehouse (TPC-C clause 2.5.1).
+/// A payment by a customer, who may be of another district or warehouse (TPC-C clause 2.5.1).
 #[derive(Drop)]
 pub struct Payment {
     pub warehouse: WarehouseId,
@@ -107,7 +107,7 @@ pub struct Payment {
     pub amount: PaymentAmount,
 }
 
-/// A customer's question for the last order (TPC-C clause 2.6.1).
+/// Asks for a customer's last order (TPC-C clause 2.6.1).
 #[derive(Drop)]
 pub struct OrderStatus {
     pub warehouse: WarehouseId,
@@ -115,14 +115,14 @@ pub struct OrderStatus {
     pub customer: CustomerChoice,
 }
 
-/// The delivery of the oldest new order of each district of a warehouse (TPC-C clause 2.7.1).
+/// Delivers the oldest new order of each district of a warehouse (TPC-C clause 2.7.1).
 #[derive(Clone, Copy)]
 pub struct Delivery {
     pub warehouse: WarehouseId,
     pub carrier: Carrier,
 }
 
-/// The question how many of the items that a district sold lately are low in stock (TPC-C clause 2.8.1).
+/// Counts the items that a district sold lately and that are low in stock (TPC-C clause 2.8.1).
 #[derive(Clone, Copy)]
 pub struct StockLevel {
     pub warehouse: WarehouseId,
@@ -130,7 +130,7 @@ pub struct StockLevel {
     pub threshold: Threshold,
 }
 
-/// What a client asks: one of the five transactions.
+/// A request: one of the five transactions.
 #[derive(Drop)]
 pub enum Request {
     NewOrder(NewOrder),
@@ -164,15 +164,14 @@ impl Request {
     }
 }
 
-/// What the replicas agreed on for a batch: that its execution stands, or that it is executed once more, one
-/// request after the other.
+/// The replicas' decision on a batch: its execution stands, or it is executed again, serially.
 #[derive(Clone, Copy, PartialEq, Eq)]
 pub enum Verdict {
     Commit,
     Rerun,
 }
 
-/// Requests in their order, each within its limits.
+/// Requests in order, each within its limits.
 #[derive(Drop)]
 pub struct Requests {
     requests: Vec<Request>,
@@ -191,7 +190,7 @@ impl Model for Requests {
 }
 
 impl Requests {
-    /// No requests yet.
+    /// No requests.
     pub fn new(alloc: Global) -> Requests
         ensures { result ≡ [] }
     {
@@ -200,7 +199,7 @@ impl Requests {
         }
     }
 
-    /// One request more, at the end. A refusal changes nothing.
+    /// Appends a request; on refusal nothing changes.
     pub fn push(&mut self, request: Request) -> Result<(), AllocError>
         ensures ok { OnOk result (self.new ≡ self.old ++ request ∷ []) }
         ensures err { OnErr result (self.new ≡ self.old) }
@@ -228,7 +227,7 @@ impl Requests {
         self.requests.is_empty()
     }
 
-    /// Each request is within its limits: a call proves it.
+    /// A call proves that each request is within its limits.
     pub fn are_within(&self)
         ensures { All IsReadRequest self.now }
     {

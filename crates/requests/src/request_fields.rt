@@ -1,4 +1,4 @@
-//! What the fields say that only a request has.
+//! Parses the fields that only requests have.
 ghost use Rattle.std.specs.Prelude.{◌≡◌};
 ghost use Rattle.csv.specs.Records.{fields_of};
 ghost use Rattle.records.specs.Fields.{number_at};
@@ -9,7 +9,7 @@ use records::fault::Slip;
 use records::fields::number_at;
 use tpcc_rows::id::ItemId;
 
-/// I_ID, of an item that a new order names: the database may have none of this number.
+/// I_ID as a new order names it: the database may have no such item.
 pub fn requested_item(fields: &ByteRecord, i: usize) -> Result<ItemId, Slip>
     ensures { result ≡ number_at (fields_of fields.now) i 1 999999 }
 {
@@ -17,7 +17,7 @@ pub fn requested_item(fields: &ByteRecord, i: usize) -> Result<ItemId, Slip>
     ItemId::new(number).ok_or(Slip::OutOfRange)
 }
 
-/// How many of an item a new order takes.
+/// The quantity of a new order's line.
 pub fn ordered_quantity(fields: &ByteRecord, i: usize) -> Result<OrderedQuantity, Slip>
     ensures { result ≡ number_at (fields_of fields.now) i 1 10 }
 {
@@ -25,7 +25,7 @@ pub fn ordered_quantity(fields: &ByteRecord, i: usize) -> Result<OrderedQuantity
     OrderedQuantity::new(value).ok_or(Slip::OutOfRange)
 }
 
-/// What a payment pays.
+/// The amount of a payment.
 pub fn payment_amount(fields: &ByteRecord, i: usize) -> Result<PaymentAmount, Slip>
     ensures { result ≡ number_at (fields_of fields.now) i 100 500000 }
 {
@@ -33,7 +33,7 @@ pub fn payment_amount(fields: &ByteRecord, i: usize) -> Result<PaymentAmount, Sl
     PaymentAmount::new(cents).ok_or(Slip::OutOfRange)
 }
 
-/// Below how many of an item a stock is low.
+/// The threshold of a stock level.
 pub fn threshold(fields: &ByteRecord, i: usize) -> Result<Threshold, Slip>
     ensures { result ≡ number_at (fields_of fields.now) i 10 20 }
 {

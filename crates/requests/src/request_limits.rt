@@ -1,4 +1,4 @@
-//! The limits of a request, which the types of its parts keep: a call proves them.
+//! The limits of a request, which its parts' types enforce: a call proves them.
 ghost use Rattle.requests.specs.Lines.{IsReadLine};
 ghost use Rattle.requests.specs.Requests.{IsReadChoice, IsReadDelivery, IsReadNewOrder, IsReadOrderStatus, IsReadPayment, IsReadRequest};
 ghost use Rattle.requests.specs.Requests.{IsReadStockLevel};

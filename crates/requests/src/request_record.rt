@@ -15,14 +15,14 @@ use csv::ByteRecord;
 use records::fault::Slip;
 use records::fields::{carrier, customer, district, has_text, text, warehouse};
 
-/// How many lines a new order's record has: three fields each, after the first four.
+/// The number of lines of a new order's record: three fields each, after the first four.
 fn line_count(fields: &ByteRecord) -> usize
     ensures { result ≡ line_count (fields_of fields.now) }
 {
     fields.len().saturating_sub(4) / 3
 }
 
-/// Whether a new order's record has a right number of fields.
+/// Whether a new order's record has a valid number of fields.
 fn has_lines(fields: &ByteRecord) -> bool
     ensures { result ≡ has_lines (fields_of fields.now) }
 {
@@ -30,7 +30,7 @@ fn has_lines(fields: &ByteRecord) -> bool
     5 <= count && count <= 15 && fields.len() == 4 + 3 * count
 }
 
-/// One line, from this place on.
+/// Parses a line from this place on.
 fn ordered_line(fields: &ByteRecord, i: usize) -> Result<OrderedLine, Slip>
     requires { i + 2 < 2 ^ 64 }
     ensures { result ≡ ordered_line_at (fields_of fields.now) i }
@@ -42,7 +42,7 @@ fn ordered_line(fields: &ByteRecord, i: usize) -> Result<OrderedLine, Slip>
     })
 }
 
-/// The lines of a new order, so many.
+/// Parses this number of lines.
 fn ordered_lines(fields: &ByteRecord, count: usize) -> Result<OrderedLines, Slip>
     requires { IsBetween 5 15 count }
     ensures { result ≡ ordered_lines_at (fields_of fields.now) 4 count }
@@ -67,7 +67,7 @@ fn new_order(fields: &ByteRecord) -> Result<NewOrder, Slip>
     })
 }
 
-/// The form of a choice of a customer, and in the next field the choice.
+/// Parses the choice of a customer: its form, and in the next field the choice.
 fn customer_choice(fields: &ByteRecord, i: usize) -> Result<CustomerChoice, Slip>
     requires { i + 1 < 2 ^ 64 }
     ensures { result ≡ choice_at (fields_of fields.now) i }
@@ -127,7 +127,7 @@ fn stock_level(fields: &ByteRecord) -> Result<StockLevel, Slip>
     })
 }
 
-/// What a record says that is to be a request.
+/// Parses a record where a request is expected.
 pub fn request(fields: &ByteRecord) -> Result<Request, Slip>
     ensures { result ≡ request_at (fields_of fields.now) }
 {

@@ -16,7 +16,7 @@ use Rattle.tpcc_rows.specs.declared.row.OrderRow.{OrderRow}
 use Rattle.tpcc_rows.specs.declared.row.OrderLineRow.{OrderLineRow}
 use Rattle.row_tables.specs.RankRows.{RankRows}
 
--- the rows of one kind as rows of any
+-- rows of one kind as rows of any kind
 unfoldable pub typed : {X : Type 0} → (X → Row) → ByRank X → RankRows
 typed make m = map.from_entries (each (λ e. (e.0, make e.1)) (map.entries m))
 
@@ -63,6 +63,6 @@ kinds warehouses customers stocks orders new_orders lines history ytds nexts =
     ∷ typed (λ r. row.DistrictNext r) nexts
     ∷ []
 
--- each rank stands in the map of its kind alone
+-- each rank is in its kind's map alone
 abbrev pub AreByKind : List RankRows → Type 0
 AreByKind maps = IsPlaced table_of maps

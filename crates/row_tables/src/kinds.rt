@@ -1,4 +1,4 @@
-//! A table for the rows of each kind.
+//! A table for each kind of row.
 ghost use Rattle.std.specs.Prelude.{◌≡◌, IfOk, None, OnErr, OnOk, option_copied, option_map};
 ghost use Rattle.std.specs.FinMap as map;
 ghost use Rattle.row_tables.specs.Kinds.{table_of, table_of_row};
@@ -22,7 +22,7 @@ use tpcc_rows::row::{
     WarehouseRow,
 };
 
-/// A finite map from ranks to rows, each in the table of its rank's kind.
+/// A finite map from ranks to rows, each in its kind's table.
 #[derive(Drop)]
 pub struct KindTables {
     warehouses: Shelf<WarehouseRow>,
@@ -34,7 +34,7 @@ pub struct KindTables {
     history: Table<HistoryRow>,
     ytds: Shelf<DistrictYtdRow>,
     nexts: Shelf<DistrictNextRow>,
-    /// Where order lines may be.
+    /// Hints at the places of order lines.
     starts: LineStarts,
 }
 
@@ -163,21 +163,21 @@ impl KindTables {
         }
     }
 
-    /// The ranks of the new orders of the rank's district, in rising order.
+    /// The ranks of the new orders of the rank's district, in ascending order.
     pub fn new_orders_at(&self, rank: u64) -> &[(u64, ())]
         ensures { as_rows result.now ≡ map.entries (new_rows self.now (place_of rank)) }
     {
         self.new_orders.slice_at(rank)
     }
 
-    /// The orders of the rank's district with their ranks, in rising order.
+    /// The orders of the rank's district with their ranks, in ascending order.
     pub fn orders_at(&self, rank: u64) -> &[(u64, OrderRow)]
         ensures { as_orders result.now ≡ map.entries (order_rows self.now (place_of rank)) }
     {
         self.orders.slice_at(rank)
     }
 
-    /// The rank has this row from now on; the answer is the one that it had.
+    /// Inserts or replaces the rank's row, and returns the old one.
     pub fn put_warehouse(
         &mut self,
         rank: u64,
@@ -192,7 +192,7 @@ impl KindTables {
         self.warehouses.put(rank, row)
     }
 
-    /// The rank has this row from now on; the answer is the one that it had.
+    /// Inserts or replaces the rank's row, and returns the old one.
     pub fn put_customer(
         &mut self,
         rank: u64,
@@ -207,7 +207,7 @@ impl KindTables {
         self.customers.put(rank, row)
     }
 
-    /// The rank has this row from now on; the answer is the one that it had.
+    /// Inserts or replaces the rank's row, and returns the old one.
     pub fn put_stock(&mut self, rank: u64, row: StockRow) -> Result<Option<StockRow>, Memory>
         requires { table_of rank ≡ 2 }
         ensures value { IfOk result (λ was. option_map Stock was ≡ map.get self.old rank) }
@@ -218,7 +218,7 @@ impl KindTables {
         self.stocks.put(rank, row)
     }
 
-    /// The rank has this row from now on; the answer is the one that it had.
+    /// Inserts or replaces the rank's row, and returns the old one.
     pub fn put_order(&mut self, rank: u64, row: OrderRow) -> Result<Option<OrderRow>, Memory>
         requires { table_of rank ≡ 3 }
         ensures value { IfOk result (λ was. option_map Order was ≡ map.get self.old rank) }
@@ -230,7 +230,7 @@ impl KindTables {
         self.orders.put(rank, row)
     }
 
-    /// The rank has this row from now on; the answer is the one that it had.
+    /// Inserts or replaces the rank's row, and returns the old one.
     pub fn put_new_order(&mut self, rank: u64, row: ()) -> Result<Option<()>, Memory>
         requires { table_of rank ≡ 4 }
         ensures value { IfOk result (λ was. option_map (λ _. NewOrder) was ≡ map.get self.old rank) }
@@ -241,7 +241,7 @@ impl KindTables {
         self.new_orders.put(rank, row)
     }
 
-    /// The rank has this row from now on; the answer is the one that it had.
+    /// Inserts or replaces the rank's row, and returns the old one.
     pub fn put_order_line(
         &mut self,
         rank: u64,
@@ -259,7 +259,7 @@ impl KindTables {
         self.lines.put_near(rank, row, expected)
     }
 
-    /// The rank has this row from now on; the answer is the one that it had.
+    /// Inserts or replaces the rank's row, and returns the old one.
     pub fn put_history(&mut self, rank: u64, row: HistoryRow) -> Result<Option<HistoryRow>, Memory>
         requires { table_of rank ≡ 6 }
         ensures value { IfOk result (λ was. option_map History was ≡ map.get self.old rank) }
@@ -270,7 +270,7 @@ impl KindTables {
         self.history.put(rank, row)
     }
 
-    /// The rank has this row from now on; the answer is the one that it had.
+    /// Inserts or replaces the rank's row, and returns the old one.
     pub fn put_district_ytd(
         &mut self,
         rank: u64,
@@ -285,7 +285,7 @@ impl KindTables {
         self.ytds.put(rank, row)
     }
 
-    /// The rank has this row from now on; the answer is the one that it had.
+    /// Inserts or replaces the rank's row, and returns the old one.
     pub fn put_district_next(
         &mut self,
         rank: u64,
@@ -300,7 +300,7 @@ impl KindTables {
         self.nexts.put(rank, row)
     }
 
-    /// The rank has no row from now on; the answer is the one that it had.
+    /// Removes the rank's row, and returns it.
     pub fn remove_warehouse(&mut self, rank: u64) -> Option<WarehouseRow>
         requires { table_of rank ≡ 0 }
         ensures value { option_map Warehouse result ≡ map.get self.old rank }
@@ -309,7 +309,7 @@ impl KindTables {
         self.warehouses.remove(rank)
     }
 
-    /// The rank has no row from now on; the answer is the one that it had.
+    /// Removes the rank's row, and returns it.
     pub fn remove_customer(&mut self, rank: u64) -> Option<SharedCustomer>
         requires { table_of rank ≡ 1 }
         ensures value { option_map Customer result ≡ map.get self.old rank }
@@ -318,7 +318,7 @@ impl KindTables {
         self.customers.remove(rank)
     }
 
-    /// The rank has no row from now on; the answer is the one that it had.
+    /// Removes the rank's row, and returns it.
     pub fn remove_stock(&mut self, rank: u64) -> Option<StockRow>
         requires { table_of rank ≡ 2 }
         ensures value { option_map Stock result ≡ map.get self.old rank }
@@ -327,7 +327,7 @@ impl KindTables {
         self.stocks.remove(rank)
     }
 
-    /// The rank has no row from now on; the answer is the one that it had.
+    /// Removes the rank's row, and returns it.
     pub fn remove_order(&mut self, rank: u64) -> Option<OrderRow>
         requires { table_of rank ≡ 3 }
         ensures value { option_map Order result ≡ map.get self.old rank }
@@ -336,7 +336,7 @@ impl KindTables {
         self.orders.remove(rank)
     }
 
-    /// The rank has no row from now on; the answer is the one that it had.
+    /// Removes the rank's row, and returns it.
     pub fn remove_new_order(&mut self, rank: u64) -> Option<()>
         requires { table_of rank ≡ 4 }
         ensures value { option_map (λ _. NewOrder) result ≡ map.get self.old rank }
@@ -345,7 +345,7 @@ impl KindTables {
         self.new_orders.remove(rank)
     }
 
-    /// The rank has no row from now on; the answer is the one that it had.
+    /// Removes the rank's row, and returns it.
     pub fn remove_order_line(&mut self, rank: u64) -> Option<OrderLineRow>
         requires { table_of rank ≡ 5 }
         ensures value { option_map OrderLine result ≡ map.get self.old rank }
@@ -354,7 +354,7 @@ impl KindTables {
         self.lines.remove(rank)
     }
 
-    /// The rank has no row from now on; the answer is the one that it had.
+    /// Removes the rank's row, and returns it.
     pub fn remove_history(&mut self, rank: u64) -> Option<HistoryRow>
         requires { table_of rank ≡ 6 }
         ensures value { option_map History result ≡ map.get self.old rank }
@@ -363,7 +363,7 @@ impl KindTables {
         self.history.remove(rank)
     }
 
-    /// The rank has no row from now on; the answer is the one that it had.
+    /// Removes the rank's row, and returns it.
     pub fn remove_district_ytd(&mut self, rank: u64) -> Option<DistrictYtdRow>
         requires { table_of rank ≡ 7 }
         ensures value { option_map DistrictYtd result ≡ map.get self.old rank }
@@ -372,7 +372,7 @@ impl KindTables {
         self.ytds.remove(rank)
     }
 
-    /// The rank has no row from now on; the answer is the one that it had.
+    /// Removes the rank's row, and returns it.
     pub fn remove_district_next(&mut self, rank: u64) -> Option<DistrictNextRow>
         requires { table_of rank ≡ 8 }
         ensures value { option_map DistrictNext result ≡ map.get self.old rank }
@@ -381,7 +381,7 @@ impl KindTables {
         self.nexts.remove(rank)
     }
 
-    /// The rank has this row from now on; the answer is the one that it had.
+    /// Inserts or replaces the rank's row, and returns the old one.
     pub fn put(&mut self, rank: u64, row: Row) -> Result<Option<Row>, Memory>
         requires { table_of_row row ≡ table_of rank }
         ensures value { IfOk result (λ was. was ≡ map.get self.old rank) }
@@ -405,7 +405,7 @@ impl KindTables {
         }
     }
 
-    /// The rank has no row from now on; the answer is the one that it had.
+    /// Removes the rank's row, and returns it.
     pub fn remove(&mut self, rank: u64) -> Option<Row>
         ensures value { result ≡ map.get self.old rank }
         ensures after { self.new ≡ map.remove self.old rank }

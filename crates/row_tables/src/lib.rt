@@ -1,4 +1,4 @@
-//! The rows of a database in tables, one kind beside the other.
+//! The rows of a database, in a table for each kind.
 #![tactic(auto)]
 
 pub mod kinds;

@@ -1,4 +1,4 @@
-//! A row where it stands.
+//! References to rows.
 ghost use Rattle.std.specs.Prelude.{◌≡◌, IfOk};
 ghost use Rattle.row_tables.specs.References.{row_of};
 
@@ -9,7 +9,7 @@ use tpcc_rows::row::{
     WarehouseRow,
 };
 
-/// A reference to a row in the table of its kind.
+/// A reference to a row in its kind's table.
 #[derive(Clone, Copy)]
 pub enum RowRef<'a> {
     Warehouse(&'a WarehouseRow),
@@ -24,7 +24,7 @@ pub enum RowRef<'a> {
 }
 
 impl RowRef<'_> {
-    /// An equal row, without memory. It is refused where 2^63 copies share a customer's row.
+    /// An equal row, without allocating. Refused once 2^63 copies share a customer's row.
     pub fn copied(self) -> Result<Row, Memory>
         ensures { IfOk result (λ copy. copy ≡ row_of self.entry) }
     {

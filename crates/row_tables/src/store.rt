@@ -26,7 +26,7 @@ use tpcc_rows::row::{
     WarehouseRow,
 };
 
-/// A finite map from keys to rows, each row of its key's kind and in the table of that kind.
+/// A finite map from keys to rows, each of its key's kind and in that kind's table.
 #[derive(Drop)]
 pub struct RowTables {
     tables: KindTables,
@@ -46,14 +46,14 @@ impl Model for RowTables {
     ghost invariant = { λ s. IsCounted s.tables s.len };
 }
 
-/// The row that is shared.
+/// The shared row.
 fn unshared(shared: Option<&SharedCustomer>) -> Option<&CustomerRow>
     ensures { option_copied result ≡ option_copied shared.entry }
 {
     Some(shared?.row())
 }
 
-/// How many rows there are after a row was put in place of this one, or in no row's.
+/// The number of rows after an insertion or replacement that returned this.
 fn more(len: u64, was: &Option<Row>) -> u64
     requires { len < 2 ^ 63 }
     ensures { result ≡ cond (is_some was.now) len (len + 1) }
@@ -61,7 +61,7 @@ fn more(len: u64, was: &Option<Row>) -> u64
     if was.is_some() { len } else { len + 1 }
 }
 
-/// How many rows there are after this one was removed, or none.
+/// The number of rows after a removal that returned this.
 fn fewer(len: u64, was: &Option<Row>) -> u64
     ensures { result ≡ cond (is_some was.now) (len - 1) len }
 {
@@ -72,7 +72,7 @@ fn fewer(len: u64, was: &Option<Row>) -> u64
     }
 }
 
-/// The number of new order n among these.
+/// The order number of the n-th new order.
 fn number_at(orders: &[(u64, ())], n: usize) -> Option<OrderId>
     ensures { result ≡ option_and_then (λ e. order_of e.0) (slice_get orders.now n) }
 {
@@ -80,7 +80,7 @@ fn number_at(orders: &[(u64, ())], n: usize) -> Option<OrderId>
     order_of(*rank)
 }
 
-/// The number of the last of these orders that is the customer's.
+/// The number of the customer's last order among these.
 fn last_of(orders: &[(u64, OrderRow)], customer: CustomerId) -> Option<OrderId>
     ensures { result ≡ option_and_then (λ e. order_of e.0) (last_of customer orders.now) }
 {
@@ -102,7 +102,7 @@ impl RowTables {
         Ok(RowTables { tables, len: 0 })
     }
 
-    /// How many rows there are.
+    /// The number of rows.
     pub fn len(&self) -> u64
         ensures { result ≡ length (map.entries self.now) }
     {
@@ -188,7 +188,7 @@ impl RowTables {
             .order_line(line_rank(warehouse, district, order, number))
     }
 
-    /// The district's new order before which there are n others, by their numbers.
+    /// The number of the district's n-th new order, counted from 0 in ascending order.
     pub fn nth_new_order(
         &self,
         warehouse: WarehouseId,
@@ -210,7 +210,7 @@ impl RowTables {
         self.nth_new_order(warehouse, district, 0)
     }
 
-    /// The greatest number of the customer's orders: they are looked through from the last of the district on.
+    /// The greatest number of the customer's orders: a search from the district's last order down.
     pub fn last_order(
         &self,
         warehouse: WarehouseId,
@@ -225,7 +225,7 @@ impl RowTables {
         last_of(orders, customer)
     }
 
-    /// The key has this row from now on; the answer is the one that it had. Memory is refused only where it had none.
+    /// Inserts or replaces the key's row, and returns the old one. Only an insertion can be refused memory.
     pub fn put(&mut self, key: RowKey, row: Row) -> Result<Option<Row>, Memory>
         requires { fits key row ≡ true }
         ensures value { IfOk result (λ was. was ≡ map.get self.old key) }
@@ -238,7 +238,7 @@ impl RowTables {
         Ok(was)
     }
 
-    /// The key, which has a row, has this one from now on; the answer is the one that it had. It takes no memory.
+    /// Replaces the key's row, which exists, and returns the old one, without allocating.
     pub fn replace(&mut self, key: RowKey, row: Row) -> Option<Row>
         requires fit { fits key row ≡ true }
         requires there { is_some (map.get self.old key) ≡ true }
@@ -251,7 +251,7 @@ impl RowTables {
         }
     }
 
-    /// The key has no row from now on; the answer is the one that it had.
+    /// Removes the key's row, and returns it.
     pub fn remove(&mut self, key: &RowKey) -> Option<Row>
         ensures value { result ≡ map.get self.old key.now }
         ensures after { self.new ≡ map.remove self.old key.now }

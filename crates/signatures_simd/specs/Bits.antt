@@ -3,11 +3,11 @@ use Rattle.std.specs.Prelude.{ℕ, ◌+◌, ◌*◌, ◌/◌, ◌%◌, ◌^◌}
 use Rattle.tpcc_rows.specs.declared.granule.Granule.{Granule}
 use Rattle.tpcc_rows.specs.declared.granule.Granule.TheVariants.{Warehouse, Customer, Stock, Book, DistrictYtd, DistrictNext}
 
--- a kind, a warehouse, a district and a number within it, in one number
+-- a kind, a warehouse, a district and a number within it, as one number
 abbrev pub pack : ℕ → ℕ → ℕ → ℕ → ℕ
 pack kind w d n = kind * 2 ^ 48 + w * 2 ^ 32 + d * 2 ^ 24 + n
 
--- a granule in one number, with 0 for what it doesn't have
+-- a granule as one number, with 0 for what it doesn't have
 abbrev pub packed : Granule → ℕ
 packed (Warehouse w) = pack 1 w 0 0
 packed (Customer w d c) = pack 3 w d c

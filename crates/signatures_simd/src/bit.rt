@@ -5,7 +5,7 @@ ghost use Rattle.signatures_simd.specs.Bits.{bit, pack, packed};
 use tpcc_rows::granule::Granule;
 use tpcc_rows::id::WarehouseId;
 
-/// The whole part of 2^64 divided by the golden ratio: Knuth's multiplier for hashing by products.
+/// 2^64 over the golden ratio, rounded down: Knuth's multiplier for multiplicative hashing.
 pub const MULTIPLIER: u64 = 0x9E37_79B9_7F4A_7C15;
 
 fn place_pack(kind: u64, warehouse: WarehouseId, district: u64, number: u64) -> u64
@@ -17,7 +17,7 @@ fn place_pack(kind: u64, warehouse: WarehouseId, district: u64, number: u64) -> 
     (kind << 48) + (u64::from(warehouse.number()) << 32) + (district << 24) + number
 }
 
-/// A granule in one number: its kind, warehouse, district and number, with 0 for what it doesn't have.
+/// A granule as one number: its kind, warehouse, district and number, with 0 for what it doesn't have.
 pub fn packed(granule: &Granule) -> u64
     ensures { result ≡ packed granule.now }
 {

@@ -1,4 +1,4 @@
-//! The eight words of a signature in one vector, a word in each lane.
+//! The eight words of a signature as one vector, a word a lane.
 ghost use Rattle.std.specs.Prelude.{◌≡◌, ℕ, ◌||◌};
 ghost use Rattle.std.specs.List.{list_any};
 ghost use Rattle.serializability.specs.BitSets.{has, meet};
@@ -6,7 +6,7 @@ ghost use Rattle.signatures_simd.specs.Words.{word_bits, words_bits};
 
 use std::simd::prelude::*;
 
-/// The bits of either.
+/// The union.
 #[inline(always)]
 pub(crate) fn either(one: &[u64; 8], other: &[u64; 8]) -> [u64; 8]
     ensures { (b : ℕ) → has (words_bits result) b ≡ (has (words_bits one.now) b || has (words_bits other.now) b) }
@@ -15,7 +15,7 @@ pub(crate) fn either(one: &[u64; 8], other: &[u64; 8]) -> [u64; 8]
     bits.to_array()
 }
 
-/// Whether some bit of a word is set.
+/// Whether any bit is set.
 #[inline(always)]
 fn has_bit(word: u64) -> bool
     ensures { result ≡ list_any (λ bit. bit) (word_bits word) }
@@ -23,7 +23,7 @@ fn has_bit(word: u64) -> bool
     word != 0
 }
 
-/// Whether some bit is in both.
+/// Whether the two share a bit.
 #[inline(always)]
 pub(crate) fn have_common(one: &[u64; 8], other: &[u64; 8]) -> bool
     ensures { result ≡ meet (words_bits one.now) (words_bits other.now) }

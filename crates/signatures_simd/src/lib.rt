@@ -1,5 +1,5 @@
-//! Signatures of lists of granules: 512 bits, of which a granule sets one. Lists whose signatures have no bit in common
-//! have no granule in common. Two signatures are joined and compared word by word, each in one vector of eight lanes.
+//! Signatures of lists of granules: 512 bits, of which each granule sets one. Lists whose signatures share no bit share no
+//! granule. Union and intersection are one vector operation of eight lanes each.
 #![tactic(auto)]
 
 mod bit;

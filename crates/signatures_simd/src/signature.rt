@@ -1,4 +1,4 @@
-//! Signatures, and the tests whether they meet.
+//! Signatures, and whether they meet.
 ghost use Rattle.std.specs.Prelude.{◌≡◌, ℕ, ◌||◌, map};
 ghost use Rattle.serializability.specs.BitSets.{IsSignatureOf, has, meet};
 ghost use Rattle.serializability.specs.LevelRows.{last_from};
@@ -9,7 +9,7 @@ use crate::lanes::{either, have_common};
 use std::marker::Model;
 use tpcc_rows::granule::Granule;
 
-/// The bits of some granules: bit b is in word b / 64.
+/// The bits of a list of granules: bit b is in word b / 64.
 #[derive(Drop)]
 pub struct Signature {
     words: [u64; 8],
@@ -37,7 +37,7 @@ impl Signature {
         Signature { words }
     }
 
-    /// The bits of either.
+    /// The union.
     pub fn union(&self, other: &Signature) -> Signature
         ensures { (b : ℕ) → has result b ≡ (has self.now b || has other.now b) }
     {
@@ -46,7 +46,7 @@ impl Signature {
         }
     }
 
-    /// Whether some bit is in both.
+    /// Whether the two share a bit.
     pub fn meets(&self, other: &Signature) -> bool
         ensures { result ≡ meet self.now other.now }
     {
@@ -54,7 +54,7 @@ impl Signature {
     }
 }
 
-/// The greatest place of a signature that meets this one.
+/// The last place of a signature that meets this one.
 pub fn highest_meeting(signatures: &[Signature], other: &Signature) -> Option<usize>
     ensures { result ≡ last_from 0 (meet other.now) signatures.now }
 {

@@ -72,10 +72,10 @@ by_kind k r =
     (cond (k == 9) (district_ytd_at r)
     (cond (k == 10) (district_next_at r) None))))))))
 
--- the key of a rank, where it is one's
+-- the key of a rank, if it has one
 unfoldable pub key_at : ℕ → Option RowKey
 key_at r = by_kind (kind_in r) r
 
--- the key of a rank, which is one's
+-- the key of a rank that has one
 abbrev pub key_of : ℕ → RowKey
 key_of r = unwrap_or (key_at r) (key.Warehouse 1)

@@ -1,4 +1,4 @@
--- The leaves of ranks, in groups of sixteen that follow one another.
+-- The leaves of ranks, in groups of sixteen consecutive ones.
 use Rattle.std.specs.Prelude.{ℕ, ◌/◌, ◌%◌}
 use Rattle.tables.specs.Keys.{key_of}
 use Rattle.tpcc_rows.specs.Leaves.{leaf}

@@ -1,5 +1,5 @@
--- The rank of a key, a number below 2^64 that rises with the keys: the kind in the first byte, then the columns. It parts the keys of
--- all numbers that their types hold, where a code parts those of a database.
+-- The rank of a key, a number below 2^64 that ascends with the keys: the kind in the first byte, then the columns. It is injective
+-- on all keys of their types, where codes are on those of a database.
 use Rattle.std.specs.Prelude.{ℕ, ◌+◌, ◌*◌, ◌^◌}
 use Rattle.tpcc_rows.specs.Limits.{IsBetween}
 use Rattle.tpcc_rows.specs.declared.id.TheConstants.{LAST_REQUEST}
@@ -21,7 +21,7 @@ kind (key.History n) = 8
 kind (key.DistrictYtd w d) = 9
 kind (key.DistrictNext w d) = 10
 
--- 0 stands for a column that the kind has not
+-- 0 stands for a column that the kind lacks
 abbrev pub rank_in_kind : RowKey → ℕ
 rank_in_kind (key.Warehouse w) = columns w 0 0 0
 rank_in_kind (key.Customer w d c) = columns w d c 0
@@ -42,7 +42,7 @@ IsDistrict w d = IsBetween 1 100 w × IsBetween 1 10 d
 abbrev pub IsOrder : ℕ → ℕ → ℕ → Type 0
 IsOrder w d o = IsBetween 1 100 w × IsBetween 1 10 d × IsBetween 1 9999999 o
 
--- the numbers of the key are within the limits of their types
+-- the key's numbers are within the limits of their types
 abbrev pub IsNumbered : RowKey → Type 0
 IsNumbered (key.Warehouse w) = IsBetween 1 100 w
 IsNumbered (key.Customer w d c) = IsBetween 1 100 w × IsBetween 1 10 d × IsBetween 1 3000 c

@@ -1,9 +1,9 @@
--- Tables side by side, each rank in the table at its place.
+-- A row of tables, each rank in the table at its place.
 use Rattle.std.specs.Prelude.{◌≡◌, ℕ, ◌/◌, ◌%◌, ◌^◌, eqb, false, List, [], ◌∷◌, ◌++◌, length, get_or, None}
 use Rattle.std.specs.FinMap as map
 use Rattle.tables.specs.ByRank.{ByRank}
 
--- the place of a rank: that of its warehouse and its district
+-- the place of a rank: its warehouse's and district's
 abbrev pub place_of : ℕ → ℕ
 place_of r = r / 2 ^ 28 % 2048
 
@@ -17,11 +17,11 @@ module _ {X : Type 0} where
   unfoldable pub union : List (ByRank X) → ByRank X
   union ts = map.from_entries (entries_of ts)
 
-  -- table n, with no rows past the end
+  -- table n, empty past the end
   abbrev pub table_at : List (ByRank X) → ℕ → ByRank X
   table_at ts n = get_or ts n map.empty
 
-  -- each rank stands in the table at its place alone
+  -- each rank is in the table at its place alone
   pub record IsPlaced (place : ℕ → ℕ) (ts : List (ByRank X)) : Type 0 where
     pub placed : (n r : ℕ) → eqb (place r) n ≡ false → map.get (table_at ts n) r ≡ None
 

@@ -133,7 +133,7 @@ fn district_next_at(number: u64) -> Option<RowKey>
     })
 }
 
-/// The key of a rank, where it is one's.
+/// The key of a rank, if it has one.
 #[tactic(auto, unfolding(crate::specs::Keys::key_at))]
 pub fn key_at(number: u64) -> Option<RowKey>
     ensures { result ≡ key_at number }

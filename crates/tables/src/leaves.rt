@@ -11,14 +11,14 @@ use std::marker::Model;
 use tpcc_rows::codes::LEAVES;
 use tpcc_rows::memory::Memory;
 
-/// How many leaves a group has.
+/// The leaves of a group.
 const GROUP: usize = 16;
 
-/// How many groups there are.
+/// The number of groups.
 const GROUPS: usize = 4096;
 
-/// The ranks of the leaves of one group. A leaf has a place from the first rank on that comes to it or to a later one, so that
-/// few rows take little room.
+/// The ranks of the leaves of one group. A leaf gets its place with the first rank for it or a later one, so few rows take
+/// little memory.
 #[derive(Drop)]
 struct Group {
     leaves: Vec<Table<()>>,
@@ -40,7 +40,7 @@ impl Model for Group {
     ghost invariant = { λ s. IsPlaced in_group s.leaves.items };
 }
 
-/// Empty tables behind the others, until there are so many.
+/// Appends empty tables up to this number.
 fn extend(alloc: Global, leaves: &mut Vec<Table<()>>, count: usize) -> Result<(), Memory>
     requires { IsPlaced in_group leaves.old.items }
     ensures placed { IsPlaced in_group leaves.new.items }
@@ -94,7 +94,7 @@ impl Group {
     }
 }
 
-/// A finite set of ranks, each with those of its leaf.
+/// A finite set of ranks, by leaf.
 #[derive(Drop)]
 pub struct Leaves {
     alloc: Global,
@@ -129,7 +129,7 @@ impl Leaves {
         Ok(Leaves { alloc, groups })
     }
 
-    /// The ranks of a leaf, in rising order.
+    /// The ranks of a leaf, in ascending order.
     pub fn ranks(&self, leaf: usize) -> &[(u64, ())]
         requires { leaf < LEAVES }
         ensures { result.now ≡ map.entries (rows_at leaf_of self.now leaf) }
@@ -137,7 +137,7 @@ impl Leaves {
         self.groups[leaf / GROUP].ranks(leaf % GROUP)
     }
 
-    /// The rank is among those of its leaf from now on.
+    /// Inserts the rank.
     pub fn put(&mut self, leaf: usize, rank: u64) -> Result<(), Memory>
         requires small { leaf < LEAVES }
         requires at { leaf ≡ leaf_of rank }
@@ -148,7 +148,7 @@ impl Leaves {
         group.put(self.alloc, leaf % GROUP, rank)
     }
 
-    /// The rank isn't among those of its leaf from now on.
+    /// Removes the rank.
     pub fn remove(&mut self, leaf: usize, rank: u64)
         requires small { leaf < LEAVES }
         requires at { leaf ≡ leaf_of rank }

@@ -1,4 +1,4 @@
-//! The rank of a key: a number that rises with the keys, so that keys are compared as numbers.
+//! The rank of a key: a number that ascends with the keys, so that keys compare as numbers.
 ghost use Rattle.std.specs.Prelude.{◌≡◌, ◌<◌, ◌≤◌, ◌^◌};
 ghost use Rattle.tables.specs.Ranks.{IsDistrict, IsNumbered, IsOrder, columns, rank};
 ghost use Rattle.tpcc_rows.specs.declared.key.RowKey.TheVariants.{Customer, DistrictNext, DistrictYtd, NewOrder, Order, OrderLine, Stock, Warehouse};
@@ -6,7 +6,7 @@ ghost use Rattle.tpcc_rows.specs.declared.key.RowKey.TheVariants.{Customer, Dist
 use tpcc_rows::id::{CustomerId, DistrictId, ItemId, LineNumber, OrderId, WarehouseId};
 use tpcc_rows::key::RowKey;
 
-/// The columns behind one another. 0 stands for a column that a kind has not.
+/// The columns, concatenated. 0 stands for a column that the kind lacks.
 fn columns(warehouse: u64, district: u64, number: u64, line: u64) -> u64
     requires warehouse { warehouse ≤ 100 }
     requires district { district < 2 ^ 4 }

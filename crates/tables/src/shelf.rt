@@ -1,4 +1,4 @@
-//! Tables side by side, one for each district of each warehouse: new rows of a district come at the end of its table.
+//! A table for each district of each warehouse: a district's new rows go to the end of its table.
 ghost use Rattle.std.specs.Prelude.{◌≡◌, ◌<◌, IfOk, None, OnErr, OnOk, option_copied};
 ghost use Rattle.std.specs.FinMap as map;
 ghost use Rattle.tables.specs.Shelves.{place_of, rows_at};
@@ -8,10 +8,10 @@ use std::alloc::Global;
 use std::marker::Model;
 use tpcc_rows::memory::Memory;
 
-/// How many tables there are.
+/// The number of tables.
 const PLACES: usize = 2048;
 
-/// The place of a rank's table: that of its warehouse and its district.
+/// The place of a rank's table: its warehouse's and district's.
 fn place_of(rank: u64) -> usize
     ensures value { result ≡ place_of rank }
     ensures below { result < 2048 }
@@ -45,28 +45,28 @@ impl<R> Shelf<R> {
         self.tables[place_of(rank)].get(rank)
     }
 
-    /// The same, where the rank is expected at the place in its table.
+    /// The same, with a hint at the rank's place in its table.
     pub fn get_near(&self, rank: u64, place: usize) -> Option<&R>
         ensures { option_copied result ≡ map.get self.now rank }
     {
         self.tables[place_of(rank)].get_near(rank, place)
     }
 
-    /// The rows of the rank's table with their ranks, in rising rank.
+    /// The rows of the rank's table with their ranks, in ascending rank.
     pub fn slice_at(&self, rank: u64) -> &[(u64, R)]
         ensures { result.now ≡ map.entries (rows_at place_of self.now (place_of rank)) }
     {
         self.tables[place_of(rank)].as_slice()
     }
 
-    /// How many rows stand in the rank's table.
+    /// The number of rows of the rank's table.
     pub fn len_at(&self, rank: u64) -> usize {
         self.tables[place_of(rank)].len()
     }
 }
 
 impl<R: Drop> Shelf<R> {
-    /// No rows, and a table for each district.
+    /// An empty table for each district.
     pub fn new(alloc: Global) -> Result<Shelf<R>, Memory>
         ensures { IfOk result (λ shelf. shelf ≡ map.empty) }
     {
@@ -77,7 +77,7 @@ impl<R: Drop> Shelf<R> {
         Ok(Shelf { tables })
     }
 
-    /// The rank has this row from now on; the answer is the one that it had. Memory is refused only where it had none.
+    /// Inserts or replaces the rank's row, and returns the old one. Only an insertion can be refused memory.
     pub fn put(&mut self, rank: u64, row: R) -> Result<Option<R>, Memory>
         ensures value { IfOk result (λ was. was ≡ map.get self.old rank) }
         ensures ok { OnOk result (self.new ≡ map.insert self.old rank row) }
@@ -89,7 +89,7 @@ impl<R: Drop> Shelf<R> {
         table.put(rank, row)
     }
 
-    /// The same, where the rank is expected at this place in its table.
+    /// The same, with a hint at the rank's place in its table.
     pub fn put_near(&mut self, rank: u64, row: R, expected: usize) -> Result<Option<R>, Memory>
         ensures value { IfOk result (λ was. was ≡ map.get self.old rank) }
         ensures ok { OnOk result (self.new ≡ map.insert self.old rank row) }
@@ -101,7 +101,7 @@ impl<R: Drop> Shelf<R> {
         table.put_near(rank, row, expected)
     }
 
-    /// The rank has no row from now on; the answer is the one that it had.
+    /// Removes the rank's row, and returns it.
     pub fn remove(&mut self, rank: u64) -> Option<R>
         ensures value { result ≡ map.get self.old rank }
         ensures after { self.new ≡ map.remove self.old rank }

@@ -1,4 +1,4 @@
-//! Rows of one kind in one piece of memory, in the order of their ranks.
+//! Rows of one kind in a sorted vector, by rank.
 ghost use Rattle.std.specs.Prelude.{◌≡◌, ◌<◌, ◌≤◌, ◌^◌, Err, IfOk, IsTrue, None, Ok, OnErr, OnOk, is_some, length, option_copied, true};
 ghost use Rattle.std.specs.FinMap as map;
 ghost use Rattle.std.specs.List.{HoldsAt, insert, remove, slice_set};
@@ -10,7 +10,7 @@ use std::marker::Model;
 use std::mem;
 use tpcc_rows::memory::Memory;
 
-/// How far from a guess a row is looked for.
+/// How far around a hint a row is searched.
 const NEAR: usize = 64;
 
 /// A finite map from ranks to rows.
@@ -35,7 +35,7 @@ impl<R> Model for Table<R> {
     ghost invariant = { λ s. are_in_order nat_cmp s.entries.items ≡ true };
 }
 
-/// Where the rank is if no number is left out from the first rank on. Any answer will do: it is looked at, and not relied on.
+/// Where the rank is if there are no gaps since the first. Any answer will do: it is only a hint.
 fn guess<R>(entries: &[(u64, R)], rank: u64) -> usize {
     match entries.first() {
         Some((first, _)) => (rank.saturating_sub(*first) / 16) as usize,
@@ -43,7 +43,7 @@ fn guess<R>(entries: &[(u64, R)], rank: u64) -> usize {
     }
 }
 
-/// Where the rank is, if it isn't far from the place.
+/// Where the rank is, if it is near the place.
 fn near<R>(entries: &[(u64, R)], rank: u64, place: usize) -> usize {
     let high = place.saturating_add(NEAR).min(entries.len());
     let low = place.saturating_sub(NEAR).min(high);
@@ -72,7 +72,7 @@ fn is_behind<R>(entries: &[(u64, R)], rank: u64) -> bool
     }
 }
 
-/// Where the rank is, or where it would be put.
+/// Where the rank is, or where it would be inserted.
 fn search<R>(entries: &[(u64, R)], rank: u64) -> Result<usize, usize>
     requires { are_in_order nat_cmp entries.now ≡ true }
     ensures { IsPlaceOf nat_cmp rank entries.now result }
@@ -80,7 +80,7 @@ fn search<R>(entries: &[(u64, R)], rank: u64) -> Result<usize, usize>
     entries.binary_search_by(|entry| entry.0.cmp(&rank))
 }
 
-/// Where the rank is, or where it would be put: at the guessed place, at the end, near the guess, or found by a search of all.
+/// Where the rank is, or where it would be inserted: at the hint, at the end, near the hint, or by binary search.
 fn place_of<R>(entries: &[(u64, R)], rank: u64, guess: usize) -> Result<usize, usize>
     requires { are_in_order nat_cmp entries.now ≡ true }
     ensures { IsPlaceOf nat_cmp rank entries.now result }
@@ -98,7 +98,7 @@ fn place_of<R>(entries: &[(u64, R)], rank: u64, guess: usize) -> Result<usize, u
     search(entries, rank)
 }
 
-/// The row of the rank, where there is one.
+/// The row of the rank, if there is one.
 fn found<R>(entries: &[(u64, R)], rank: u64, guess: usize) -> Option<&R>
     requires { are_in_order nat_cmp entries.now ≡ true }
     ensures { option_copied result ≡ map.find nat_cmp rank entries.now }
@@ -109,7 +109,7 @@ fn found<R>(entries: &[(u64, R)], rank: u64, guess: usize) -> Option<&R>
     }
 }
 
-/// The place has this entry from now on; the answer is the row that it had.
+/// Replaces the entry at the place, and returns its row.
 fn replace<R>(entries: &mut Vec<(u64, R)>, place: usize, entry: (u64, R)) -> R
     requires { place < length entries.old.items }
     ensures value { HoldsAt (λ entry. entry.1 ≡ result) entries.old.items place }
@@ -119,7 +119,7 @@ fn replace<R>(entries: &mut Vec<(u64, R)>, place: usize, entry: (u64, R)) -> R
     row
 }
 
-/// One entry more at the place, before those that stood from there on. There was none of its rank.
+/// Inserts an entry of a new rank at the place.
 fn insert<R: Drop>(
     entries: &mut Vec<(u64, R)>,
     place: usize,
@@ -134,7 +134,7 @@ fn insert<R: Drop>(
     Ok(None)
 }
 
-/// One entry fewer: the one at the place, whose row is the answer.
+/// Removes the entry at the place, and returns its row.
 fn remove<R>(entries: &mut Vec<(u64, R)>, place: usize) -> R
     requires { place < length entries.old.items }
     ensures value { HoldsAt (λ entry. entry.1 ≡ result) entries.old.items place }
@@ -161,21 +161,21 @@ impl<R> Table<R> {
         found(&self.entries, rank, guess)
     }
 
-    /// The same, where the rank is expected at the place.
+    /// The same, with a hint at the rank's place.
     pub fn get_near(&self, rank: u64, place: usize) -> Option<&R>
         ensures { option_copied result ≡ map.get self.now rank }
     {
         found(&self.entries, rank, place)
     }
 
-    /// The rows with their ranks, in rising rank.
+    /// The rows with their ranks, in ascending rank.
     pub fn as_slice(&self) -> &[(u64, R)]
         ensures { result.now ≡ map.entries self.now }
     {
         self.entries.as_slice()
     }
 
-    /// How many rows there are.
+    /// The number of rows.
     pub fn len(&self) -> usize
         ensures { result ≡ length (map.entries self.now) }
     {
@@ -184,7 +184,7 @@ impl<R> Table<R> {
 }
 
 impl<R: Drop> Table<R> {
-    /// The rank has this row from now on; the answer is the one that it had. Memory is refused only where it had none.
+    /// Inserts or replaces the rank's row, and returns the old one. Only an insertion can be refused memory.
     pub fn put(&mut self, rank: u64, row: R) -> Result<Option<R>, Memory>
         ensures value { IfOk result (λ was. was ≡ map.get self.old rank) }
         ensures ok { OnOk result (self.new ≡ map.insert self.old rank row) }
@@ -195,7 +195,7 @@ impl<R: Drop> Table<R> {
         self.put_near(rank, row, guess)
     }
 
-    /// The same, where the rank is expected at this place.
+    /// The same, with a hint at the rank's place.
     pub fn put_near(&mut self, rank: u64, row: R, expected: usize) -> Result<Option<R>, Memory>
         ensures value { IfOk result (λ was. was ≡ map.get self.old rank) }
         ensures ok { OnOk result (self.new ≡ map.insert self.old rank row) }
@@ -208,7 +208,7 @@ impl<R: Drop> Table<R> {
         }
     }
 
-    /// The rank has no row from now on; the answer is the one that it had.
+    /// Removes the rank's row, and returns it.
     pub fn remove(&mut self, rank: u64) -> Option<R>
         ensures value { result ≡ map.get self.old rank }
         ensures after { self.new ≡ map.remove self.old rank }

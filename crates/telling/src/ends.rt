@@ -1,26 +1,26 @@
-//! What an end gave or took, for contracts to name. No contract of a file says which bytes it has; that a run's text is that of the
-//! bytes which its files gave, and went out to the last byte, can be said all the same.
+//! Traces of sources and sinks, for contracts to name. No contract can say which bytes a file has; yet with these one says that a
+//! run's text is that of the bytes which its files gave, and was written to the last byte.
 ghost use Rattle.std.specs.Prelude.{◌≡◌, ℕ, ◌+◌, ◌<◌, ◌≤◌, ◌^◌, ◌==◌, ◌++◌, Bool, List, [], Option, Some, length, take, is_ok, if◌then◌else◌, false, IfOk, OnErr};
 ghost use Rattle.std.specs.Io.KnownBytes.{Consumes, IsAtEnd, Keeps};
 
 use boxcar::tag::{Names, Tag};
 use records::io::{Failed, Sink, Source};
 
-/// What bytes are pulled from. A contract knows all that it gave.
+/// A source of bytes that traces what it gave.
 pub trait TellingSource {
-    // The bytes that are left, where they are known.
+    // The remaining bytes, if known.
     ghost left: { Self → Option (List ℕ) };
 
-    // The bytes that its calls gave, those of the last call last.
+    // The bytes given so far.
     ghost given: { Self → List ℕ };
 
-    // Whether the last call that didn't fail found the end.
+    // Whether the last successful call found the end.
     ghost ended: { Self → Bool };
 
-    // How many calls failed.
+    // The number of failed calls.
     ghost failed: { Self → ℕ };
 
-    /// The next bytes, at the front of `into`. For a slice that is not empty, 0 means the end.
+    /// Reads the next bytes into the front of `into`. For a nonempty slice, 0 means the end.
     fn pull(&mut self, into: &mut [u8]) -> Result<usize, Failed>
         requires { failed self.old < 2 ^ 63 }
         ensures within { IfOk result (λ n. n ≤ length into.new) }
@@ -33,7 +33,7 @@ pub trait TellingSource {
         ensures count { failed self.new ≡ failed self.old + (if is_ok result then 0 else 1) };
 }
 
-/// What was told before, and what a call gives or takes now.
+/// The trace so far, and what this call gives or takes.
 #[derive(Drop)]
 struct Step<'a> {
     before: &'a Tag,
@@ -46,7 +46,7 @@ impl<'a> Names<Step<'a>> for Joined {
     ghost numbers = { λ step. step.before.now.numbers ++ step.piece.now };
 }
 
-/// An end with a record of what it gave or took, which takes no bytes.
+/// A source or sink with a ghost trace of what it gave or took.
 #[derive(Drop)]
 pub struct Telling<S> {
     pub inner: S,
@@ -55,7 +55,7 @@ pub struct Telling<S> {
 }
 
 impl<S> Telling<S> {
-    /// Nothing was given or taken so far.
+    /// With an empty trace.
     pub fn new(inner: S) -> Telling<S>
         ensures inner { result.inner ≡ inner }
         ensures told { result.told.numbers ≡ [] }
@@ -69,7 +69,7 @@ impl<S> Telling<S> {
     }
 }
 
-/// What was told before, and these bytes behind it.
+/// The trace so far, with these bytes appended.
 fn told_more(before: &Tag, piece: &[u8]) -> Tag
     ensures { result.numbers ≡ before.now.numbers ++ piece.now }
 {

@@ -1,4 +1,4 @@
-//! Ends of which a contract knows what they gave or took, and whole inputs.
+//! Sources and sinks that trace, in contracts, the bytes that they moved; and whole inputs.
 #![tactic(auto)]
 
 pub mod ends;

@@ -1,4 +1,4 @@
-//! A whole input.
+//! Reads whole inputs.
 ghost use Rattle.std.specs.Prelude.{◌≡◌, ◌≢◌, ◌+◌, ◌<◌, ◌≤◌, ◌^◌, true, IfErr, IfOk, IsErrOf, OnOk, vec_len};
 ghost use Rattle.records.specs.Io.{IsOfWholeInput};
 ghost use Rattle.telling.specs.Told.{IsOverLong, OfSource};
@@ -8,10 +8,10 @@ use records::fault::ReadError;
 use records::io::Failed;
 use std::alloc::Global;
 
-/// How many bytes are pulled at once.
+/// Bytes a pull.
 const CHUNK: usize = 32_768;
 
-/// All that a source gives up to its end, of at most `limit` bytes.
+/// Reads a source to its end, at most `limit` bytes.
 pub fn slurp_told<S: TellingSource>(
     alloc: Global,
     source: &mut S,
@@ -22,7 +22,7 @@ pub fn slurp_told<S: TellingSource>(
     ensures over { OnOk result (S.ended source.new ≡ true) }
     ensures within { IfOk result (λ v. vec_len v ≤ limit) }
 
-    // Each error only for its reason, and no failure but the one that is answered.
+    // Each error has its cause, and the only failure is the one reported.
     ensures err { IfErr result (λ e. OfSource (S.left source.old) (S.given source.old) (S.given source.new) (IsOverLong e limit)) }
     ensures read { IsErrOf result ReadError.Read → S.failed source.new ≡ S.failed source.old + 1 }
     ensures no_read { (result ≢ Err ReadError.Read) → S.failed source.new ≡ S.failed source.old }

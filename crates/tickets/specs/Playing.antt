@@ -1,4 +1,4 @@
--- What a contract sees of a played world.
+-- What contracts see of a played world.
 use Rattle.std.specs.Prelude.{◌≡◌, ℕ, ◌≤◌, List, map, vec_capacity}
 use Rattle.tickets.specs.World.{Worker, World, opening, after}
 use Rattle.tickets.specs.declared.event.Event.{Event}
@@ -15,10 +15,10 @@ world_of w = record { places = w.places; next = w.next; workers = map worker_of 
 abbrev pub IsReached : World → Type 0
 IsReached w = (workers : ℕ) × (events : List Event) × (w ≡ after (opening w.places workers) events)
 
--- the worker may draw and finish all places without more memory
+-- the worker has capacity for all places
 abbrev pub HasRoom : ℕ → Held → Type 0
 HasRoom places a = (places ≤ vec_capacity a.drawn) × (places ≤ vec_capacity a.finished)
 
--- the worker has the room that it had
+-- the worker's capacity is unchanged
 abbrev pub KeepsRoom : Held → Held → Type 0
 KeepsRoom old new = (vec_capacity new.drawn ≡ vec_capacity old.drawn) × (vec_capacity new.finished ≡ vec_capacity old.finished)

@@ -1,4 +1,4 @@
--- What a contract sees of a desk and of its seats.
+-- What contracts see of a desk and its seats.
 use Rattle.std.specs.Prelude.{◌≡◌, ℕ, true, false, List, [], ◌∷◌, map, Some, None, is_some, slice_index_or, sum_by, All}
 use Rattle.tickets.specs.declared.desk.Desk.{Desk}
 use Rattle.tickets.specs.declared.seat.Seat.{Seat}
@@ -18,7 +18,7 @@ workers_of desk = desk.size.workers
 abbrev pub entry_of : Seat → Entry
 entry_of seat = slice_index_or seat.inner.me.0 0 (blank 0 0 0)
 
--- the seat is one of the desk's, and its worker has what its last event left
+-- the seat is the desk's, and its worker is as its last event left it
 pub record IsSeatOf (desk : Desk) (seat : Seat) : Type 0 where
   pub table : seat.inner.table_id ≡ desk.table.shared.table_id
   pub places : (entry_of seat).places ≡ desk.size.places
@@ -37,17 +37,17 @@ pub record HasTaken (place : ℕ) (old new : Entry) : Type 0 where
   pub last : last_drawn new ≡ Some place
   pub going : has_stopped new ≡ false
 
--- none was left, and the worker has stopped
+-- no place was left, and the worker has stopped
 pub record HasEnded (old new : Entry) : Type 0 where
   pub entry : new ≡ acted new.history (with_end old)
   pub stopped : has_stopped new ≡ true
 
 -- ---- all seats together
--- the rule holds of the words and of what the seats know
+-- the invariant holds of the words and of what the seats know
 abbrev pub Closes : Desk → ℕ × ℕ → List Seat → Type 0
 Closes desk words seats = FollowsRule desk.size (words.0 ∷ words.1 ∷ []) (map entry_of seats ∷ [])
 
--- the history of each begins the same events
+-- each history is a prefix of the same events
 abbrev pub AreOfOneLine : List Seat → Type 0
 AreOfOneLine seats = (events : List Event) × All (λ seat. Begins (entry_of seat).history events) seats
 

@@ -1,10 +1,10 @@
--- The world of a level: workers draw its places from one row and finish them, until none is left or all are to stop.
+-- The world of a level: workers draw its places in order and finish them, until none is left or all are to stop.
 use Rattle.std.specs.Prelude.{ℕ, ◌+◌, Bool, true, false, ltb, ◌||◌, if◌then◌else◌, List, [], ◌∷◌, ◌++◌, replicate, Option, Some, None, is_some, slice_get, slice_set}
 use Rattle.std.specs.Option.{option_map_or}
 use Rattle.tickets.specs.declared.event.Event.{Event}
 use Rattle.tickets.specs.declared.event.Event.TheVariants.{Draw, Finish, Raise, Look}
 
--- what one worker has: the places that it drew, the one in its hand, those that it finished, the one that it raised since it strays, and whether it has stopped
+-- a worker's state: the places that it drew, the one that it holds, those that it finished, the stray one that it raised, and whether it has stopped
 pub record Worker : Type 0 where
   pub drawn : List ℕ
   pub hand : Option ℕ
@@ -12,14 +12,14 @@ pub record Worker : Type 0 where
   pub raised : Option ℕ
   pub stopped : Bool
 
--- how many places there are, which one is drawn next, the workers by number, and whether all are to stop
+-- the number of places, the next one, the workers by number, and whether all are to stop
 pub record World : Type 0 where
   pub places : ℕ
   pub next : ℕ
   pub workers : List Worker
   pub halt : Bool
 
--- a worker that has nothing yet
+-- a worker before its first event
 abbrev pub fresh : Worker
 fresh = record { drawn = []; hand = None; finished = []; raised = None; stopped = false }
 
@@ -28,15 +28,15 @@ abbrev pub opening : ℕ → ℕ → World
 opening places workers = record { places = places; next = 0; workers = replicate workers fresh; halt = false }
 
 -- ---- what becomes of a worker
--- it has drawn the place, and has it in its hand
+-- it has drawn the place, and holds it
 abbrev pub taking : ℕ → Worker → Worker
 taking place a = record a { drawn = a.drawn ++ place ∷ []; hand = Some place }
 
--- it has finished the place that was in its hand
+-- it has finished the place that it held
 abbrev pub finishing : ℕ → Worker → Worker
 finishing place a = record a { hand = None; finished = a.finished ++ place ∷ [] }
 
--- it has raised the place that was in its hand, and has stopped
+-- it has raised the place that it held, and stopped
 abbrev pub raising : ℕ → Worker → Worker
 raising place a = record a { hand = None; raised = Some place; stopped = true }
 
@@ -48,7 +48,7 @@ stopping a = record a { stopped = true }
 abbrev pub with_worker : World → ℕ → Worker → World
 with_worker w k a = record w { workers = slice_set w.workers k a }
 
--- one place more is drawn
+-- one more place is drawn
 abbrev pub past_next : World → World
 past_next w = record w { next = w.next + 1 }
 
@@ -56,26 +56,26 @@ past_next w = record w { next = w.next + 1 }
 abbrev pub halted : World → World
 halted w = record w { halt = true }
 
--- worker k, which is a, draws the next place, and stops where none is left; with a place in its hand, and once it has stopped, it can't
+-- worker k, whose state is a, draws the next place, or stops if none is left; not while it holds a place, nor once it has stopped
 abbrev pub draw_by : World → ℕ → Worker → World
 draw_by w k a =
     if a.stopped || is_some a.hand then w
     else if ltb w.next w.places then with_worker (past_next w) k (taking w.next a)
     else with_worker w k (stopping a)
 
--- worker k finishes the place in its hand, where it has one
+-- worker k finishes the place that it holds, if any
 abbrev pub finish_by : World → ℕ → Worker → World
 finish_by w k a = option_map_or (λ place. with_worker w k (finishing place a)) a.hand w
 
--- worker k raises the place in its hand, where it has one, and all are to stop
+-- worker k raises the place that it holds, if any, and all are to stop
 abbrev pub raise_by : World → ℕ → Worker → World
 raise_by w k a = option_map_or (λ place. with_worker (halted w) k (raising place a)) a.hand w
 
--- worker k stops where all are to stop
+-- worker k stops, if all are to stop
 abbrev pub look_by : World → ℕ → Worker → World
 look_by w k a = if w.halt then with_worker w k (stopping a) else w
 
--- worker k acts, where there is such a worker
+-- worker k acts, if there is such a worker
 abbrev pub act_by : (World → ℕ → Worker → World) → World → ℕ → World
 act_by act w k = option_map_or (act w k) (slice_get w.workers k) w
 

@@ -13,11 +13,11 @@ use std::alloc::Global;
 /// The word that counts tickets.
 const TICKET: usize = 0;
 
-/// The word that is 1 once all are to stop.
+/// The stop flag: 1 once all are to stop.
 const HALT: usize = 1;
 
-/// The places of a level, which workers on any threads draw one after the other. Each step of a worker is one atomic step
-/// on one word.
+/// The places of a level, drawn in order by workers on any threads. Each step of a worker is one atomic operation on one
+/// word.
 #[derive(Drop)]
 pub struct Desk {
     table: Table<u8, View, Size, ShowsWorld, Global>,
@@ -57,7 +57,7 @@ impl Desk {
         Ok((Desk { table, size }, seats))
     }
 
-    /// The next place, or a number that is no place where none is left.
+    /// Draws the next place, or a number past the end.
     pub fn draw(&self, seat: &mut Seat) -> usize
         requires own { IsSeatOf self.now seat.old }
         requires going { has_stopped (entry_of seat.old) ≡ false }
@@ -73,7 +73,7 @@ impl Desk {
         words.fetch_add::<Draws>(&mut seat.inner, TICKET, 1) as usize
     }
 
-    /// The place that the seat drew last strays: its worker stops, and all are to stop.
+    /// Raises the place that the seat drew last, which strays: its worker stops, and all are to stop.
     pub fn raise(&self, seat: &mut Seat, place: usize)
         requires own { IsSeatOf self.now seat.old }
         requires going { has_stopped (entry_of seat.old) ≡ false }
@@ -88,7 +88,7 @@ impl Desk {
         words.fetch_or::<Raises>(&mut seat.inner, HALT, 1);
     }
 
-    /// Whether all are to stop, as far as the seat sees.
+    /// Whether the seat sees the stop.
     pub fn look(&self, seat: &mut Seat) -> bool
         requires own { IsSeatOf self.now seat.old }
         ensures own { IsSeatOf self.now seat.new }
@@ -104,7 +104,7 @@ impl Desk {
         words.load::<Looks>(&mut seat.inner, HALT) == 1
     }
 
-    /// The two words, once all seats are back: how often the seats drew, and 1 where some seat raised.
+    /// The two words once all seats are back: the number of draws, and 1 if some seat raised.
     pub fn close(self, mut seats: Vec<Seat>) -> (u64, u64)
         requires all { vec_len seats ≡ workers_of self }
         requires own { All (IsSeatOf self) seats.items }

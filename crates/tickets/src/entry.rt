@@ -2,25 +2,25 @@
 use crate::event::Event;
 use std::collections::LinkedList;
 
-/// What is known of one worker. It stands in contracts alone: no value of it is made.
+/// What is known of one worker. For contracts only: no value of it exists at run time.
 pub struct Entry {
     /// The worker's number.
     pub worker: u64,
-    /// How many places the level has.
+    /// The level's number of places.
     pub places: u64,
-    /// How many workers the level has.
+    /// The level's number of workers.
     pub workers: u64,
-    /// The places that the worker drew, in this order.
+    /// The places that the worker drew, in order.
     pub drawn: LinkedList<u64>,
     /// It drew when no place was left.
     pub past: bool,
     /// The place that it raised.
     pub raised: Option<u64>,
-    /// It saw that all are to stop.
+    /// It saw the stop.
     pub saw: bool,
-    /// The events up to the last one of the worker.
+    /// The events up to the worker's last.
     pub history: LinkedList<Event>,
 }
 
-/// What a seat knows: the entry of its worker. Seats that have come together know those of several.
+/// What a seat knows: its worker's entry. Joined seats know several workers' entries.
 pub type View = LinkedList<Entry>;

@@ -1,14 +1,14 @@
 //! What workers do.
 
-/// What one worker does, by its number.
+/// An event of one worker, by its number.
 #[derive(Clone, Copy, Debug, PartialEq, Eq)]
 pub enum Event {
-    /// It draws the next place, or stops where none is left.
+    /// It draws the next place, or stops if none is left.
     Draw(usize),
-    /// It finishes the place in its hand.
+    /// It finishes the place that it holds.
     Finish(usize),
-    /// The place in its hand strays: it stops, and all are to stop.
+    /// The place that it holds strays: it stops, and all are to stop.
     Raise(usize),
-    /// It stops where all are to stop.
+    /// It stops, if all are to stop.
     Look(usize),
 }

@@ -1,5 +1,5 @@
-//! The places of a level, which its workers draw one after the other: as a world that is played event by event, and as a
-//! desk of two atomic words, whose every state refines such a world.
+//! The places of a level, drawn by its workers in order: as a world that is played event by event, and as a desk of two
+//! atomic words that refines it.
 #![tactic(auto)]
 
 mod desk;

@@ -1,9 +1,9 @@
-//! The rule over the words and the views of a desk, and its steps.
+//! The invariant of a desk's words and views, and its steps.
 use crate::entry::View;
 use crate::size::Size;
 use atomic_table::{Join, Play, Split, TableRule};
 
-/// Some events lead to a world that words and views show.
+/// Words and views show a world that some events lead to.
 pub struct ShowsWorld;
 
 impl TableRule<u8, View, Size> for ShowsWorld {
@@ -33,7 +33,7 @@ impl Play<u8, View> for Raises {
     ghost then = { Raised };
 }
 
-/// A worker looks whether all are to stop.
+/// A worker looks at the stop flag.
 pub struct Looks;
 
 impl Play<u8, View> for Looks {
@@ -42,7 +42,7 @@ impl Play<u8, View> for Looks {
     ghost then = { Looked };
 }
 
-/// The first entry goes to a seat of its own, and seats come together.
+/// The first entry goes to a seat of its own, and seats join.
 pub struct Deals;
 
 impl Split<View> for Deals {

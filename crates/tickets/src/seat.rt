@@ -3,7 +3,7 @@ ghost use Rattle.std.specs.Prelude.{◌≡◌, [], length};
 
 use crate::entry::View;
 
-/// A worker's right to draw, raise and look. It has no bytes: what it knows of its worker stands in contracts alone.
+/// A worker's right to draw, raise and look. It takes no bytes: what it knows is in contracts alone.
 #[derive(Drop)]
 pub struct Seat {
     pub(crate) inner: atomic_table::Seat<u8, View>,

@@ -1,12 +1,12 @@
-//! How large a level is.
+//! The size of a level.
 
-/// How many places a level has at most.
+/// The most places of a level.
 pub const MOST_PLACES: usize = 1024;
 
-/// How many workers run a level at most.
+/// The most workers of a level.
 pub const MOST_WORKERS: usize = 64;
 
-/// How many places a level has, and how many workers.
+/// A level's numbers of places and workers.
 #[derive(Clone, Copy)]
 pub struct Size {
     pub places: u64,

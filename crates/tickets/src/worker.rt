@@ -1,4 +1,4 @@
-//! What one worker has.
+//! The state of one worker.
 ghost use Rattle.std.specs.Prelude.{◌≡◌, ◌<◌, IfOk, length, vec_capacity};
 ghost use Rattle.tickets.specs.Playing.{HasRoom, KeepsRoom, worker_of};
 ghost use Rattle.tickets.specs.World.{finishing, fresh, raising, stopping, taking};
@@ -6,7 +6,7 @@ ghost use Rattle.tickets.specs.World.{finishing, fresh, raising, stopping, takin
 use memory_refusal::Memory;
 use std::alloc::Global;
 
-/// What one worker has. All memory is taken when it is made.
+/// The state of one worker. All memory is allocated up front.
 #[derive(Drop)]
 pub struct Worker {
     drawn: Vec<usize>,
@@ -17,7 +17,7 @@ pub struct Worker {
 }
 
 impl Worker {
-    /// A worker that has nothing yet, of a world of so many places.
+    /// A worker before its first event, in a world with this number of places.
     pub(crate) fn new(alloc: Global, places: usize) -> Result<Worker, Memory>
         ensures fresh { IfOk result (λ a. worker_of a ≡ fresh) }
         ensures room { IfOk result (λ a. HasRoom places a) }
@@ -31,21 +31,21 @@ impl Worker {
         })
     }
 
-    /// The places that it drew, in this order.
+    /// The places that it drew, in order.
     pub fn drawn(&self) -> &[usize]
         ensures { result.now ≡ (worker_of self.now).drawn }
     {
         &self.drawn
     }
 
-    /// The place in its hand.
+    /// The place that it holds.
     pub fn hand(&self) -> Option<usize>
         ensures { result ≡ (worker_of self.now).hand }
     {
         self.hand
     }
 
-    /// The places that it finished, in this order.
+    /// The places that it finished, in order.
     pub fn finished(&self) -> &[usize]
         ensures { result.now ≡ (worker_of self.now).finished }
     {

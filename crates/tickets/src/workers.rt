@@ -1,11 +1,11 @@
-//! How many workers there are.
+//! The number of workers.
 ghost use Rattle.std.specs.Prelude.{◌≡◌};
 ghost use Rattle.tickets.specs.Crews.{IsCrew, crew_of};
 
 use crate::size::MOST_WORKERS;
 use std::marker::Model;
 
-/// How many workers may run a level: 1 to 64.
+/// The number of workers of a level: 1 to 64.
 #[derive(Clone, Copy, Debug, PartialEq, Eq)]
 pub struct Workers {
     count: usize,
@@ -25,7 +25,7 @@ impl Model for Workers {
 }
 
 impl Workers {
-    /// None outside the limits.
+    /// `None` outside the limits.
     pub fn new(count: usize) -> Option<Workers>
         ensures { result ≡ crew_of count }
     {

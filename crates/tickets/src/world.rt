@@ -11,7 +11,7 @@ use memory_refusal::Memory;
 use std::alloc::Global;
 use std::marker::Model;
 
-/// The places of a level, and what its workers have. All memory is taken when it is made.
+/// The places of a level, and its workers' states. All memory is allocated up front.
 #[derive(Drop)]
 pub struct World {
     places: usize,
@@ -58,7 +58,7 @@ impl World {
         self.places
     }
 
-    /// The place that is drawn next.
+    /// The next place to draw.
     pub fn next(&self) -> usize
         ensures { result ≡ self.now.next }
     {
@@ -131,8 +131,7 @@ impl World {
         }
     }
 
-    /// The world after these events, one after the other. An event that doesn't fit, as a draw with a place in hand, changes
-    /// nothing.
+    /// Plays these events in turn. An event that doesn't apply, such as a draw while holding a place, changes nothing.
     #[tactic(auto, unfolding(crate::specs::World::after))]
     pub fn play(&mut self, events: &[Event])
         ensures { self.new ≡ after self.old events.now }

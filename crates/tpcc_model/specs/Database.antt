@@ -1,4 +1,4 @@
--- A database: the fixed columns by key, and the moving ones.
+-- A database: cards, with the columns that never change, and rows, with those that do.
 use Rattle.catalog.specs.CardMap.{Cards}
 use Rattle.tpcc_rows.specs.RowMap.{Rows}
 

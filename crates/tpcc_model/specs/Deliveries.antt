@@ -1,5 +1,5 @@
--- A delivery (TPC-C clause 2.7): the card of the warehouse is found, then the oldest new order of each district is
--- delivered in turn, on the rows as the earlier districts leave them. All of it is one transaction.
+-- Delivery (TPC-C clause 2.7): looks up the warehouse's card, then delivers the oldest new order of each district in turn,
+-- on the rows that the earlier districts leave, all in one transaction.
 use Rattle.std.specs.Prelude.{ℕ, zero, suc, ◌+◌, pos, ◌+ℤ◌, map, List, [], ◌∷◌, Option, Some, None, Result, Ok}
 use Rattle.std.specs.FinMap as map
 use Rattle.tpcc_rows.specs.Changing.{after}
@@ -37,19 +37,19 @@ credited old amount = do
   delivery_count ← within (between 0 1000000000 (old.delivery_count + 1))
   Ok (record old { balance = balance; delivery_count = delivery_count })
 
--- OL_DELIVERY_D of a line that is there is the moment
+-- OL_DELIVERY_D becomes the moment, if the line exists
 abbrev pub line_dated : ℕ → RowKey → Option OrderLineRow → Changes → Changes
 line_dated moment k None changes = changes
 line_dated moment k (Some line) changes = map.insert changes k (Some (row.OrderLine (record line { delivery = Some moment })))
 
--- the order's lines 1 to n, each on the rows as the earlier ones leave them
+-- the order's lines 1 to n, each on the rows that the earlier ones leave
 unfoldable pub lines_dated : Rows → Delivery → ℕ → ℕ → ℕ → ℕ → Changes → Changes
 lines_dated rows p moment d o zero changes = changes
 lines_dated rows p moment d o (suc n) changes =
     let earlier = lines_dated rows p moment d o n changes in
     line_dated moment (key.OrderLine p.warehouse d o (suc n)) (order_line_row (after rows earlier) p.warehouse d o (suc n)) earlier
 
--- the order is no new order any more, and has the carrier
+-- the order is no longer a new order, and gets the carrier
 unfoldable pub carried : Delivery → ℕ → ℕ → OrderRow → Changes → Changes
 carried p d o order changes =
     map.insert (map.insert changes (key.NewOrder p.warehouse d o) None)
@@ -69,14 +69,14 @@ abbrev pub oldest_delivered : Rows → Delivery → ℕ → ℕ → Option ℕ �
 oldest_delivered rows p moment d None changes = Ok changes
 oldest_delivered rows p moment d (Some o) changes = order_delivered rows p moment d o changes
 
--- no district's order is among another's new orders, so the oldest one is that of the rows before the delivery
+-- districts share no new orders, so the oldest is that of the rows before the delivery
 unfoldable pub districts_delivered : Rows → Delivery → ℕ → List ℕ → Changes → Result Changes RequestRefusal
 districts_delivered rows p moment [] changes = Ok changes
 districts_delivered rows p moment (d ∷ ds) changes = do
   more ← oldest_delivered rows p moment d (oldest rows p.warehouse d) changes
   districts_delivered rows p moment ds more
 
--- what a delivery makes: the order of each district, and the keys that are written or deleted
+-- the result of a delivery: the order of each district, and the keys written or deleted
 pub record Delivered : Type 0 where
   pub reply : DeliveryReply
   pub changes : Changes

@@ -17,7 +17,7 @@ use Rattle.tpcc_model.specs.StockLevels.{first_recent, is_low, low_items}
 abbrev pub HasLine : Rows → ℕ → ℕ → ℕ → ℕ → Type 0
 HasLine rows w d o n = (line : OrderLineRow) × (map.get rows (key.OrderLine w d o n) ≡ Some (row.OrderLine line))
 
--- in a sound database an order has the lines 1 to O_OL_CNT, and no others
+-- in a sound database an order has exactly the lines 1 to O_OL_CNT
 abbrev pub LinesAreCounted : Type 0
 LinesAreCounted = (db : Database) (w d o n : ℕ) (order : OrderRow) → IsSound db → map.get db.rows (key.Order w d o) ≡ Some (row.Order order)
     → HasLine db.rows w d o n ↔ IsBetween 1 order.line_count n
@@ -28,7 +28,7 @@ IsRecentItem db p next item =
     (o n : ℕ) × (line : OrderLineRow) × (map.get db.rows (key.OrderLine p.warehouse p.district o n) ≡ Some (row.OrderLine line))
     × (next ≤ o + 20) × (o < next) × (line.item ≡ item)
 
--- what a stock level counts: in a sound database, the items of such lines that are low
+-- in a sound database a stock level counts the low items of such lines
 abbrev pub LowItemsAreRecent : Type 0
 LowItemsAreRecent = (db : Database) (p : StockLevel) (next item : ℕ) → IsSound db
     → (is_member nat_eq (low_items db p (first_recent next) (next - first_recent next)) item ≡ true) ↔ (IsRecentItem db p next item × (is_low db p item ≡ true))

@@ -1,4 +1,4 @@
--- The transactions as a machine, of which the theory of levels speaks.
+-- The transactions as a machine of the theory.
 use Rattle.std.specs.Prelude.{ℕ}
 use Rattle.serializability.specs.Machines.{Machine}
 use Rattle.tpcc_rows.specs.Granules.{granule, same_granule}
@@ -13,7 +13,7 @@ use Rattle.tpcc_model.specs.Database.{database}
 use Rattle.tpcc_model.specs.Steps.{steps_at}
 use Rattle.tpcc_model.specs.Touches.{touch}
 
--- the steps on the rows of these cards, all at one moment; a row of HISTORY is the number's own
+-- the steps on rows with these cards, at one moment; a row of HISTORY is its number's own
 abbrev pub tpcc : Cards → ℕ → Machine row_key_cmp Row Granule Request Reply
 tpcc cards moment = record {
   granule = granule;

@@ -1,5 +1,5 @@
--- A new order (TPC-C clause 2.4): the cards of its keys are found, then the number that its district has next, then its
--- lines are done in order, each on the rows as the earlier ones leave them.
+-- New-Order (TPC-C clause 2.4): looks up the cards of its keys, then takes the district's next number, then does the lines
+-- in order, each on the rows that the earlier ones leave.
 use Rattle.std.specs.Prelude.{ℕ, ◌+◌, ◌*◌, pos, ℤ, ◌+ℤ◌, ◌-ℤ◌, int_le, nat_eq, List, [], ◌∷◌, ◌++◌, length, codes, Bool, ◌&&◌, ◌||◌, ◌==◌, Some, None, Result, Ok, if◌then◌else◌}
 use Rattle.std.specs.List.{list_all, starts_with, sum_by}
 use Rattle.std.specs.Option.{ok_or}
@@ -56,7 +56,7 @@ found_stock cards line = do
   stock ← known (stock_card cards line.ordered.supply line.ordered.item)
   Ok (record { ordered = line.ordered; item = line.item; stock = stock })
 
--- the lines with their cards: each item is looked for before any stock
+-- the lines with their cards: all items are looked up before any stock
 unfoldable pub found_lines : Cards → List OrderedLine → Result (List LineCards) RequestRefusal
 found_lines cards lines = do
   items ← for_each (found_item cards) lines
@@ -84,11 +84,11 @@ raised_district old = do
   next_order ← within (between 1 9999999 (old.next_order + 1))
   Ok (record { next_order = next_order })
 
--- each line is out of this warehouse's own stock
+-- each line is supplied by this warehouse
 abbrev pub all_local : ℕ → List OrderedLine → Bool
 all_local warehouse lines = list_all (λ line. line.supply == warehouse) lines
 
--- the order's row: no carrier yet, O_ALL_LOCAL where each line is out of the order's own warehouse
+-- the order's row: no carrier yet; O_ALL_LOCAL if each line is supplied by the order's warehouse
 unfoldable pub order_of : NewOrder → ℕ → OrderRow
 order_of p moment = record {
   customer = p.customer;
@@ -99,16 +99,16 @@ order_of p moment = record {
 }
 
 -- ---- one line
--- S_QUANTITY goes down by the quantity; where it didn't exceed that by 10 or more, it goes up by 91 besides
+-- S_QUANTITY goes down by the quantity; unless it exceeded that by 10 or more, 91 is added
 abbrev pub left_quantity : ℤ → ℕ → ℤ
 left_quantity have quantity = if int_le (pos (quantity + 10)) have then have -ℤ pos quantity else have -ℤ pos quantity +ℤ pos 91
 
--- one for a line out of another warehouse's stock
+-- 1 for a line supplied by another warehouse
 abbrev pub remote_orders : ℕ → OrderedLine → ℕ
 remote_orders warehouse line = if line.supply == warehouse then 0 else 1
 
--- the stock after a line for this warehouse: S_YTD goes up by the quantity, S_ORDER_CNT by one, and S_REMOTE_CNT by one
--- where the line is out of another warehouse's stock
+-- the stock after a line for this warehouse: S_YTD goes up by the quantity, S_ORDER_CNT by one, and S_REMOTE_CNT by one if
+-- another warehouse supplies the line
 unfoldable pub ordered_stock : ℕ → OrderedLine → StockRow → Result StockRow RequestRefusal
 ordered_stock warehouse line old = do
   quantity ← within (stock_quantity_of (left_quantity old.quantity line.quantity))
@@ -121,7 +121,7 @@ ordered_stock warehouse line old = do
 unfoldable pub line_amount : LineCards → Result ℕ RequestRefusal
 line_amount line = within (between 0 999999 (line.ordered.quantity * line.item.price))
 
--- the text has the word in it
+-- the text contains the word
 abbrev pub includes : List ℕ → List ℕ → Bool
 includes [] word = starts_with nat_eq [] word
 includes (byte ∷ bytes) word = starts_with nat_eq (byte ∷ bytes) word || includes bytes word
@@ -129,7 +129,7 @@ includes (byte ∷ bytes) word = starts_with nat_eq (byte ∷ bytes) word || inc
 unfoldable pub is_original : List ℕ → Bool
 is_original text = includes text (codes "ORIGINAL")
 
--- the brand is named where I_DATA and S_DATA both have the word `ORIGINAL` in them
+-- brand if I_DATA and S_DATA both contain the word `ORIGINAL`
 unfoldable pub brand_of : LineCards → Brand
 brand_of line = if is_original line.item.data && is_original line.stock.data then brand.Brand else brand.Generic
 
@@ -145,12 +145,12 @@ order_line_of p line amount = record {
 }
 
 -- ---- all lines
--- what is made so far: the keys that are written, each with its new row, and what is answered for the lines
+-- the result so far: each key written with its new row, and the replies for the lines
 pub record OrderSoFar : Type 0 where
   pub changes : Changes
   pub lines : List LineReply
 
--- line n of order o, where its stock has this row
+-- line n of order o, whose stock has this row
 unfoldable pub line_done : NewOrder → ℕ → ℕ → LineCards → StockRow → OrderSoFar → Result OrderSoFar RequestRefusal
 line_done p o n line old order = do
   stock ← ordered_stock p.warehouse line.ordered old
@@ -162,7 +162,7 @@ line_done p o n line old order = do
     lines = order.lines ++ (record { stock = stock.quantity; brand = brand_of line; amount = amount }) ∷ [];
   })
 
--- the lines from n on, each on the rows as the earlier ones leave them
+-- the lines from n on, each on the rows that the earlier ones leave
 abbrev pub lines_done : Rows → NewOrder → ℕ → ℕ → List LineCards → OrderSoFar → Result OrderSoFar RequestRefusal
 lines_done rows p o n [] order = Ok order
 lines_done rows p o n (line ∷ lines) order = do
@@ -170,7 +170,7 @@ lines_done rows p o n (line ∷ lines) order = do
   more ← line_done p o n line old order
   lines_done rows p o (n + 1) lines more
 
--- before the lines: the row of the district's next number, the order's and the new order's
+-- before the lines: the rows of the district's next number, the order and the new order
 unfoldable pub opened : NewOrder → ℕ → ℕ → DistrictNextRow → OrderSoFar
 opened p moment o district = record {
   changes =
@@ -181,7 +181,7 @@ opened p moment o district = record {
 }
 
 -- ---- the whole
--- the total is the sum of OL_AMOUNT, less the discount, with the taxes
+-- the total is the sum of OL_AMOUNT, less the discount, plus the taxes
 unfoldable pub new_order_reply : NewOrderCards → ℕ → List LineReply → NewOrderReply
 new_order_reply cards o lines = record {
   order = o;
@@ -189,7 +189,7 @@ new_order_reply cards o lines = record {
   lines = lines;
 }
 
--- what a new order makes: the reply, and the keys that it writes, each with its new row
+-- the result of a new order: the reply, and each key written with its new row
 pub record PlacedOrder : Type 0 where
   pub reply : NewOrderReply
   pub changes : Changes

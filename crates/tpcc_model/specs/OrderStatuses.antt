@@ -1,5 +1,4 @@
--- The question for a customer's last order (TPC-C clause 2.6): the card of the customer is found, then its row, then its
--- latest order is shown with its lines.
+-- Order-Status (TPC-C clause 2.6): looks up the customer's card, then the row, then shows the latest order with its lines.
 use Rattle.std.specs.Prelude.{ℕ, zero, suc, List, [], ◌++◌, Option, Result, Ok, option_and_then}
 use Rattle.std.specs.Option.{option_map, option_to_list}
 use Rattle.tpcc_rows.specs.Picks.{latest}
@@ -31,7 +30,7 @@ shown_lines rows p o (suc n) = shown_lines rows p o n ++ option_to_list (option_
 unfoldable pub shown_order : Rows → OrderStatus → ℕ → OrderRow → ShownOrder
 shown_order rows p o order = record { order = o; entry = order.entry; carrier = order.carrier; lines = shown_lines rows p o order.line_count }
 
--- the customer's order with the greatest O_ID, where there is one
+-- the customer's order with the greatest O_ID, if there is one
 unfoldable pub last_order : Rows → OrderStatus → ℕ → Option ShownOrder
 last_order rows p c = option_and_then (λ o. option_map (shown_order rows p o) (order_row rows p.warehouse p.district o)) (latest rows p.warehouse p.district c)
 

@@ -1,4 +1,4 @@
--- A payment (TPC-C clause 2.5): the cards of its keys are found, then their rows, then the new rows are made.
+-- Payment (TPC-C clause 2.5): looks up the cards of its keys, then their rows, then makes the new rows.
 use Rattle.std.specs.Prelude.{ℕ, ◌+◌, pos, ◌+ℤ◌, ◌-ℤ◌, List, [], ◌∷◌, ◌++◌, codes, Some, Result, Ok, decimal}
 use Rattle.std.specs.FinMap as map
 use Rattle.tpcc_rows.specs.Limits.{between, cents_of}
@@ -67,15 +67,15 @@ paid_district old amount = do
   ytd ← within (cents_of (old.ytd +ℤ pos amount))
   Ok (record { ytd = ytd })
 
--- a number in decimals, and a byte behind it
+-- a number in decimal, then this byte
 abbrev pub field : ℕ → ℕ → List ℕ
 field n end = decimal n ++ end ∷ []
 
--- C_ID C_D_ID C_W_ID D_ID W_ID H_AMOUNT with single spaces between them, and a bar at the end
+-- C_ID C_D_ID C_W_ID D_ID W_ID H_AMOUNT, separated by single spaces, and a bar at the end
 unfoldable pub payment_note : Payment → ℕ → List ℕ
 payment_note p c = field c 32 ++ field p.customer_district 32 ++ field p.customer_warehouse 32 ++ field p.district 32 ++ field p.warehouse 32 ++ field p.amount 124
 
--- C_DATA: for bad credit the note is put at the left, and what passes 500 characters is discarded
+-- C_DATA: for bad credit the note goes to the front, truncated to 500 characters
 unfoldable pub paid_data : Payment → ℕ → Credit → List ℕ → List ℕ
 paid_data p c Good old = old
 paid_data p c Bad old = clip 500 (payment_note p c ++ old)
@@ -107,7 +107,7 @@ history_of p c moment warehouse_name district_name = record {
   «data» = clip 24 (warehouse_name ++ codes "    " ++ district_name);
 }
 
--- what a payment makes: the new rows, and who paid
+-- the result of a payment: the new rows, and who paid
 pub record Paid : Type 0 where
   pub warehouse : WarehouseRow
   pub district : DistrictYtdRow
@@ -136,7 +136,7 @@ payment db p moment = do
   rows ← found_rows db.rows p cards.customer_id
   paid_rows p moment cards rows
 
--- of a customer of bad credit the first 200 characters of C_DATA are shown
+-- for bad credit the first 200 characters of C_DATA are shown
 abbrev pub shown_credit : Credit → List ℕ → ShownCredit
 shown_credit Good text = shown.Good
 shown_credit Bad text = shown.Bad (clip 200 text)
@@ -144,7 +144,7 @@ shown_credit Bad text = shown.Bad (clip 200 text)
 unfoldable pub payment_reply : Paid → PaymentReply
 payment_reply paid = record { customer = paid.customer_id; balance = paid.customer.balance; credit = shown_credit paid.credit paid.customer.data }
 
--- the keys that a payment writes, each with its new row
+-- each key that a payment writes, with its new row
 unfoldable pub payment_changes : Payment → ℕ → Paid → Changes
 payment_changes p number paid =
     map.insert (map.insert (map.insert (map.insert map.empty (key.Warehouse p.warehouse) (Some (row.Warehouse paid.warehouse)))

@@ -1,4 +1,4 @@
--- The answer that a run of batches is measured by: one request after the other, in batch order.
+-- Serial execution, the reference for a run of batches: one request after the other, in batch order.
 use Rattle.std.specs.Prelude.{ℕ, ◌+◌, List, [], ◌∷◌, length, Option, Some, None, unwrap_or}
 use Rattle.catalog.specs.CardMap.{Cards}
 use Rattle.requests.specs.declared.request.Batch.{Batch}
@@ -24,7 +24,7 @@ abbrev pub history_pick : RowKey → Row → Option ℕ
 history_pick (key.History n) _ = Some n
 history_pick _ _ = None
 
--- one more than the greatest number of HISTORY, 1 where there is none
+-- one past the greatest number of HISTORY, 1 if it is empty
 unfoldable pub next_number : Rows → ℕ
 next_number rows = unwrap_or (greatest (picked history_pick rows)) 0 + 1
 
@@ -37,11 +37,11 @@ opening cards rows = record {
   token = batch_token 0 no_token cards rows (next_number rows) [];
 }
 
--- what the requests of a batch reply
+-- the replies of a batch
 abbrev pub batch_replies : Cards → State → Batch → List Reply
 batch_replies cards state batch = replies (database cards state.rows) batch.moment state.next batch.requests
 
--- the rows that the requests of a batch leave
+-- the rows after a batch
 abbrev pub batch_rows : Cards → State → Batch → Rows
 batch_rows cards state batch = rows_after (database cards state.rows) batch.moment state.next batch.requests
 

@@ -1,5 +1,4 @@
--- A sound database: its values are within their limits, its cards and rows have their parents, and the consistency
--- conditions hold.
+-- A sound database: values are within their limits, cards and rows have their parents, and the consistency conditions hold.
 use Rattle.std.specs.Prelude.{◌≡◌, ℕ, length, Some, IsSome, IfSome}
 use Rattle.std.specs.FinMap as map
 use Rattle.tpcc_rows.specs.Limits.{IsBetween, IsCents, IsStockQuantity}
@@ -52,8 +51,8 @@ IsCard (card.Customer c) = IsCustomerCard c
 IsCard (card.Stock c) = IsStockCard c
 IsCard (card.Item c) = IsBetween 1 100000 c.item × IsText 24 c.name × IsBetween 0 99999 c.price × IsText 50 c.data
 
--- each card is within its limits and at its own key, each warehouse has its ten districts, each district, customer
--- and stock its warehouse, each customer its district, and each stock its item
+-- each card is within its limits and at its own key; each warehouse has its ten districts, each district, customer and
+-- stock its warehouse, each customer its district, and each stock its item
 pub record AreCards (cards : Cards) : Type 0 where
   pub keyed : AreKeyed cards
   pub limits : (k : CardKey) (c : Card) → map.get cards k ≡ Some c → IsCard c
@@ -77,7 +76,7 @@ pub record IsStockRow (r : StockRow) : Type 0 where
   pub order_count : IsBetween 0 1000000000 r.order_count
   pub remote_count : IsBetween 0 1000000000 r.remote_count
 
--- an order of the district, with its customer
+-- an order of the district has its customer
 pub record IsOrder (cards : Cards) (w d o : ℕ) (r : OrderRow) : Type 0 where
   pub number : IsBetween 1 9999998 o
   pub district : IsSome (district_card cards w d)
@@ -86,7 +85,7 @@ pub record IsOrder (cards : Cards) (w d o : ℕ) (r : OrderRow) : Type 0 where
   pub carrier : IfSome r.carrier (IsBetween 1 10)
   pub line_count : IsBetween 1 15 r.line_count
 
--- a line of an order that is there and has that many, with its stock
+-- a line belongs to an order with that many lines, and has its stock
 pub record IsOrderLine (cards : Cards) (rows : Rows) (w d o n : ℕ) (r : OrderLineRow) : Type 0 where
   pub order : OrderRow
   pub has_order : map.get rows (key.Order w d o) ≡ Some (row.Order order)
@@ -97,7 +96,7 @@ pub record IsOrderLine (cards : Cards) (rows : Rows) (w d o n : ℕ) (r : OrderL
   pub amount : IsBetween 0 999999 r.amount
   pub district_info : IsText 24 r.district_info
 
--- a payment's record, with its customer and the district where it was paid
+-- a payment's record has its customer, and the district where it was paid
 pub record IsHistory (cards : Cards) (n : ℕ) (r : HistoryRow) : Type 0 where
   pub number : IsBetween 1 LAST_REQUEST n
   pub customer : IsSome (customer_card cards r.customer_warehouse r.customer_district r.customer)
@@ -106,7 +105,7 @@ pub record IsHistory (cards : Cards) (n : ℕ) (r : HistoryRow) : Type 0 where
   pub amount : IsBetween 0 999999 r.amount
   pub text : IsText 24 r.data
 
--- the row is of its key's kind, within the limits, and has its card or its parents
+-- the row has its key's kind, is within its limits, and has its card or parents
 abbrev pub IsEntry : Cards → Rows → RowKey → Row → Type 0
 IsEntry cards rows (key.Warehouse w) (row.Warehouse r) = IsSome (warehouse_card cards w) × IsCents r.ytd
 IsEntry cards rows (key.Customer w d c) (row.Customer r) = IsSome (customer_card cards w d c) × IsCustomerRow r
@@ -119,7 +118,7 @@ IsEntry cards rows (key.DistrictYtd w d) (row.DistrictYtd r) = IsSome (district_
 IsEntry cards rows (key.DistrictNext w d) (row.DistrictNext r) = IsSome (district_card cards w d) × IsBetween 1 9999999 r.next_order
 IsEntry cards rows _ _ = ⊥
 
--- the key's card is there; the keys of orders and of history have none
+-- the key has a card; those of orders and of history have none
 abbrev pub HasCard : Cards → RowKey → Type 0
 HasCard cards (key.Warehouse w) = IsSome (warehouse_card cards w)
 HasCard cards (key.Customer w d c) = IsSome (customer_card cards w d c)
@@ -130,9 +129,9 @@ HasCard cards _ = ⊥
 
 pub record IsSound (db : Database) : Type 0 where
   pub cards : AreCards db.cards
-  -- where a card is, its row is
+  -- each card has its row
   pub there : (k : RowKey) → HasCard db.cards k → IsSome (map.get db.rows k)
-  -- each row is as it should be
+  -- each row is valid
   pub entries : (k : RowKey) (x : Row) → map.get db.rows k ≡ Some x → IsEntry db.cards db.rows k x
   pub condition_1 : Condition1 db.rows
   -- conditions 2 to 4

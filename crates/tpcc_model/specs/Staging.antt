@@ -1,4 +1,4 @@
--- How a step is put together: one stage after another, up to the first refusal.
+-- How a step is composed: stage by stage, up to the first refusal.
 use Rattle.std.specs.Prelude.{List, [], ◌∷◌, Option, Result, Ok, Err}
 use Rattle.std.specs.Option.{ok_or}
 use Rattle.requests.specs.declared.reply.RequestRefusal.{RequestRefusal}
@@ -9,11 +9,11 @@ abbrev pub ◌>>=◌ : {A B : Type 0} → Result A RequestRefusal → (A → Res
 Ok x >>= f = f x
 Err e >>= f = Err e
 
--- what is to be there, else the key is unknown
+-- what must exist, else the key is unknown
 abbrev pub known : {A : Type 0} → Option A → Result A RequestRefusal
 known o = ok_or o UnknownKey
 
--- what is to be within its limits
+-- what must be within its limits
 abbrev pub within : {A : Type 0} → Option A → Result A RequestRefusal
 within o = ok_or o LimitReached
 

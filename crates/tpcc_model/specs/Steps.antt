@@ -1,4 +1,4 @@
--- What one request does, and what requests do one after the other.
+-- The step of a request, and serial execution.
 use Rattle.std.specs.Prelude.{ℕ, List, Result, Ok, Err}
 use Rattle.std.specs.FinMap as map
 use Rattle.serializability.specs.Folds.{Step, fold_replies, fold_rows}
@@ -22,7 +22,7 @@ use Rattle.tpcc_model.specs.OrderStatuses.{order_status}
 use Rattle.tpcc_model.specs.Payments.{Paid, payment, payment_reply, payment_changes}
 use Rattle.tpcc_model.specs.StockLevels.{stock_level}
 
--- the reply, and the keys that are written or deleted, each with its new row or none
+-- the reply, and each key written or deleted with its new row, if any
 pub record StepOutcome : Type 0 where
   pub reply : Reply
   pub changes : Changes
@@ -31,7 +31,7 @@ pub record StepOutcome : Type 0 where
 abbrev pub refused : RequestKind → RequestRefusal → StepOutcome
 refused k why = record { reply = reply.Refused k why; changes = map.empty }
 
--- what a request of a kind comes to, where what it makes has an outcome
+-- the step of a request of a kind, with this result
 abbrev pub outcome_of : {A : Type 0} → RequestKind → (A → StepOutcome) → Result A RequestRefusal → StepOutcome
 outcome_of k made (Ok x) = made x
 outcome_of k made (Err why) = refused k why
@@ -51,7 +51,7 @@ delivery_outcome = outcome_of kind.Delivery λ made. record { reply = reply.Deli
 abbrev pub stock_level_outcome : Result StockLevelReply RequestRefusal → StepOutcome
 stock_level_outcome = outcome_of kind.StockLevel λ counted. record { reply = reply.StockLevel counted; changes = map.empty }
 
--- the step of a request with its number, at a moment
+-- the step of a numbered request, at a moment
 unfoldable pub step : Database → Request → ℕ → ℕ → StepOutcome
 step db (request.NewOrder p) number moment = new_order_outcome (new_order db p moment)
 step db (request.Payment p) number moment = payment_outcome p number (payment db p moment)
@@ -59,13 +59,13 @@ step db (request.OrderStatus p) number moment = order_status_outcome (order_stat
 step db (request.Delivery p) number moment = delivery_outcome (delivery db p moment)
 step db (request.StockLevel p) number moment = stock_level_outcome (stock_level db p)
 
--- the steps on the rows of these cards, all at one moment
+-- the steps on rows with these cards, at one moment
 abbrev pub steps_at : Cards → ℕ → Step row_key_cmp Row Request Reply
 steps_at cards moment rows number request =
     let outcome = step (database cards rows) request number moment in
     record { reply = outcome.reply; changes = map.entries outcome.changes }
 
--- requests one after the other, the first with this number: what they reply, and the rows that they leave
+-- serial execution of requests, numbered from this one on: their replies, and the rows after them
 abbrev pub replies : Database → ℕ → ℕ → List Request → List Reply
 replies db moment first requests = fold_replies (steps_at db.cards moment) db.rows first requests
 

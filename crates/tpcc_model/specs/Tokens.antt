@@ -1,4 +1,4 @@
--- The token of a batch: the digest of its number, the token before it, the catalog, every row and every reply.
+-- The token of a batch: the digest of its number, the previous token, the catalog, every row and every reply.
 use Rattle.std.specs.Prelude.{ℕ, ◌+◌, List, [], ◌∷◌, ◌++◌, codes, length, replicate, unwrap_or, Option, Some, None}
 use Rattle.std.specs.List.{flat_map}
 use Rattle.sha2.specs.Sha256.{sha256}
@@ -43,7 +43,7 @@ line_reply_bytes line = signed_32 line.stock ++ brand_text line.brand ++ bytes_3
 abbrev pub new_order_bytes : NewOrderReply → List ℕ
 new_order_bytes r = bytes_32 r.order ++ signed_64 r.total ++ length r.lines ∷ flat_map line_reply_bytes r.lines
 
--- the credit, and the data that a bad credit shows
+-- the credit, and the data shown for bad credit
 abbrev pub credit_bytes : ShownCredit → List ℕ
 credit_bytes credit.Good = codes "GC"
 credit_bytes (credit.Bad shown) = codes "BC" ++ short_text shown
@@ -57,7 +57,7 @@ shown_line_bytes line = bytes_32 line.item ++ line.supply ∷ line.quantity ∷ 
 abbrev pub shown_order_bytes : ShownOrder → List ℕ
 shown_order_bytes o = bytes_32 o.order ++ bytes_64 o.entry ++ unwrap_or o.carrier 0 ∷ length o.lines ∷ flat_map shown_line_bytes o.lines
 
--- 0, or 1 and the order
+-- 0; or 1, then the order
 abbrev pub last_order_bytes : Option ShownOrder → List ℕ
 last_order_bytes None = 0 ∷ []
 last_order_bytes (Some o) = 1 ∷ shown_order_bytes o
@@ -69,7 +69,7 @@ order_status_bytes r = bytes_16 r.customer ++ short_text r.first ++ short_text r
 abbrev pub order_or_zero : Option ℕ → List ℕ
 order_or_zero order = bytes_32 (unwrap_or order 0)
 
--- the kind, the status, which is 0 for what was done, and what was found
+-- the kind, the status (0 if done), and the result
 abbrev pub outcome_bytes : Reply → List ℕ
 outcome_bytes (reply.NewOrder r) = kind_code kind.NewOrder ∷ 0 ∷ new_order_bytes r
 outcome_bytes (reply.Payment r) = kind_code kind.Payment ∷ 0 ∷ payment_bytes r
@@ -81,7 +81,7 @@ outcome_bytes (reply.Refused kind refusal) = kind_code kind ∷ refusal_status r
 unfoldable pub reply_bytes : ℕ → Reply → List ℕ
 reply_bytes number r = bytes_64 number ++ outcome_bytes r
 
--- the bytes of replies, the first with this number
+-- the bytes of replies, numbered from this one on
 abbrev pub replies_bytes : ℕ → List Reply → List ℕ
 replies_bytes number [] = []
 replies_bytes number (r ∷ replies) = reply_bytes number r ++ replies_bytes (number + 1) replies
@@ -94,8 +94,7 @@ replies_digest first replies = sha256 (replies_bytes first replies)
 unfoldable pub token_of : ℕ → List ℕ → List ℕ → List ℕ → List ℕ → List ℕ
 token_of sequence prior catalog rows replies = sha256 (codes "EVE-TPCC-2" ++ bytes_64 sequence ++ prior ++ catalog ++ rows ++ replies)
 
--- the token of a batch: its number, the token before it, the database as the batch leaves it, and the replies, the first
--- of them with this number
+-- the token of a batch: its number, the previous token, the database after it, and the replies, numbered from this one on
 abbrev pub batch_token : ℕ → List ℕ → Cards → Rows → ℕ → List Reply → List ℕ
 batch_token sequence prior cards rows first replies = token_of sequence prior (catalog_digest cards) (root rows) (replies_digest first replies)
 

@@ -1,5 +1,5 @@
--- What a request touches: the granules that it reads and writes on the rows that it meets. A request that is refused for
--- an item or key without a card touches nothing; limits make no difference.
+-- What a request touches: the granules that it reads and writes on the rows it meets. A request refused for an unknown item
+-- or key touches nothing; one refused for limits touches as if it weren't.
 use Rattle.std.specs.Prelude.{◌≡◌, ℕ, zero, suc, ◌+◌, ◌-◌, map, List, [], ◌∷◌, Option, Some, None, Result, Ok, Err}
 use Rattle.std.specs.FinMap.{get}
 use Rattle.serializability.specs.Footprints.{Footprint, joined, joined_all, reading, untouched, writing}
@@ -36,7 +36,7 @@ use Rattle.tpcc_model.specs.Payments as payments
 use Rattle.tpcc_model.specs.Staging.{◌>>=◌, known}
 use Rattle.tpcc_model.specs.StockLevels.{first_recent}
 
--- what is touched where all is found, and else nothing
+-- what is touched if all is found, else nothing
 abbrev pub touch_by : {A : Type 0} → (A → Footprint Granule) → Result A RequestRefusal → Footprint Granule
 touch_by found (Ok x) = found x
 touch_by found (Err why) = untouched
@@ -46,40 +46,40 @@ touch_by found (Err why) = untouched
 abbrev pub ordered_touch : OrderedLine → Footprint Granule
 ordered_touch line = writing (part.Stock line.supply line.item)
 
--- a new order (TPC-C clause 2.4) takes a number of its district, enters its book, and takes its items out of their stocks
+-- a new order (TPC-C clause 2.4) takes its district's next number, enters its book, and takes its items from their stocks
 abbrev pub placed_touch : NewOrder → Footprint Granule
 placed_touch p = joined_all (writing (part.DistrictNext p.warehouse p.district) ∷ writing (part.Book p.warehouse p.district) ∷ map ordered_touch p.lines)
 
 unfoldable pub new_order_touch : Database → NewOrder → Footprint Granule
 new_order_touch db p = touch_by (λ cards. placed_touch p) (new_orders.found_cards db.cards p)
 
--- a payment (clause 2.5) of customer c goes to its warehouse, its district and the customer
+-- a payment (clause 2.5) by customer c changes the warehouse, the district and the customer
 abbrev pub paid_touch : Payment → ℕ → Footprint Granule
 paid_touch p c = joined_all (writing (part.Warehouse p.warehouse) ∷ writing (part.DistrictYtd p.warehouse p.district) ∷ writing (part.Customer p.customer_warehouse p.customer_district c) ∷ [])
 
 unfoldable pub payment_touch : Database → Payment → Footprint Granule
 payment_touch db p = touch_by (λ cards. paid_touch p cards.customer_id) (payments.found_cards db.cards p)
 
--- the customer who is asked about, with a card
+-- the chosen customer, with a card
 unfoldable pub asked_customer : Cards → OrderStatus → Result ℕ RequestRefusal
 asked_customer cards p = do
   c ← known (chosen_customer cards p.warehouse p.district p.customer)
   card ← known (customer_card cards p.warehouse p.district c)
   Ok c
 
--- an order status (clause 2.6) looks at the customer and the district's book
+-- an order status (clause 2.6) reads the customer and the district's book
 abbrev pub asked_touch : OrderStatus → ℕ → Footprint Granule
 asked_touch p c = joined (reading (part.Customer p.warehouse p.district c)) (reading (part.Book p.warehouse p.district))
 
 unfoldable pub order_status_touch : Database → OrderStatus → Footprint Granule
 order_status_touch db p = touch_by (asked_touch p) (asked_customer db.cards p)
 
--- the customer of an order of district d that is delivered
+-- the customer of the order delivered in district d
 abbrev pub credited_touch : Delivery → ℕ → Option OrderRow → Footprint Granule
 credited_touch p d None = untouched
 credited_touch p d (Some order) = writing (part.Customer p.warehouse d order.customer)
 
--- the book of district d is looked at, and of the order that is delivered there, if one is, the customer is credited
+-- the book of district d, and the customer of the order delivered there, if any
 abbrev pub delivered_touch : Rows → Delivery → ℕ → Option ℕ → Footprint Granule
 delivered_touch rows p d None = reading (part.Book p.warehouse d)
 delivered_touch rows p d (Some o) = joined (writing (part.Book p.warehouse d)) (credited_touch p d (order_row rows p.warehouse d o))
@@ -91,7 +91,7 @@ district_touch rows p d = delivered_touch rows p d (oldest rows p.warehouse d)
 unfoldable pub delivery_touch : Database → Delivery → Footprint Granule
 delivery_touch db p = touch_by (λ card. joined_all (map (district_touch db.rows p) ten)) (known (warehouse_card db.cards p.warehouse))
 
--- the stock of an item, where it has a card in the warehouse, and that of a line's item
+-- the stock of an item, if it has a card in the warehouse, and of a line's item
 abbrev pub item_touch : StockLevel → ℕ → Option StockCard → Footprint Granule
 item_touch p item None = untouched
 item_touch p item (Some card) = reading (part.Stock p.warehouse item)
@@ -115,7 +115,7 @@ abbrev pub recent_touch : Database → StockLevel → Option DistrictNextRow →
 recent_touch db p None = untouched
 recent_touch db p (Some district) = orders_touch db p (first_recent district.next_order) (district.next_order - first_recent district.next_order)
 
--- a stock level (clause 2.8) looks at its district, the district's book, and the stocks of the items that were sold lately
+-- a stock level (clause 2.8) reads its district, the district's book, and the stocks of the items sold lately
 abbrev pub counted_touch : Database → StockLevel → Footprint Granule
 counted_touch db p = joined_all (reading (part.DistrictNext p.warehouse p.district) ∷ reading (part.Book p.warehouse p.district) ∷ recent_touch db p (district_next_row db.rows p.warehouse p.district) ∷ [])
 
@@ -130,15 +130,15 @@ touch db (request.OrderStatus p) = order_status_touch db p
 touch db (request.Delivery p) = delivery_touch db p
 touch db (request.StockLevel p) = stock_level_touch db p
 
--- ---- what touching comes to
+-- ---- agreement on what is touched
 -- the two agree on the rows whose granules are in the list
 abbrev pub Agree : Rows → Rows → List Granule → Type 0
 Agree s t gs = machines.Agree granule s t gs
 
--- a key of the number's own, or of a granule in the list
+-- the number's own key, or a key of a granule in the list
 abbrev pub IsPlaced : ℕ → List Granule → RowKey → Type 0
 IsPlaced number gs k = machines.IsPlaced granule (key.History number) gs k
 
--- each changed key is placed
+-- each changed key is of that kind
 abbrev pub ArePlaced : ℕ → List Granule → Changes → Type 0
 ArePlaced number gs changes = (k : RowKey) (new : Option Row) → get changes k ≡ Some new → IsPlaced number gs k

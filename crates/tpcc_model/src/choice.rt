@@ -6,7 +6,7 @@ use catalog::Catalog;
 use requests::request::CustomerChoice;
 use tpcc_rows::id::{CustomerId, DistrictId, WarehouseId};
 
-/// The number of the customer of the district whom a request means.
+/// The number of the customer of the district that a request chooses.
 pub fn chosen_customer(
     catalog: &Catalog,
     warehouse: WarehouseId,

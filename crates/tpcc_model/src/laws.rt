@@ -1,13 +1,13 @@
-//! Laws of the definitions, as contracts of functions that do nothing.
+//! Laws of the definitions, as contracts of empty functions.
 ghost use Rattle.tpcc_model.specs.Laws.{LinesAreCounted, LowItemsAreRecent};
 
-/// What a stock level counts in a sound database: the low ones among the items of the last twenty orders' lines.
+/// In a sound database a stock level counts the low items of the last twenty orders' lines.
 pub fn recent_items()
     ensures { LowItemsAreRecent }
 {}
 
-/// What an order status shows and a delivery adds up and dates, the lines 1 to O_OL_CNT, is in a sound database each line
-/// of the order.
+/// In a sound database the lines 1 to O_OL_CNT, which an order status shows and a delivery sums and dates, are all lines of the
+/// order.
 pub fn order_lines()
     ensures { LinesAreCounted }
 {}

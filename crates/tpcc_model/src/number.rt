@@ -1,4 +1,4 @@
-//! Numbers of lines and orders, as loops count them.
+//! Numbers of lines and orders, for loops.
 ghost use Rattle.std.specs.Prelude.{◌≡◌};
 ghost use Rattle.tpcc_rows.specs.Limits.{IsBetween};
 

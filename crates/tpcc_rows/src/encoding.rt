@@ -81,7 +81,7 @@ fn push_order<const N: usize>(row: &OrderRow, out: &mut ByteBuf<N>)
     out.push_8(u8::from(row.all_local));
 }
 
-/// Whether there is a moment, in one byte, and the moment or 0.
+/// A byte 0 or 1, then the moment or 0.
 #[tactic(auto, using(crate::proofs::Lengths::lengths))]
 pub fn push_maybe_moment<const N: usize>(moment: Option<Moment>, out: &mut ByteBuf<N>)
     requires { length out.old + 9 ≤ N }
@@ -181,8 +181,8 @@ fn append_customer_or_any<const N: usize>(key: &RowKey, row: &Row, out: &mut Byt
     }
 }
 
-/// Appends the bytes of a row. Rows of the three kinds that a database has most of are told by comparisons, the key's
-/// kind first, whose outcome the processor foresees; a jump by a table of kinds would wait for the row to come from memory.
+/// Appends the bytes of a row. The three commonest kinds are told apart by comparisons, the key's kind first, which the
+/// processor predicts; a jump table would wait for the row to come from memory.
 #[tactic(auto, unfolding(crate::specs::Encodings::row_bytes))]
 pub fn append_row<const N: usize>(key: &RowKey, row: &Row, out: &mut ByteBuf<N>)
     requires { length out.old + 536 ≤ N }
@@ -209,7 +209,7 @@ pub fn append_row<const N: usize>(key: &RowKey, row: &Row, out: &mut ByteBuf<N>)
     }
 }
 
-/// Fills the buffer anew with the bytes of a row.
+/// Replaces the buffer's content by the bytes of a row.
 pub fn encode_row(key: &RowKey, row: &Row, out: &mut RowBuf)
     ensures { out.new ≡ row_bytes key.now row.now }
 {
@@ -217,7 +217,7 @@ pub fn encode_row(key: &RowKey, row: &Row, out: &mut RowBuf)
     append_row(key, row, out);
 }
 
-/// How many bytes suffice for a row, whatever its key; of a customer's, whose text is long, as many as it has.
+/// Enough bytes for a row, whatever its key; exact for customers, whose texts are long.
 #[tactic(auto, using(crate::proofs::Lengths::lengths), unfolding(crate::specs::Encodings::row_bytes))]
 pub fn enough_bytes(row: &Row) -> usize
     ensures enough { (k : RowKey) → length (row_bytes k row.now) ≤ result }
