@@ -12,8 +12,8 @@ use Rattle.tpcc_rows.specs.declared.key.RowKey.{RowKey}
 use Rattle.tpcc_rows.specs.declared.key.RowKey.TheVariants as key
 use Rattle.tpcc_rows.specs.declared.row.Row.{Row}
 use Rattle.tables.specs.Keys.{key_of}
-use Rattle.tables.specs.Ranks.{IsNumbered, kind, rank}
-use Rattle.tables.proofs.KeyRanks.{in_kind-small, order_is_of_ranks}
+use Rattle.tpcc_rows.specs.Ranks.{IsNumbered, kind, rank}
+use Rattle.tpcc_rows.proofs.KeyRanks.{in_kind-small, order_is_of_ranks}
 use Rattle.tables.proofs.Tables.{rank_total, exact_ranks}
 use Rattle.row_tables.specs.RankRows.{RankRows}
 use Rattle.row_tables.specs.Stored.{AreKept, IsCounted, IsRank, keyed}

@@ -19,7 +19,7 @@ use Rattle.tpcc_rows.specs.declared.row.Row.TheVariants as row
 use Rattle.tpcc_rows.specs.RowKinds.{fits}
 use Rattle.tpcc_rows.specs.RowMap.{row_key_cmp}
 use Rattle.tables.specs.Keys.{key_of}
-use Rattle.tables.specs.Ranks.{IsNumbered, kind, rank}
+use Rattle.tpcc_rows.specs.Ranks.{IsNumbered, kind, rank}
 use Rattle.tables.proofs.RankKeys.{key_of-rank, kind-of}
 use Rattle.tables.proofs.Tables.{rank_total, exact_ranks}
 use Rattle.row_tables.specs.RankRows.{RankRows}

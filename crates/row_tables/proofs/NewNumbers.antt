@@ -20,7 +20,7 @@ use Rattle.tpcc_rows.specs.declared.row.Row.TheVariants as row
 use Rattle.tpcc_rows.proofs.Picks.{Has, least-is, picked-row, row-picked}
 use Rattle.tpcc_rows.proofs.Singles.{first, found_first, found_later, second}
 use Rattle.tables.specs.Keys.{key_of, number_in, order_of}
-use Rattle.tables.specs.Ranks.{IsDistrict, IsNumbered, columns, kind, rank}
+use Rattle.tpcc_rows.specs.Ranks.{IsDistrict, IsNumbered, columns, kind, rank}
 use Rattle.tables.specs.Shelves.{place_of, rows_at}
 use Rattle.tables.proofs.RankKeys.{kind-of}
 use Rattle.tables.proofs.Shelved.{get-rows_at}

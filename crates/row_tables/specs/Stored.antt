@@ -2,7 +2,7 @@
 use Rattle.std.specs.Prelude.{◌≡◌, ℕ, true, map as each, Some}
 use Rattle.std.specs.FinMap as map
 use Rattle.tables.specs.Keys.{key_of}
-use Rattle.tables.specs.Ranks.{IsNumbered, rank}
+use Rattle.tpcc_rows.specs.Ranks.{IsNumbered, rank}
 use Rattle.tpcc_rows.specs.declared.key.RowKey.{RowKey}
 use Rattle.tpcc_rows.specs.declared.row.Row.{Row}
 use Rattle.tpcc_rows.specs.RowKinds.{fits}

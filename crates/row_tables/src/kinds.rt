@@ -14,19 +14,18 @@ use std::marker::Model;
 use tables::shelf::Shelf;
 use tables::starts::LineStarts;
 use tables::table::Table;
-use tpcc_rows::customer::SharedCustomer;
 use tpcc_rows::memory::Memory;
 use tpcc_rows::number::{Carrier, Moment};
 use tpcc_rows::row::{
-    DistrictNextRow, DistrictYtdRow, HistoryRow, OrderLineRow, OrderRow, Row, StockRow,
-    WarehouseRow,
+    CustomerRow, DistrictNextRow, DistrictYtdRow, HistoryRow, OrderLineRow, OrderRow, Row,
+    StockRow, WarehouseRow,
 };
 
 /// A finite map from ranks to rows, each in its kind's table.
 #[derive(Drop)]
 pub struct KindTables {
     warehouses: Shelf<WarehouseRow>,
-    customers: Shelf<SharedCustomer>,
+    customers: Shelf<CustomerRow>,
     stocks: Shelf<StockRow>,
     orders: Shelf<OrderRow>,
     new_orders: Shelf<()>,
@@ -88,7 +87,7 @@ impl KindTables {
         self.warehouses.get(rank)
     }
 
-    pub fn customer(&self, rank: u64) -> Option<&SharedCustomer>
+    pub fn customer(&self, rank: u64) -> Option<&CustomerRow>
         requires { table_of rank ≡ 1 }
         ensures { option_map Customer (option_copied result) ≡ map.get self.now rank }
     {
@@ -196,8 +195,8 @@ impl KindTables {
     pub fn put_customer(
         &mut self,
         rank: u64,
-        row: SharedCustomer,
-    ) -> Result<Option<SharedCustomer>, Memory>
+        row: CustomerRow,
+    ) -> Result<Option<CustomerRow>, Memory>
         requires { table_of rank ≡ 1 }
         ensures value { IfOk result (λ was. option_map Customer was ≡ map.get self.old rank) }
         ensures ok { OnOk result (self.new ≡ map.insert self.old rank (Customer row)) }
@@ -310,7 +309,7 @@ impl KindTables {
     }
 
     /// Removes the rank's row, and returns it.
-    pub fn remove_customer(&mut self, rank: u64) -> Option<SharedCustomer>
+    pub fn remove_customer(&mut self, rank: u64) -> Option<CustomerRow>
         requires { table_of rank ≡ 1 }
         ensures value { option_map Customer result ≡ map.get self.old rank }
         ensures after { self.new ≡ map.remove self.old rank }

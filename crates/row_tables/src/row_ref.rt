@@ -2,18 +2,17 @@
 ghost use Rattle.std.specs.Prelude.{◌≡◌, IfOk};
 ghost use Rattle.row_tables.specs.References.{row_of};
 
-use tpcc_rows::customer::SharedCustomer;
 use tpcc_rows::memory::Memory;
 use tpcc_rows::row::{
-    DistrictNextRow, DistrictYtdRow, HistoryRow, OrderLineRow, OrderRow, Row, StockRow,
-    WarehouseRow,
+    CustomerRow, DistrictNextRow, DistrictYtdRow, HistoryRow, OrderLineRow, OrderRow, Row,
+    StockRow, WarehouseRow,
 };
 
 /// A reference to a row in its kind's table.
 #[derive(Clone, Copy)]
 pub enum RowRef<'a> {
     Warehouse(&'a WarehouseRow),
-    Customer(&'a SharedCustomer),
+    Customer(&'a CustomerRow),
     Stock(&'a StockRow),
     Order(&'a OrderRow),
     NewOrder,
@@ -24,7 +23,7 @@ pub enum RowRef<'a> {
 }
 
 impl RowRef<'_> {
-    /// An equal row, without allocating. Refused once 2^63 copies share a customer's row.
+    /// An equal row, without allocating. Refused once 2^63 copies share a customer's text.
     pub fn copied(self) -> Result<Row, Memory>
         ensures { IfOk result (λ copy. copy ≡ row_of self.entry) }
     {

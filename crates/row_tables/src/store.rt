@@ -13,14 +13,13 @@ use crate::row_ref::RowRef;
 use std::alloc::Global;
 use std::marker::Model;
 use tables::keys::order_of;
-use tables::ranks::{
-    customer_rank, district_next_rank, district_ytd_rank, line_rank, order_rank, rank, stock_rank,
-    warehouse_rank,
-};
-use tpcc_rows::customer::SharedCustomer;
 use tpcc_rows::id::{CustomerId, DistrictId, ItemId, LineNumber, OrderId, WarehouseId};
 use tpcc_rows::key::RowKey;
 use tpcc_rows::memory::Memory;
+use tpcc_rows::ranks::{
+    customer_rank, district_next_rank, district_ytd_rank, line_rank, order_rank, rank, stock_rank,
+    warehouse_rank,
+};
 use tpcc_rows::row::{
     CustomerRow, DistrictNextRow, DistrictYtdRow, OrderLineRow, OrderRow, Row, StockRow,
     WarehouseRow,
@@ -44,13 +43,6 @@ impl Model for RowTables {
     ghost view = { λ s. keyed s.tables };
 
     ghost invariant = { λ s. IsCounted s.tables s.len };
-}
-
-/// The shared row.
-fn unshared(shared: Option<&SharedCustomer>) -> Option<&CustomerRow>
-    ensures { option_copied result ≡ option_copied shared.entry }
-{
-    Some(shared?.row())
 }
 
 /// The number of rows after an insertion or replacement that returned this.
@@ -152,10 +144,8 @@ impl RowTables {
     ) -> Option<&CustomerRow>
         ensures { option_copied result ≡ customer_row self.now warehouse district customer }
     {
-        unshared(
-            self.tables
-                .customer(customer_rank(warehouse, district, customer)),
-        )
+        self.tables
+            .customer(customer_rank(warehouse, district, customer))
     }
 
     pub fn stock(&self, warehouse: WarehouseId, item: ItemId) -> Option<&StockRow>

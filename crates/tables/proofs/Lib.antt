@@ -1,4 +1,3 @@
-pub mod KeyRanks
 pub mod RankKeys
 pub mod Tables
 pub mod Shelved

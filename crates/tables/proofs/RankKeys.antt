@@ -6,9 +6,9 @@ use Rattle.std.proofs.lemmas.Nat.{div-mul-add, mod-mul-add}
 use Rattle.tpcc_rows.specs.Limits.{IsBetween, between}
 use Rattle.tpcc_rows.specs.declared.key.RowKey.{RowKey}
 use Rattle.tpcc_rows.specs.declared.key.RowKey.TheVariants.{Warehouse, Customer, Stock, Order, NewOrder, OrderLine, History, DistrictYtd, DistrictNext}
-use Rattle.tables.specs.Ranks.{IsNumbered, columns, kind, rank, rank_in_kind}
+use Rattle.tpcc_rows.specs.Ranks.{IsNumbered, columns, kind, rank, rank_in_kind}
 use Rattle.tables.specs.Keys.{warehouse_in, district_in, number_in, line_in, kind_in, warehouse_at, customer_at, stock_at, order_at, new_order_at, line_at, history_at, district_ytd_at, district_next_at, by_kind, key_at, key_of}
-use Rattle.tables.proofs.KeyRanks.{in_kind-small}
+use Rattle.tpcc_rows.proofs.KeyRanks.{in_kind-small}
 
 -- ---- the columns of a rank
 module _ (k w d n l : ℕ) (hw : w < 256) (hd : d < 16) (hn : n < 2 ^ 24) (hl : l < 16) where

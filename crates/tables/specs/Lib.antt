@@ -1,4 +1,3 @@
-pub mod Ranks
 pub mod Keys
 pub mod ByRank
 pub mod Shelves

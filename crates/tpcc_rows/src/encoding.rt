@@ -138,7 +138,7 @@ fn push_row<const N: usize>(row: &Row, out: &mut ByteBuf<N>)
 {
     match row {
         Row::Warehouse(row) => push_warehouse(row, out),
-        Row::Customer(shared) => push_customer(shared.row(), out),
+        Row::Customer(row) => push_customer(row, out),
         Row::Stock(row) => push_stock(row, out),
         Row::Order(row) => push_order(row, out),
         Row::NewOrder => out.push_16(0),
@@ -172,10 +172,10 @@ fn append_customer_or_any<const N: usize>(key: &RowKey, row: &Row, out: &mut Byt
                 district,
                 customer,
             },
-            Row::Customer(shared),
+            Row::Customer(row),
         ) => {
             out.push_64(customer_code(*warehouse, *district, *customer));
-            push_customer(shared.row(), out);
+            push_customer(row, out);
         }
         _ => append_any(key, row, out),
     }
@@ -224,7 +224,7 @@ pub fn enough_bytes(row: &Row) -> usize
     ensures small { result ≤ 536 }
 {
     match row {
-        Row::Customer(shared) => 36 + shared.row().data.as_bytes().len(),
+        Row::Customer(row) => 36 + row.data.as_bytes().len(),
         Row::OrderLine(row) => 30 + row.district_info.capacity(),
         Row::History(row) => 30 + row.data.capacity(),
         _ => 54,

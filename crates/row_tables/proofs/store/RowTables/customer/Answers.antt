@@ -17,8 +17,7 @@ customer-requires c = table-at _ c.self.invariant.are_kept (key.Customer c.args.
 
 pub returns : goal.returns
 returns c =
-    c.unshared.ensures
-    ∙ back _
+    back _
     ∙ ap (option_and_then as_customer) (c.customer.ensures
     ∙ row-at _ c.self.invariant.are_kept (key.Customer c.args.warehouse c.args.district c.args.customer) c.customer_rank.ensures.limits c.customer_rank.result c.customer_rank.ensures.value
     ∙ ap (λ m. map.get m (key.Customer c.args.warehouse c.args.district c.args.customer)) c.self.view_is)

@@ -1,10 +1,10 @@
 //! The rank of a key: a number that ascends with the keys, so that keys compare as numbers.
 ghost use Rattle.std.specs.Prelude.{◌≡◌, ◌<◌, ◌≤◌, ◌^◌};
-ghost use Rattle.tables.specs.Ranks.{IsDistrict, IsNumbered, IsOrder, columns, rank};
+ghost use Rattle.tpcc_rows.specs.Ranks.{IsDistrict, IsNumbered, IsOrder, columns, rank};
 ghost use Rattle.tpcc_rows.specs.declared.key.RowKey.TheVariants.{Customer, DistrictNext, DistrictYtd, NewOrder, Order, OrderLine, Stock, Warehouse};
 
-use tpcc_rows::id::{CustomerId, DistrictId, ItemId, LineNumber, OrderId, WarehouseId};
-use tpcc_rows::key::RowKey;
+use crate::id::{CustomerId, DistrictId, ItemId, LineNumber, OrderId, WarehouseId};
+use crate::key::RowKey;
 
 /// The columns, concatenated. 0 stands for a column that the kind lacks.
 fn columns(warehouse: u64, district: u64, number: u64, line: u64) -> u64
