@@ -158,6 +158,14 @@ number-there before new number k was owner none at of is = inr (λ c. elim (case
   | inr f ↦ inl (none c ∙ sym f)
 ])
 
+-- where the same parts and numbers are saved
+pub numbers-there : (before new : Before) (k : RowKey) (was owner : Owner) → new.indexes ≡ before.indexes → new.added ≡ before.added → HasNumbers before k was owner → HasNumbers new k was owner
+numbers-there before new k was owner indexes added (inl part) = inl (part.0, part.1, ap (λ ps. has_place ps part.0) indexes ∙ part.2)
+numbers-there before new k was owner indexes added (inr each) = inr (λ c. elim (each c) [
+  | inl same ↦ inl same
+  | inr t ↦ inr (ap (λ ns. is_added ns c k) added ∙ t)
+])
+
 -- nothing where the owner stays, and where the key is in no index
 pub owner-stays : (before : Before) (k : RowKey) (was owner : Owner) → was ≡ owner → HasNumbers before k was owner
 owner-stays before k was owner e = inr (λ c. inl (ap (owns c k) e))

@@ -197,6 +197,13 @@ module _ (old new : Before) (rows : Rows) where
   pub nothing-copied : new.pages ≡ old.pages → new.olds ≡ old.olds → new.indexes ≡ old.indexes → new.added ≡ old.added → StandsForSame old new rows
   nothing-copied pages olds indexes added = numbers-saved pages olds (λ c q. numbers-same old new (numbers_of rows) indexes added c q)
 
+  -- a row that is noted unless its page is saved
+  pub row-noted : (row : OldRow) → row.row ≡ get rows row.key → new.pages ≡ old.pages → new.olds ≡ cond (has_leaf old.pages (leaf row.key)) old.olds (old.olds ++ row ∷ []) → new.indexes ≡ old.indexes → new.added ≡ old.added → StandsForSame old new rows
+  row-noted row e pages olds indexes added = elim (cases_Bool (has_leaf old.pages (leaf row.key))) [
+    | inl t ↦ nothing-copied pages (olds ∙ ap (λ b. cond b old.olds (old.olds ++ row ∷ [])) t) indexes added
+    | inr f ↦ row-copied row e f pages (olds ∙ ap (λ b. cond b old.olds (old.olds ++ row ∷ [])) f) indexes added
+  ]
+
 pub stands-both : (a b c : Before) (rows : Rows) → StandsForSame a b rows → StandsForSame b c rows → StandsForSame a c rows
 stands-both a b c rows first second = record { restored_same = second.restored_same ∙ first.restored_same; saved_same = λ h. second.saved_same (first.saved_same h) }
 
@@ -214,6 +221,12 @@ row-there before new row key e is =
 
 pub page-instead : (before new : Before) (key : RowKey) → has_leaf before.pages (leaf key) ≡ true → new.pages ≡ before.pages → (has_leaf new.pages (leaf key) || has_old new.olds key) ≡ true
 page-instead before new key h e = or-first (has_leaf new.pages (leaf key)) (has_old new.olds key) (ap (λ ps. has_leaf ps (leaf key)) e ∙ h)
+
+pub noted-there : (before new : Before) (row : OldRow) → new.pages ≡ before.pages → new.olds ≡ cond (has_leaf before.pages (leaf row.key)) before.olds (before.olds ++ row ∷ []) → (has_leaf new.pages (leaf row.key) || has_old new.olds row.key) ≡ true
+noted-there before new row pages olds = elim (cases_Bool (has_leaf before.pages (leaf row.key))) [
+  | inl t ↦ page-instead before new row.key t pages
+  | inr f ↦ row-there before new row row.key refl (olds ∙ ap (λ b. cond b before.olds (before.olds ++ row ∷ [])) f)
+]
 
 -- ---- rows that change at a key, or on a leaf, that is saved
 abbrev AgreeOff : ℕ → Rows → Rows → Type 0

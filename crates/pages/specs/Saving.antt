@@ -131,11 +131,6 @@ pub record HasBefore (before : Before) (present : Rows) (key : RowKey) (row : Op
   pub numbers : HasNumbers before key (owner_at (map.get present key)) (owner_at row)
 
 -- ---- copies
--- a copy of what the key has, or none where the page of its leaf is saved
-abbrev pub IsLackingRow : Before → Rows → RowKey → Option OldRow → Type 0
-IsLackingRow before rows key None = has_leaf before.pages (leaf key) ≡ true
-IsLackingRow before rows key (Some old) = (old.key ≡ key) × (old.row ≡ map.get rows key) × (has_leaf before.pages (leaf key) ≡ false)
-
 -- a copy of the page of leaf n, or none where it is saved
 abbrev pub IsLacking : List LeafPage → Rows → ℕ → Option LeafPage → Type 0
 IsLacking pages rows n None = has_leaf pages n ≡ true

@@ -3,6 +3,7 @@ ghost use Rattle.std.specs.Prelude.{◌≡◌, ◌<◌, IfOk, IfSome, OnOk, OnEr
 ghost use Rattle.std.specs.FinMap as map;
 ghost use Rattle.serializability.specs.Changes.{changed};
 ghost use Rattle.pages.specs.Saving.{IsThere, with_leaf};
+ghost use Rattle.tpcc_rows.specs.Changing.{new_row_fits};
 ghost use Rattle.tpcc_rows.specs.Leaves.{page_rows};
 ghost use Rattle.tpcc_rows.specs.RowKinds.{fits};
 
@@ -90,9 +91,11 @@ impl Pages {
         self.pages[leaf(key)].get(key)
     }
 
-    /// The key has this row from now on.
-    pub(crate) fn put(&mut self, key: RowKey, row: Row) -> Result<(), Memory>
+    /// The key has this row from now on; the answer is the one that it had.
+    pub(crate) fn put(&mut self, key: RowKey, row: Row) -> Result<Option<Row>, Memory>
         requires { fits key row ≡ true }
+        ensures value { IfOk result (λ was. was ≡ map.get self.old key) }
+        ensures kind { IfOk result (λ was. new_row_fits key was ≡ true) }
         ensures ok { OnOk result (self.new ≡ map.insert self.old key row) }
         ensures err { OnErr result (self.new ≡ self.old) }
     {

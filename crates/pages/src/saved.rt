@@ -1,7 +1,8 @@
 //! Rows as they were, to which a store can go back.
-ghost use Rattle.std.specs.Prelude.{◌≡◌, ◌<◌, ◌++◌, ◌∷◌, ◌||◌, [], ℕ, OnOk, OnErr};
+ghost use Rattle.std.specs.Prelude.{◌≡◌, ◌<◌, ◌++◌, ◌∷◌, ◌||◌, [], ℕ, OnOk, OnErr, cond, vec_capacity, vec_len};
 ghost use Rattle.indexes.specs.declared.place.TheConstants.{PLACES};
 ghost use Rattle.tpcc_rows.specs.declared.codes.TheConstants.{LEAVES};
+ghost use Rattle.tpcc_rows.specs.Leaves.{leaf};
 ghost use Rattle.pages.specs.Saving.{AreMarks, has_leaf, has_place};
 
 use crate::bits::{Bits, LEAF_WORDS, WORD_BITS};
@@ -98,16 +99,26 @@ impl Saved {
         Ok(())
     }
 
-    /// This row too is here from now on.
-    pub(crate) fn keep_row(&mut self, old: OldRow) -> Result<(), Memory>
-        ensures ok { OnOk result (self.new.olds.items ≡ self.old.olds.items ++ old ∷ []) }
-        ensures err { OnErr result (self.new.olds.items ≡ self.old.olds.items) }
+    /// There is room for a row more.
+    pub(crate) fn reserve_row(&mut self) -> Result<(), Memory>
+        ensures room { OnOk result (vec_len self.new.olds < vec_capacity self.new.olds) }
+        ensures same { before_of self.new ≡ before_of self.old }
+    {
+        self.olds.reserve(1)?;
+        Ok(())
+    }
+
+    /// This row too, for which there is room, is here from now on, unless the page of its leaf is.
+    pub(crate) fn note(&mut self, old: OldRow)
+        requires { vec_len self.old.olds < vec_capacity self.old.olds }
+        ensures olds { self.new.olds.items ≡ cond (has_leaf self.old.pages.items (leaf old.key)) self.old.olds.items (self.old.olds.items ++ old ∷ []) }
         ensures pages { self.new.pages.items ≡ self.old.pages.items }
         ensures indexes { self.new.indexes.items ≡ self.old.indexes.items }
         ensures added { self.new.added.items ≡ self.old.added.items }
     {
-        self.olds.push(old)?;
-        Ok(())
+        if !self.has_leaf(leaf(&old.key)) {
+            self.olds.push_reserved(old);
+        }
     }
 
     /// This part of an index too is here from now on.

@@ -1,5 +1,5 @@
 //! Rows by leaf, and the indexes of the orders' numbers.
-ghost use Rattle.std.specs.Prelude.{◌≡◌, ◌<◌, ◌||◌, ℕ, IfNone, IfOk, IfSome, OnOk, OnErr, cond, false, length, option_copied, true};
+ghost use Rattle.std.specs.Prelude.{◌≡◌, ◌<◌, ◌||◌, ℕ, IfNone, IfOk, IfSome, None, Some, OnOk, OnErr, cond, false, length, option_copied, true};
 ghost use Rattle.std.specs.BTreeSet.{contains};
 ghost use Rattle.std.specs.FinMap as map;
 ghost use Rattle.std.specs.List.{list_all};
@@ -10,11 +10,11 @@ ghost use Rattle.indexes.specs.Owners.{owner_at};
 ghost use Rattle.indexes.specs.Numbers.{is_customer_number, is_new_number};
 ghost use Rattle.indexes.specs.Places.{is_of};
 ghost use Rattle.pages.specs.Points.{before_of};
-ghost use Rattle.pages.specs.Saving.{AreThere, HasBefore, HasNumbers, IsLacking, IsLackingRow, IsSavedOf, StandsForSame, has_leaf, has_old, has_place};
+ghost use Rattle.pages.specs.Saving.{AreThere, HasBefore, HasNumbers, IsLacking, IsSavedOf, StandsForSame, has_leaf, has_place};
 ghost use Rattle.pages.specs.Saving.{is_added, restored, undone, with_pages, with_parts};
 ghost use Rattle.tpcc_rows.specs.declared.key.RowKey.{RowKey};
 ghost use Rattle.tpcc_rows.specs.declared.codes.TheConstants.{LEAVES};
-ghost use Rattle.tpcc_rows.specs.Changing.{with_each};
+ghost use Rattle.tpcc_rows.specs.Changing.{new_row_fits, with_each};
 ghost use Rattle.tpcc_rows.specs.Leaves.{leaf, page_rows};
 ghost use Rattle.tpcc_rows.specs.Picks.{latest, oldest};
 ghost use Rattle.tpcc_rows.specs.RowKinds.{fits};
@@ -85,20 +85,6 @@ fn indexes_of(alloc: Global, pages: &Pages) -> Result<Indexes, Memory>
         indexes.add_page(pages.page(leaf))?;
     }
     Ok(indexes)
-}
-
-/// A copy of what the key has, where the page of its leaf isn't saved.
-fn lacking_row(pages: &Pages, key: &RowKey, saved: &Saved) -> Result<Option<OldRow>, Memory>
-    ensures { IfOk result (IsLackingRow (before_of saved.now) pages.now key.now) }
-{
-    if saved.has_leaf(leaf(key)) {
-        return Ok(None);
-    }
-    let row = match pages.get(key) {
-        Some(row) => Some(row.copied()?),
-        None => None,
-    };
-    Ok(Some(OldRow { key: *key, row }))
 }
 
 /// A copy of the page of the leaf, where it isn't saved.
@@ -207,9 +193,11 @@ impl RowStore {
         self.pages.get(key)
     }
 
-    /// The key has this row from now on.
-    pub fn put(&mut self, key: RowKey, row: Row) -> Result<(), Memory>
+    /// The key has this row from now on; the answer is the one that it had.
+    pub fn put(&mut self, key: RowKey, row: Row) -> Result<Option<Row>, Memory>
         requires { fits key row ≡ true }
+        ensures value { IfOk result (λ was. was ≡ map.get self.old key) }
+        ensures kind { IfOk result (λ was. new_row_fits key was ≡ true) }
         ensures ok { OnOk result (self.new ≡ map.insert self.old key row) }
         ensures err { OnErr result (self.new ≡ self.old) }
     {
@@ -223,9 +211,9 @@ impl RowStore {
         }
         self.indexes.add(&key, &owner)?;
         match self.pages.put(key, row) {
-            Ok(()) => {
+            Ok(old) => {
                 self.indexes.take_out(&key, &was);
-                Ok(())
+                Ok(old)
             }
             Err(refused) => {
                 self.indexes.take_out(&key, &owner);
@@ -290,19 +278,6 @@ impl RowStore {
         self.save_part(place, key, new_row, saved)
     }
 
-    /// Copies what the key has, where the page of its leaf isn't saved.
-    fn save_row(&self, key: &RowKey, saved: &mut Saved) -> Result<(), Memory>
-        ensures there { OnOk result ((has_leaf saved.new.pages.items (leaf key.now) || has_old saved.new.olds.items key.now) ≡ true) }
-        ensures same { StandsForSame (before_of saved.old) (before_of saved.new) self.now }
-        ensures indexes { saved.new.indexes.items ≡ saved.old.indexes.items }
-        ensures added { saved.new.added.items ≡ saved.old.added.items }
-    {
-        match lacking_row(&self.pages, key, saved)? {
-            Some(old) => saved.keep_row(old),
-            None => Ok(()),
-        }
-    }
-
     /// Copies the page of a leaf, where it isn't saved.
     fn save_page(&self, leaf: usize, saved: &mut Saved) -> Result<(), Memory>
         requires { leaf < LEAVES }
@@ -317,16 +292,29 @@ impl RowStore {
         }
     }
 
-    /// Copies what a change of the key to this row, or to none, alters into what is saved, where that lacks it.
-    pub fn save(&self, key: &RowKey, new_row: Option<&Row>, saved: &mut Saved) -> Result<(), Memory>
-        ensures there { OnOk result (HasBefore (before_of saved.new) self.now key.now (option_copied new_row.entry)) }
+    /// Copies what a removal of the key's row alters into what is saved, where that lacks it.
+    pub fn save_removal(&self, key: &RowKey, saved: &mut Saved) -> Result<(), Memory>
+        ensures there { OnOk result (HasBefore (before_of saved.new) self.now key.now None) }
         ensures same { StandsForSame (before_of saved.old) (before_of saved.new) self.now }
     {
-        self.save_numbers(key, new_row, saved)?;
-        match new_row {
-            Some(_) => self.save_row(key, saved),
-            None => self.save_page(leaf(key), saved),
-        }
+        self.save_numbers(key, None, saved)?;
+        self.save_page(leaf(key), saved)
+    }
+
+    /// The key has this row from now on. What it had is moved into what is saved, and what the change alters of an index is saved,
+    /// where that lacks them.
+    pub fn put_saving(&mut self, key: RowKey, row: Row, saved: &mut Saved) -> Result<(), Memory>
+        requires { fits key row ≡ true }
+        ensures ok { OnOk result (self.new ≡ map.insert self.old key row) }
+        ensures err { OnErr result (self.new ≡ self.old) }
+        ensures there { OnOk result (HasBefore (before_of saved.new) self.old key (Some row)) }
+        ensures same { StandsForSame (before_of saved.old) (before_of saved.new) self.old }
+    {
+        self.save_numbers(&key, Some(&row), saved)?;
+        saved.reserve_row()?;
+        let was = self.put(key, row)?;
+        saved.note(OldRow { key, row: was });
+        Ok(())
     }
 
     /// Moves back what is saved. It takes no memory.

@@ -52,6 +52,28 @@ newest-set (t ∷ u ∷ []) s rows k c (suc (suc n)) e h = absurd (omega arith)
 newest-set (t ∷ u ∷ v ∷ ss) s rows k c (suc zero) e h = absurd (omega arith)
 newest-set (t ∷ u ∷ v ∷ ss) s rows k c (suc (suc n)) e h = newest-set (u ∷ v ∷ ss) s rows k c (suc n) (omega arith) h
 
+-- ---- a change, or none where memory was refused, once the newest point has what it alters
+module _ {T E : Type 0} (r : Result T E) (ss : List Saved) (s d : Saved) (old new : Rows) (k : RowKey) (row : Row) (n : ℕ) (newest : n + 1 ≡ length ss) (same : StandsForSame (before_of (get_or ss n d)) (before_of s) old) where
+  changed-newest : HasBefore (before_of s) old k (Some row) → NewestHas (set ss n s) old k (Some row)
+  changed-newest h = newest-set ss s old k (Some row) n newest h
+
+  pub points-put : OnOk r (HasBefore (before_of s) old k (Some row)) → OnOk r (new ≡ changed old k (Some row)) → OnErr r (new ≡ old) → points_of (set ss n s) new ≡ points_of ss old
+  points-put there ok err = put-points r there ok err ∙ points-set ss s d old n newest same
+    where
+      put-points : (x : Result T E) → OnOk x (HasBefore (before_of s) old k (Some row)) → OnOk x (new ≡ changed old k (Some row)) → OnErr x (new ≡ old) → points_of (set ss n s) new ≡ points_of (set ss n s) old
+      put-points (Ok u) h is none = ap (λ (rows : Rows). points_of (set ss n s) rows) is ∙ points-changed (set ss n s) old k (Some row) (changed-newest h)
+      put-points (Err e) h is none = ap (λ (rows : Rows). points_of (set ss n s) rows) none
+
+  pub saved-put : OnOk r (HasBefore (before_of s) old k (Some row)) → OnOk r (new ≡ changed old k (Some row)) → OnErr r (new ≡ old) → AreSaved ss old → AreSaved (set ss n s) new
+  saved-put there ok err are = put-saved r there ok err
+    where
+      kept : AreSaved (set ss n s) old
+      kept = saved-set ss s d old n newest same are
+
+      put-saved : (x : Result T E) → OnOk x (HasBefore (before_of s) old k (Some row)) → OnOk x (new ≡ changed old k (Some row)) → OnErr x (new ≡ old) → AreSaved (set ss n s) new
+      put-saved (Ok u) h is none = subst (λ (rows : Rows). AreSaved (set ss n s) rows) (sym is) (saved-points (set ss n s) old k (Some row) (changed-newest h) kept)
+      put-saved (Err e) h is none = subst (λ (rows : Rows). AreSaved (set ss n s) rows) (sym none) kept
+
 -- ---- one point more
 first-push : (ps : List Rows) (p rows : Rows) → first_or (ps ++ p ∷ []) rows ≡ first_or ps p
 first-push [] p rows = refl

@@ -1,5 +1,5 @@
 //! Rows, the points to which they can go back, and the leaves on which they have changed.
-ghost use Rattle.std.specs.Prelude.{◌≡◌, ◌<◌, ◌≤◌, ◌+◌, ◌↔◌, [], ◌∷◌, ◌++◌, take, drop, IfOk, IfSome, IsErr, Some, OnOk, OnErr, length, option_copied, slice_get, true};
+ghost use Rattle.std.specs.Prelude.{◌≡◌, ◌<◌, ◌≤◌, ◌+◌, ◌↔◌, [], ◌∷◌, ◌++◌, take, drop, IfOk, IfSome, IsErr, None, Some, OnOk, OnErr, length, option_copied, slice_get, true};
 ghost use Rattle.std.specs.FinMap as map;
 ghost use Rattle.serializability.specs.Changes.{changed};
 ghost use Rattle.tpcc_rows.specs.Changing.{IsMadeInPart, after, new_row_fits};
@@ -51,23 +51,38 @@ impl Model for PointedStore {
     ghost invariant = { λ s. AreSaved s.points.items s.store };
 }
 
-/// The newest point, if there is one, has what a change of the key to this row, or to none, alters from now on, and stands for
-/// what it did.
-fn save_newest(
-    store: &RowStore,
-    key: &RowKey,
-    new_row: Option<&Row>,
-    points: &mut [Saved],
-) -> Result<(), Memory>
+/// The newest point, if there is one, has what a removal of the key's row alters from now on, and stands for what it did.
+fn save_newest(store: &RowStore, key: &RowKey, points: &mut [Saved]) -> Result<(), Memory>
     ensures points { points_of points.new store.now ≡ points_of points.old store.now }
     ensures saved { AreSaved points.old store.now → AreSaved points.new store.now }
-    ensures there { OnOk result (NewestHas points.new store.now key.now (option_copied new_row.entry)) }
+    ensures there { OnOk result (NewestHas points.new store.now key.now None) }
 {
     let len = points.len();
     if len == 0 {
         return Ok(());
     }
-    store.save(key, new_row, &mut points[len - 1])
+    store.save_removal(key, &mut points[len - 1])
+}
+
+/// The key has this row from now on; the newest point, if there is one, has what it had, and each stands for what it did.
+fn put_saving_newest(
+    store: &mut RowStore,
+    key: RowKey,
+    row: Row,
+    points: &mut [Saved],
+) -> Result<(), Memory>
+    requires { fits key row ≡ true }
+    ensures ok { OnOk result (store.new ≡ map.insert store.old key row) }
+    ensures err { OnErr result (store.new ≡ store.old) }
+    ensures points { points_of points.new store.new ≡ points_of points.old store.old }
+    ensures saved { AreSaved points.old store.old → AreSaved points.new store.new }
+{
+    let len = points.len();
+    if len == 0 {
+        store.put(key, row)?;
+        return Ok(());
+    }
+    store.put_saving(key, row, &mut points[len - 1])
 }
 
 impl PointedStore {
@@ -172,9 +187,8 @@ impl PointedStore {
         ensures err { OnErr result (self.new ≡ self.old) }
         ensures clean { KeepsCleanLeaves self.old self.new }
     {
-        save_newest(&self.store, &key, Some(&row), self.points.as_mut_slice())?;
         let leaf = leaf(&key);
-        self.store.put(key, row)?;
+        put_saving_newest(&mut self.store, key, row, self.points.as_mut_slice())?;
         self.dirty.add(leaf);
         Ok(())
     }
@@ -188,38 +202,38 @@ impl PointedStore {
         ensures err { OnErr result (self.new ≡ self.old) }
         ensures clean { KeepsCleanLeaves self.old self.new }
     {
-        save_newest(&self.store, key, None, self.points.as_mut_slice())?;
+        save_newest(&self.store, key, self.points.as_mut_slice())?;
         self.dirty.add(leaf(key));
         Ok(self.store.remove(key))
     }
 
-    fn change(&mut self, key: &RowKey, new_row: &Option<Row>) -> Result<(), Memory>
-        requires { new_row_fits key.now new_row.now ≡ true }
-        ensures rows { OnOk result (self.new.rows ≡ changed self.old.rows key.now new_row.now) }
-        ensures dirty { OnOk result (HasAlso self.old.dirty (leaf key.now) self.new.dirty) }
+    fn change(&mut self, key: RowKey, new_row: Option<Row>) -> Result<(), Memory>
+        requires { new_row_fits key new_row ≡ true }
+        ensures rows { OnOk result (self.new.rows ≡ changed self.old.rows key new_row) }
+        ensures dirty { OnOk result (HasAlso self.old.dirty (leaf key) self.new.dirty) }
         ensures points { self.new.points ≡ self.old.points }
         ensures err { OnErr result (self.new ≡ self.old) }
         ensures clean { KeepsCleanLeaves self.old self.new }
     {
         match new_row {
-            Some(row) => self.put(*key, row.copied()?),
+            Some(row) => self.put(key, row),
             None => {
-                self.remove(key)?;
+                self.remove(&key)?;
                 Ok(())
             }
         }
     }
 
-    /// Makes the changes. After a refusal a beginning of them, in key order, is made.
+    /// Makes the changes, whose rows are moved. After a refusal a beginning of them, in key order, is made.
     #[tactic(auto, unfolding(tpcc_rows::specs::Changing::after))]
-    pub fn apply(&mut self, delta: &Delta) -> Result<(), Memory>
-        ensures ok { OnOk result (self.new.rows ≡ after self.old.rows delta.now) }
-        ensures err { OnErr result (IsMadeInPart self.old.rows self.new.rows delta.now) }
-        ensures dirty { OnOk result (HasAlsoThose self.old.dirty delta.now self.new.dirty) }
+    pub fn apply(&mut self, delta: Delta) -> Result<(), Memory>
+        ensures ok { OnOk result (self.new.rows ≡ after self.old.rows delta) }
+        ensures err { OnErr result (IsMadeInPart self.old.rows self.new.rows delta) }
+        ensures dirty { OnOk result (HasAlsoThose self.old.dirty delta self.new.dirty) }
         ensures points { self.new.points ≡ self.old.points }
         ensures clean { KeepsCleanLeaves self.old self.new }
     {
-        for (key, new_row) in delta.as_slice() {
+        for (key, new_row) in delta.into_changes() {
             self.change(key, new_row)?;
         }
         Ok(())
