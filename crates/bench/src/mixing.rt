@@ -123,7 +123,7 @@ impl Engine {
         self.stages.executing = self.stages.executing.saturating_add(since(rt, begin));
         let (reply, changes) = done.ok()?;
         let begin = start(rt);
-        let is_applied = self.store.apply(&changes).is_ok();
+        let is_applied = self.store.apply(changes).is_ok();
         self.stages.applying = self.stages.applying.saturating_add(since(rt, begin));
         self.next = self.next.saturating_add(1);
         is_applied.then_some((number, reply))

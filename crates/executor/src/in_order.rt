@@ -92,7 +92,7 @@ pub(crate) fn execute_in_order(
             footprint: &plan.footprints[place],
         };
         let (reply, delta) = executed_within(alloc, catalog, &declared, store, &mut strayed)?;
-        store.apply(&delta)?;
+        store.apply(delta)?;
         replies.push(reply)?;
     }
     Ok(Pass { replies, strayed })

@@ -64,7 +64,7 @@ fn apply_each(store: &mut PointedStore, deltas: Vec<Delta>) -> Result<(), Memory
     ensures clean { KeepsCleanLeaves store.old store.new }
 {
     for delta in deltas {
-        store.apply(&delta)?;
+        store.apply(delta)?;
     }
     Ok(())
 }

@@ -61,7 +61,7 @@ pub(crate) fn execute_sequential<G: Gate>(
         let done = executed(alloc, catalog, request, number, next.batch.moment, store);
         gate.leave(place);
         let (reply, delta) = done?;
-        store.apply(&delta)?;
+        store.apply(delta)?;
         replies.push(reply)?;
     }
     Ok(replies)

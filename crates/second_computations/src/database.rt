@@ -72,7 +72,7 @@ impl Database {
         Some(delta)
     }
 
-    fn apply(&mut self, deltas: &[Delta]) -> Option<()> {
+    fn apply(&mut self, deltas: Vec<Delta>) -> Option<()> {
         for delta in deltas {
             self.store.apply(delta).ok()?;
         }
@@ -85,7 +85,7 @@ impl Database {
         for place in places {
             deltas.push(self.noted_step(alloc, batch, *place)?).ok()?;
         }
-        self.apply(&deltas)
+        self.apply(deltas)
     }
 
     /// Executes a batch, one request after the other.

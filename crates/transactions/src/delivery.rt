@@ -33,6 +33,9 @@ use tpcc_rows::number::Moment;
 use tpcc_rows::row::{CustomerRow, OrderLineRow, OrderRow, Row};
 use worker_rows::{RowView, Strayed, customer_row, order_line_row, order_row};
 
+/// Room for what a delivery changes: in each of ten districts an order, its mark as new, its customer and at most fifteen lines.
+const ROOM: usize = 10 * (3 + 15);
+
 fn amount_of(line: Option<&OrderLineRow>) -> u32
     ensures value { result ≡ amount_of (option_copied line.entry) }
     ensures small { result ≤ 999999 }
@@ -320,7 +323,7 @@ fn delivery<V: RowView>(
         return Err(Fault::Refused(RequestRefusal::UnknownKey));
     };
     let orders = oldest_orders(view, p)?;
-    let mut changes = Delta::new(alloc);
+    let mut changes = Delta::with_room(alloc, ROOM)?;
     districts_delivered(alloc, view, p, moment, &orders, &mut changes)?;
     Ok((DeliveryReply { orders }, changes))
 }

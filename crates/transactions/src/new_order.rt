@@ -171,7 +171,7 @@ fn opened(
     ensures none { IfOk result (λ so_far. so_far.lines ≡ []) }
 {
     let (warehouse, district) = (p.warehouse, p.district);
-    let mut changes = Delta::new(alloc);
+    let mut changes = Delta::with_room(alloc, 3 + 2 * p.lines.as_slice().len())?;
     let next_key = RowKey::DistrictNext {
         warehouse,
         district,

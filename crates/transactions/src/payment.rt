@@ -301,7 +301,7 @@ fn payment_changes(
 ) -> Result<Delta, Memory>
     ensures { IfOk result (λ delta. delta ≡ payment_changes p.now number (paid_of rows)) }
 {
-    let mut delta = Delta::new(alloc);
+    let mut delta = Delta::with_room(alloc, 4)?;
     let warehouse = RowKey::Warehouse {
         warehouse: p.warehouse,
     };

@@ -88,7 +88,7 @@ impl Database {
     fn execute(&mut self, alloc: Global, request: &Request, moment: Moment) -> Option<()> {
         let number = RequestNumber::new(self.next)?;
         let (_, delta) = self.step(alloc, request, number, moment)?;
-        self.store.apply(&delta).ok()?;
+        self.store.apply(delta).ok()?;
         self.next = self.next.saturating_add(1);
         Some(())
     }

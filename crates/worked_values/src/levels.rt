@@ -250,10 +250,10 @@ fn show_payments<R: Threads + Sync + Print>(
     Some(())
 }
 
-fn apply(store: &mut PointedStore, end: &LevelEnd) -> Option<()> {
+fn apply(store: &mut PointedStore, end: LevelEnd) -> Option<()> {
     if let LevelEnd::Done(outcomes) = end {
         for outcome in outcomes {
-            store.apply(&outcome.changes).ok()?;
+            store.apply(outcome.changes).ok()?;
         }
     }
     Some(())
@@ -268,7 +268,7 @@ fn apply_order<R: Threads + Sync + Print>(
 ) -> Option<()> {
     let end = run_one(rt, alloc, database, both, 0, &NoGate)?;
     show_end(rt, alloc, &end)?;
-    apply(&mut database.store, &end)
+    apply(&mut database.store, end)
 }
 
 /// What was declared before an order of the same batch doesn't do for the delivery after it.

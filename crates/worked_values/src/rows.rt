@@ -299,7 +299,7 @@ pub fn push_changes(alloc: Global, delta: &mut Delta, changes: &[Change]) -> Opt
 pub fn apply(alloc: Global, store: &mut PointedStore, changes: &[Change]) -> Option<()> {
     let mut delta = Delta::new(alloc);
     push_changes(alloc, &mut delta, changes)?;
-    store.apply(&delta).ok()
+    store.apply(delta).ok()
 }
 
 // ---- rows that are shown
