@@ -25,25 +25,25 @@ const ROUNDS: u32 = 20;
 const NODE_BYTES: usize = 65;
 
 /// A customer's row with a cent more.
-fn paid(alloc: Global, row: &CustomerRow) -> Option<Row> {
+fn paid(row: &CustomerRow) -> Option<Row> {
     let changed = CustomerRow {
         balance: row.balance.raised(1)?,
         ytd_payment: row.ytd_payment,
         payment_count: row.payment_count,
         delivery_count: row.delivery_count,
-        data: row.data.copied(),
+        data: row.data.copied().ok()?,
     };
-    Row::of_customer(alloc, changed).ok()
+    Some(Row::Customer(changed))
 }
 
 /// Another row than this one; None of a kind that a full warehouse hasn't before its first order.
-fn changed(alloc: Global, row: &Row) -> Option<Row> {
+fn changed(row: &Row) -> Option<Row> {
     match row {
         Row::Warehouse(row) => {
             let ytd = row.ytd.raised(1)?;
             Some(Row::Warehouse(WarehouseRow { ytd }))
         }
-        Row::Customer(shared) => paid(alloc, shared.row()),
+        Row::Customer(row) => paid(row),
         Row::Stock(row) => {
             let ytd = row.ytd.raised(1)?;
             Some(Row::Stock(StockRow { ytd, ..*row }))
@@ -61,15 +61,15 @@ fn changed(alloc: Global, row: &Row) -> Option<Row> {
 }
 
 /// The key of the first row of a page, and another row for it.
-fn first_changed(alloc: Global, page: &LeafRows) -> Option<(RowKey, Row)> {
+fn first_changed(page: &LeafRows) -> Option<(RowKey, Row)> {
     let (key, row) = page.as_slice().first()?;
-    Some((*key, changed(alloc, row)?))
+    Some((*key, changed(row)?))
 }
 
 /// All leaves with a row. The first row of each becomes another one, so that all of its text is hashed, whatever is kept of it.
 fn filled_leaves(alloc: Global, store: &mut PointedStore) -> Option<Dirty> {
     for leaf in 0..LEAVES {
-        if let Some((key, row)) = first_changed(alloc, store.page(leaf)) {
+        if let Some((key, row)) = first_changed(store.page(leaf)) {
             if fits(&key, &row) {
                 store.put(key, row).ok()?;
             }

@@ -21,6 +21,7 @@ use tpcc_rows::row::{
     CustomerRow, DistrictNextRow, DistrictYtdRow, HistoryRow, OrderLineRow, OrderRow, StockRow,
     WarehouseRow,
 };
+use tpcc_rows::shared_text::SharedText;
 
 /// The contents of one record.
 #[derive(Drop)]
@@ -183,8 +184,8 @@ fn district_next_record(fields: &ByteRecord) -> Result<ImageRecord, Slip>
 
 /// `C,w,d,c,last,middle,first,credit,discount,balance,ytd_payment,payment_cnt,delivery_cnt,data`
 #[tactic(auto, unfolding(crate::specs::ImageRecords::customer_fields))]
-fn customer_record(fields: &ByteRecord) -> Result<ImageRecord, Slip>
-    ensures { result ≡ customer_fields (fields_of fields.now) }
+fn customer_record(alloc: Global, fields: &ByteRecord) -> Result<ImageRecord, RecordFault>
+    ensures { Reads (customer_fields (fields_of fields.now)) result }
 {
     let card = CustomerCard {
         warehouse: warehouse(fields, 1)?,
@@ -201,7 +202,7 @@ fn customer_record(fields: &ByteRecord) -> Result<ImageRecord, Slip>
         ytd_payment: cents(fields, 10)?,
         payment_count: count(fields, 11)?,
         delivery_count: count(fields, 12)?,
-        data: text(fields, 13)?,
+        data: SharedText::new(alloc, &text(fields, 13)?)?,
     };
     Ok(ImageRecord::Customer { card, row })
 }
@@ -377,7 +378,7 @@ pub fn image_record(
         return Ok(district_record(version, fields)?);
     }
     if is_kind(fields, b"C", 14)? {
-        return Ok(customer_record(fields)?);
+        return customer_record(alloc, fields);
     }
     if is_kind(fields, b"I", 5)? {
         return Ok(item_record(fields)?);

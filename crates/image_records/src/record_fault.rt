@@ -4,6 +4,7 @@ ghost use Rattle.image_records.specs.declared.record_fault.RecordFault.TheVarian
 
 use records::fault::Slip;
 use std::alloc::{AllocError, AllocFailed};
+use tpcc_rows::memory::Memory;
 
 /// Why a record can't be read: what is wrong with it, or that an allocation failed.
 #[derive(Clone, Copy)]
@@ -17,6 +18,14 @@ impl From<Slip> for RecordFault {
 
     fn from(slip: Slip) -> RecordFault {
         RecordFault::Slip(slip)
+    }
+}
+
+impl From<Memory> for RecordFault {
+    ghost from_gives = { λ _ fault. fault ≡ record_fault.Memory };
+
+    fn from(_: Memory) -> RecordFault {
+        RecordFault::Memory
     }
 }
 

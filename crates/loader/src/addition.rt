@@ -1,14 +1,11 @@
 //! What a record adds to the cards and rows.
-ghost use Rattle.std.specs.Prelude.{IfOk};
 ghost use Rattle.image_records.specs.declared.image_record.ImageRecord.TheVariants as says;
 ghost use Rattle.loader.specs.Additions.{IsSaidBy};
 
 use catalog::card::{Card, CustomerCard, DistrictCard, StockCard, WarehouseCard};
 use image_records::image_record::ImageRecord;
-use std::alloc::Global;
 use tpcc_rows::id::{DistrictId, LineNumber, OrderId, WarehouseId};
 use tpcc_rows::key::RowKey;
-use tpcc_rows::memory::Memory;
 use tpcc_rows::row::{
     CustomerRow, DistrictNextRow, DistrictYtdRow, OrderLineRow, OrderRow, Row, StockRow,
     WarehouseRow,
@@ -52,16 +49,15 @@ fn district_next(warehouse: WarehouseId, district: DistrictId, row: DistrictNext
     Addition::Row(key, Row::DistrictNext(row))
 }
 
-fn customer(alloc: Global, card: CustomerCard, row: CustomerRow) -> Result<Addition, Memory>
-    ensures { IfOk result (IsSaidBy (says.Customer card row)) }
+fn customer(card: CustomerCard, row: CustomerRow) -> Addition
+    ensures { IsSaidBy (says.Customer card row) result }
 {
     let key = RowKey::Customer {
         warehouse: card.warehouse,
         district: card.district,
         customer: card.customer,
     };
-    let row = Row::of_customer(alloc, row)?;
-    Ok(Addition::Both(Card::Customer(card), key, row))
+    Addition::Both(Card::Customer(card), key, Row::Customer(row))
 }
 
 fn stock(card: StockCard, row: StockRow) -> Addition
@@ -115,10 +111,10 @@ fn order_line(
 }
 
 /// What a record adds.
-pub(crate) fn addition_of(alloc: Global, said: ImageRecord) -> Result<Addition, Memory>
-    ensures { IfOk result (IsSaidBy said) }
+pub(crate) fn addition_of(said: ImageRecord) -> Addition
+    ensures { IsSaidBy said result }
 {
-    Ok(match said {
+    match said {
         ImageRecord::Warehouse { card, row } => warehouse(card, row),
         ImageRecord::District { card } => Addition::Card(Card::District(card)),
         ImageRecord::DistrictYtd {
@@ -132,7 +128,7 @@ pub(crate) fn addition_of(alloc: Global, said: ImageRecord) -> Result<Addition, 
             row,
         } => district_next(warehouse, district, row),
         ImageRecord::WholeDistrict { card, ytd, next } => Addition::WholeDistrict(card, ytd, next),
-        ImageRecord::Customer { card, row } => customer(alloc, card, row)?,
+        ImageRecord::Customer { card, row } => customer(card, row),
         ImageRecord::Item { card } => Addition::Card(Card::Item(card)),
         ImageRecord::Stock { card, row } => stock(card, row),
         ImageRecord::Order {
@@ -156,5 +152,5 @@ pub(crate) fn addition_of(alloc: Global, said: ImageRecord) -> Result<Addition, 
         ImageRecord::History { number, row } => {
             Addition::Row(RowKey::History { number }, Row::History(row))
         }
-    })
+    }
 }

@@ -122,7 +122,7 @@ impl GatheredTables {
         ensures twice { IfErr result (λ e. e ≡ catalog_error.Twice
             → is_taken (gathered_database self.old) said ≡ true) }
     {
-        match addition_of(self.alloc, said)? {
+        match addition_of(said) {
             Addition::Card(card) => self.cards.add(card),
             Addition::Row(key, row) => self.add_row(key, row),
             Addition::Both(card, key, row) => self.add_both(card, key, row),

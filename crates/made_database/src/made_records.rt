@@ -13,6 +13,7 @@ use tpcc_rows::id::{CustomerId, DistrictId, ItemId, OrderId, WarehouseId};
 use tpcc_rows::memory::Memory;
 use tpcc_rows::number::{Cents, Count, Price, Rate, StockQuantity};
 use tpcc_rows::row::{CustomerRow, DistrictNextRow, DistrictYtdRow, StockRow, WarehouseRow};
+use tpcc_rows::shared_text::SharedText;
 use tpcc_rows::text::Text;
 
 /// A word followed by a number.
@@ -79,20 +80,25 @@ fn made_credit(is_bad: bool) -> Credit
 }
 
 /// C_DATA.
-fn made_note(is_bad: bool) -> Text<500>
-    ensures { result ≡ made_note is_bad }
+fn made_note(alloc: Global, is_bad: bool) -> Result<SharedText<500>, Memory>
+    ensures { IfOk result (λ note. note ≡ made_note is_bad) }
 {
-    if is_bad { long_note() } else { Text::new() }
+    if is_bad {
+        SharedText::new(alloc, &long_note())
+    } else {
+        Ok(SharedText::empty())
+    }
 }
 
 /// `C,w,d,c,last,middle,first,credit,discount,balance,ytd_payment,payment_cnt,delivery_cnt,data`
 #[tactic(auto, unfolding(crate::specs::Made::made_customer, tpcc_rows::specs::Texts::clip))]
 pub(crate) fn made_customer(
+    alloc: Global,
     warehouse: WarehouseId,
     district: DistrictId,
     customer: CustomerId,
-) -> ImageRecord
-    ensures { result ≡ made_customer warehouse district customer }
+) -> Result<ImageRecord, Memory>
+    ensures { IfOk result (λ said. said ≡ made_customer warehouse district customer) }
 {
     let number = u32::from(customer.number());
     let is_bad = number % 10 == 0;
@@ -111,9 +117,9 @@ pub(crate) fn made_customer(
         ytd_payment: Cents::new(1_000).unwrap(),
         payment_count: Count::new(1).unwrap(),
         delivery_count: Count::new(0).unwrap(),
-        data: made_note(is_bad),
+        data: made_note(alloc, is_bad)?,
     };
-    ImageRecord::Customer { card, row }
+    Ok(ImageRecord::Customer { card, row })
 }
 
 /// I_DATA and S_DATA.

@@ -76,6 +76,7 @@ fn add_districts(tables: &mut GatheredTables, warehouses: u8) -> Result<(), Memo
 
 /// Adds customers 1 to `count` of a district.
 fn add_customers_of(
+    alloc: Global,
     tables: &mut GatheredTables,
     warehouse: WarehouseId,
     district: DistrictId,
@@ -90,13 +91,15 @@ fn add_customers_of(
 {
     for c in 1..count + 1 {
         let customer = CustomerId::new(c).unwrap();
-        add(tables, made_customer(warehouse, district, customer))?;
+        let said = made_customer(alloc, warehouse, district, customer)?;
+        add(tables, said)?;
     }
     Ok(())
 }
 
 /// Adds customers 1 to `count` of each district of a warehouse.
 fn add_customers_in(
+    alloc: Global,
     tables: &mut GatheredTables,
     warehouse: WarehouseId,
     count: u16,
@@ -109,13 +112,18 @@ fn add_customers_in(
 {
     for d in 1..11 {
         let district = DistrictId::new(d).unwrap();
-        add_customers_of(tables, warehouse, district, count)?;
+        add_customers_of(alloc, tables, warehouse, district, count)?;
     }
     Ok(())
 }
 
 /// Adds customers 1 to `count` of each district of warehouses 1 to `warehouses`.
-fn add_customers(tables: &mut GatheredTables, warehouses: u8, count: u16) -> Result<(), Memory>
+fn add_customers(
+    alloc: Global,
+    tables: &mut GatheredTables,
+    warehouses: u8,
+    count: u16,
+) -> Result<(), Memory>
     requires warehouses { warehouses ≤ 100 }
     requires count { count ≤ 3000 }
     requires before { AreBefore (card_key.Customer 1 1 1) (gathered_database tables.old) }
@@ -125,7 +133,7 @@ fn add_customers(tables: &mut GatheredTables, warehouses: u8, count: u16) -> Res
 {
     for w in 1..warehouses + 1 {
         let warehouse = WarehouseId::new(w).unwrap();
-        add_customers_in(tables, warehouse, count)?;
+        add_customers_in(alloc, tables, warehouse, count)?;
     }
     Ok(())
 }
@@ -202,7 +210,7 @@ fn fill(
 {
     add_warehouses(tables, warehouses)?;
     add_districts(tables, warehouses)?;
-    add_customers(tables, warehouses, customers)?;
+    add_customers(alloc, tables, warehouses, customers)?;
     add_stocks(alloc, tables, warehouses, items)?;
     add_items(tables, items)
 }

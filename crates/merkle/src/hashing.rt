@@ -100,8 +100,8 @@ impl TwoTexts {
     }
 }
 
-/// Prefetches the rows of a page; the answer is how many bytes suffice for them. A customer's row is reference-counted, and
-/// so lies apart from the page. Read one right after the other, before anything is done with the first, the page's customers come
+/// Prefetches the rows of a page; the answer is how many bytes suffice for them. A customer's text is reference-counted, and
+/// so lies apart from the page. Read one right after the other, before anything is done with the first, the page's texts come
 /// from memory together, where the encoder would wait for each of them in its turn.
 pub(crate) fn prefetch_rows(page: &LeafRows) -> usize {
     let mut bytes = 0usize;

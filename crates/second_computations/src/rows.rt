@@ -14,6 +14,7 @@ use tpcc_rows::row::{
     CustomerRow, DistrictNextRow, DistrictYtdRow, HistoryRow, OrderLineRow, OrderRow, Row,
     StockRow, WarehouseRow, fits,
 };
+use tpcc_rows::shared_text::SharedText;
 use tpcc_rows::text::Text;
 
 /// The key of a row of a district.
@@ -69,13 +70,13 @@ fn key_of(line: &str) -> Option<RowKey> {
     }
 }
 
-fn customer_row(line: &str) -> Option<CustomerRow> {
+fn customer_row(alloc: Global, line: &str) -> Option<CustomerRow> {
     Some(CustomerRow {
         balance: Cents::new(signed(line, 4))?,
         ytd_payment: Cents::new(signed(line, 5))?,
         payment_count: Count::new(word(line, 6))?,
         delivery_count: Count::new(word(line, 7))?,
-        data: Text::parse(column(line, 8).as_bytes())?,
+        data: SharedText::new(alloc, &Text::parse(column(line, 8).as_bytes())?).ok()?,
     })
 }
 
@@ -132,7 +133,7 @@ fn row_of(alloc: Global, line: &str) -> Option<Row> {
         1 => Row::Warehouse(WarehouseRow {
             ytd: Cents::new(signed(line, 2))?,
         }),
-        3 => Row::of_customer(alloc, customer_row(line)?).ok()?,
+        3 => Row::Customer(customer_row(alloc, line)?),
         4 => Row::Stock(stock_row(line)?),
         5 => Row::Order(order_row(line)?),
         6 => Row::NewOrder,

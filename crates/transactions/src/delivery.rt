@@ -4,7 +4,6 @@ ghost use Rattle.std.specs.Prelude.{◌≡◌, ◌≤◌, is_ok, map, option_cop
 ghost use Rattle.std.specs.List.{list_all};
 ghost use Rattle.requests.specs.declared.request.RequestKind.TheVariants as kind;
 ghost use Rattle.tpcc_model.specs.Deliveries.{amount_of, carried, credited, delivery, districts_delivered, lines_amount, lines_dated, oldest_delivered, order_delivered};
-ghost use Rattle.tpcc_model.specs.Staging.{within};
 ghost use Rattle.tpcc_model.specs.Steps.{delivery_outcome};
 ghost use Rattle.tpcc_model.specs.Touches.{credited_touch, delivery_touch, district_touch, delivered_touch};
 ghost use Rattle.tpcc_rows.specs.Changing.{after};
@@ -17,7 +16,7 @@ ghost use Rattle.transactions.specs.OnViews.{AnswersOn, ExecutesOn};
 ghost use Rattle.transactions.specs.Outcomes.{concluded};
 ghost use Rattle.worker_rows.specs.Views.{covers};
 
-use crate::fault::Fault;
+use crate::fault::{Fault, limited};
 use crate::lent::{self, Lent, Seen};
 use catalog::Catalog;
 use requests::reply::{DeliveryReply, Reply, RequestRefusal};
@@ -70,19 +69,19 @@ fn lines_amount<V: RowView>(
     amount
 }
 
-/// None where a limit is passed.
+/// Refused where a limit is passed.
 #[tactic(auto, unfolding(tpcc_model::specs::Deliveries::credited))]
-fn credited(old: &CustomerRow, amount: u32) -> Option<CustomerRow>
-    ensures { within result ≡ credited old.now amount }
+fn credited(old: &CustomerRow, amount: u32) -> Result<CustomerRow, Fault>
+    ensures { AnswersBy (λ row. row) (credited old.now amount) result }
 {
-    let balance = old.balance.raised(amount)?;
-    let delivery_count = old.delivery_count.raised(1)?;
-    Some(CustomerRow {
+    let balance = limited(old.balance.raised(amount))?;
+    let delivery_count = limited(old.delivery_count.raised(1))?;
+    Ok(CustomerRow {
         balance,
         ytd_payment: old.ytd_payment,
         payment_count: old.payment_count,
         delivery_count,
-        data: old.data.copied(),
+        data: old.data.copied()?,
     })
 }
 
@@ -168,7 +167,6 @@ fn carried(
 
 #[tactic(auto, unfolding(tpcc_model::specs::Deliveries::order_delivered))]
 fn order_delivered<V: RowView>(
-    alloc: Global,
     view: &V,
     p: &Delivery,
     moment: Moment,
@@ -190,9 +188,7 @@ fn order_delivered<V: RowView>(
         return Err(Fault::Refused(RequestRefusal::UnknownKey));
     };
     let amount = lines_amount(view, changes, p, district, order, row.line_count);
-    let Some(new) = credited(old, amount) else {
-        return Err(Fault::Refused(RequestRefusal::LimitReached));
-    };
+    let new = credited(old, amount)?;
     carried(p, district, order, row, changes)?;
     lines_dated(view, p, moment, district, order, row.line_count, changes)?;
     let customer_key = RowKey::Customer {
@@ -200,13 +196,12 @@ fn order_delivered<V: RowView>(
         district,
         customer: row.customer,
     };
-    changes.put(customer_key, Row::of_customer(alloc, new)?)?;
+    changes.put(customer_key, Row::Customer(new))?;
     Ok(())
 }
 
 /// A district without a new order is skipped.
 fn oldest_delivered<V: RowView>(
-    alloc: Global,
     view: &V,
     p: &Delivery,
     moment: Moment,
@@ -217,7 +212,7 @@ fn oldest_delivered<V: RowView>(
     ensures { AnswersBy (λ done. changes.new) (oldest_delivered (lent (V.sees view.now)) p.now moment district oldest changes.old) result }
 {
     match oldest {
-        Some(order) => order_delivered(alloc, view, p, moment, district, order, changes),
+        Some(order) => order_delivered(view, p, moment, district, order, changes),
         None => Ok(()),
     }
 }
@@ -293,7 +288,6 @@ fn oldest_orders<V: RowView>(view: &V, p: &Delivery) -> Result<[Option<OrderId>;
 
 /// The districts in turn, each on the rows as the earlier ones leave them.
 fn districts_delivered<V: RowView>(
-    alloc: Global,
     view: &V,
     p: &Delivery,
     moment: Moment,
@@ -304,7 +298,7 @@ fn districts_delivered<V: RowView>(
     ensures { AnswersBy (λ done. changes.new) (districts_delivered (lent (V.sees view.now)) p.now moment ten changes.old) result }
 {
     for (index, district) in DistrictId::all().iter().enumerate() {
-        oldest_delivered(alloc, view, p, moment, *district, orders[index], changes)?;
+        oldest_delivered(view, p, moment, *district, orders[index], changes)?;
     }
     Ok(())
 }
@@ -324,7 +318,7 @@ fn delivery<V: RowView>(
     };
     let orders = oldest_orders(view, p)?;
     let mut changes = Delta::with_room(alloc, ROOM)?;
-    districts_delivered(alloc, view, p, moment, &orders, &mut changes)?;
+    districts_delivered(view, p, moment, &orders, &mut changes)?;
     Ok((DeliveryReply { orders }, changes))
 }
 

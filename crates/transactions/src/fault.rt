@@ -1,4 +1,7 @@
 //! Why a step has no outcome: it is refused, it strays, or memory was refused.
+ghost use Rattle.std.specs.Prelude.{◌≡◌};
+ghost use Rattle.tpcc_model.specs.Staging.{within};
+
 use requests::reply::RequestRefusal;
 use std::alloc::{AllocError, AllocFailed};
 use tpcc_rows::memory::Memory;
@@ -9,6 +12,13 @@ pub(crate) enum Fault {
     Refused(RequestRefusal),
     Strayed,
     Memory,
+}
+
+/// What is to be within its limits.
+pub(crate) fn limited<T>(found: Option<T>) -> Result<T, RequestRefusal>
+    ensures { result ≡ within found }
+{
+    found.ok_or(RequestRefusal::LimitReached)
 }
 
 impl From<RequestRefusal> for Fault {

@@ -4,16 +4,17 @@ ghost use Rattle.std.specs.Prelude.{◌≡◌, ◌++◌, IfOk};
 ghost use Rattle.std.specs.Option.{option_map};
 ghost use Rattle.requests.specs.declared.request.RequestKind.TheVariants as kind;
 ghost use Rattle.tpcc_model.specs.Payments.{field, found_cards, found_rows, history_of, paid_customer, paid_data, paid_district, paid_rows, paid_warehouse, payment, payment_changes, payment_note, payment_reply};
-ghost use Rattle.tpcc_model.specs.Staging.{known, within};
+ghost use Rattle.tpcc_model.specs.Staging.{known};
 ghost use Rattle.tpcc_model.specs.Steps.{payment_outcome};
 ghost use Rattle.tpcc_model.specs.Touches.{paid_touch, payment_touch};
 ghost use Rattle.tpcc_rows.specs.Texts.{IsPrintable, clip};
+ghost use Rattle.transactions.specs.Faults.{AnswersBy};
 ghost use Rattle.transactions.specs.OnViews.{AnswersOn, ExecutesOn};
 ghost use Rattle.transactions.specs.Outcomes.{concluded};
 ghost use Rattle.transactions.specs.PaymentParts.{paid_of, payment_cards_of, payment_rows_of};
 ghost use Rattle.worker_rows.specs.Views.{covers};
 
-use crate::fault::Fault;
+use crate::fault::{Fault, limited};
 use crate::lent::{self, Lent};
 use catalog::{Catalog, Credit, CustomerCard, DistrictCard, WarehouseCard};
 use requests::number::PaymentAmount;
@@ -28,6 +29,7 @@ use tpcc_rows::key::RowKey;
 use tpcc_rows::memory::Memory;
 use tpcc_rows::number::{Amount, Moment};
 use tpcc_rows::row::{CustomerRow, DistrictYtdRow, HistoryRow, Row, WarehouseRow};
+use tpcc_rows::shared_text::SharedText;
 use tpcc_rows::text::Text;
 use worker_rows::{KeyedRows, RowView, customer_row, district_ytd_row, warehouse_row};
 
@@ -59,21 +61,21 @@ pub(crate) struct NewRows {
     pub credit: Credit,
 }
 
-/// None where a limit is passed, as for the rows below.
+/// Refused where a limit is passed, as the rows below.
 #[tactic(auto, unfolding(tpcc_model::specs::Payments::paid_warehouse))]
-fn paid_warehouse(old: &WarehouseRow, amount: u32) -> Option<WarehouseRow>
-    ensures { within result ≡ paid_warehouse old.now amount }
+fn paid_warehouse(old: &WarehouseRow, amount: u32) -> Result<WarehouseRow, RequestRefusal>
+    ensures { result ≡ paid_warehouse old.now amount }
 {
-    let ytd = old.ytd.raised(amount)?;
-    Some(WarehouseRow { ytd })
+    let ytd = limited(old.ytd.raised(amount))?;
+    Ok(WarehouseRow { ytd })
 }
 
 #[tactic(auto, unfolding(tpcc_model::specs::Payments::paid_district))]
-fn paid_district(old: &DistrictYtdRow, amount: u32) -> Option<DistrictYtdRow>
-    ensures { within result ≡ paid_district old.now amount }
+fn paid_district(old: &DistrictYtdRow, amount: u32) -> Result<DistrictYtdRow, RequestRefusal>
+    ensures { result ≡ paid_district old.now amount }
 {
-    let ytd = old.ytd.raised(amount)?;
-    Some(DistrictYtdRow { ytd })
+    let ytd = limited(old.ytd.raised(amount))?;
+    Ok(DistrictYtdRow { ytd })
 }
 
 #[tactic(auto, using(tpcc_rows::proofs::Clips::then_clipped))]
@@ -100,38 +102,46 @@ fn payment_note(p: &Payment, customer: CustomerId) -> Text<500>
 }
 
 #[tactic(auto, unfolding(tpcc_model::specs::Payments::paid_data))]
-fn paid_data(p: &Payment, customer: CustomerId, credit: Credit, old: &Text<500>) -> Text<500>
-    ensures { result ≡ paid_data p.now customer credit old.now }
+fn paid_data(
+    alloc: Global,
+    p: &Payment,
+    customer: CustomerId,
+    credit: Credit,
+    old: &SharedText<500>,
+) -> Result<SharedText<500>, Memory>
+    ensures { IfOk result (λ text. text ≡ paid_data p.now customer credit old.now) }
 {
     match credit {
         Credit::Good => old.copied(),
         Credit::Bad => {
             let mut text = payment_note(p, customer);
             text.push_clipped(old.as_bytes());
-            text
+            SharedText::new(alloc, &text)
         }
     }
 }
 
 #[tactic(auto, unfolding(tpcc_model::specs::Payments::paid_customer))]
 fn paid_customer(
+    alloc: Global,
     p: &Payment,
     customer: CustomerId,
     credit: Credit,
     old: &CustomerRow,
-) -> Option<CustomerRow>
-    ensures { within result ≡ paid_customer p.now customer credit old.now }
+) -> Result<CustomerRow, Fault>
+    ensures { AnswersBy (λ row. row) (paid_customer p.now customer credit old.now) result }
 {
     let amount = p.amount.cents();
-    let balance = old.balance.lowered(amount)?;
-    let ytd_payment = old.ytd_payment.raised(amount)?;
-    let payment_count = old.payment_count.raised(1)?;
-    Some(CustomerRow {
+    let balance = limited(old.balance.lowered(amount))?;
+    let ytd_payment = limited(old.ytd_payment.raised(amount))?;
+    let payment_count = limited(old.payment_count.raised(1))?;
+    let data = paid_data(alloc, p, customer, credit, &old.data)?;
+    Ok(CustomerRow {
         balance,
         ytd_payment,
         payment_count,
         delivery_count: old.delivery_count,
-        data: paid_data(p, customer, credit, &old.data),
+        data,
     })
 }
 
@@ -225,22 +235,23 @@ fn found_rows<'a, R: KeyedRows>(
     })
 }
 
-/// The new rows; None where a limit is passed.
+/// The new rows.
 #[tactic(auto, unfolding(tpcc_model::specs::Payments::paid_rows))]
 fn paid_rows(
+    alloc: Global,
     p: &Payment,
     moment: Moment,
     cards: &PaymentCards<'_>,
     rows: &PaymentRows<'_>,
-) -> Option<NewRows>
-    ensures { within (option_map paid_of result) ≡ paid_rows p.now moment (payment_cards_of cards.now) (payment_rows_of rows.now) }
+) -> Result<NewRows, Fault>
+    ensures { AnswersBy paid_of (paid_rows p.now moment (payment_cards_of cards.now) (payment_rows_of rows.now)) result }
 {
     let (customer_id, credit) = (cards.customer_id, cards.customer.credit);
     let warehouse = paid_warehouse(rows.warehouse, p.amount.cents())?;
     let district = paid_district(rows.district, p.amount.cents())?;
-    let customer = paid_customer(p, customer_id, credit, rows.customer)?;
+    let customer = paid_customer(alloc, p, customer_id, credit, rows.customer)?;
     let (warehouse_name, district_name) = (&cards.warehouse.name, &cards.district.name);
-    Some(NewRows {
+    Ok(NewRows {
         warehouse,
         district,
         customer,
@@ -250,9 +261,10 @@ fn paid_rows(
     })
 }
 
-/// The new rows, which take no memory.
+/// The new rows.
 #[tactic(auto, unfolding(tpcc_model::specs::Touches::payment_touch, tpcc_model::specs::Payments::payment))]
 fn payment<V: RowView>(
+    alloc: Global,
     catalog: &Catalog,
     p: &Payment,
     moment: Moment,
@@ -270,10 +282,7 @@ fn payment<V: RowView>(
     let Some(rows) = found_rows(&lent_rows, p, cards.customer_id) else {
         return Err(Fault::Refused(RequestRefusal::UnknownKey));
     };
-    match paid_rows(p, moment, &cards, &rows) {
-        Some(paid) => Ok(paid),
-        None => Err(Fault::Refused(RequestRefusal::LimitReached)),
-    }
+    paid_rows(alloc, p, moment, &cards, &rows)
 }
 
 #[tactic(auto, unfolding(tpcc_model::specs::Payments::payment_reply))]
@@ -316,7 +325,7 @@ fn payment_changes(
         district: p.customer_district,
         customer: rows.customer_id,
     };
-    delta.put(customer, Row::of_customer(alloc, rows.customer)?)?;
+    delta.put(customer, Row::Customer(rows.customer))?;
     delta.put(RowKey::History { number }, Row::History(rows.history))?;
     Ok(delta)
 }
@@ -333,7 +342,7 @@ pub(crate) fn execute<V: RowView>(
     ensures { ExecutesOn (λ db. payment_touch db p.now) (λ db. payment_outcome p.now number (payment db p.now moment)) catalog.now (V.sees view.now)
         (concluded kind.Payment result) }
 {
-    let rows = payment(catalog, p, moment, view)?;
+    let rows = payment(alloc, catalog, p, moment, view)?;
     let reply = payment_reply(&rows);
     let changes = payment_changes(alloc, p, number, rows)?;
     Ok((Reply::Payment(reply), changes))

@@ -12,6 +12,7 @@ use tpcc_rows::row::{
     CustomerRow, DistrictNextRow, DistrictYtdRow, HistoryRow, OrderLineRow, OrderRow, Row,
     StockRow, WarehouseRow, fits,
 };
+use tpcc_rows::shared_text::SharedText;
 use tpcc_rows::text::Text;
 
 /// A row and its key.
@@ -97,13 +98,18 @@ fn customer_key(place: Place, number: u16) -> Option<RowKey> {
     })
 }
 
-fn customer_row(money: (i64, i64), counts: (u32, u32), data: &[u8]) -> Option<CustomerRow> {
+fn customer_row(
+    alloc: Global,
+    money: (i64, i64),
+    counts: (u32, u32),
+    data: &[u8],
+) -> Option<CustomerRow> {
     Some(CustomerRow {
         balance: Cents::new(money.0)?,
         ytd_payment: Cents::new(money.1)?,
         payment_count: Count::new(counts.0)?,
         delivery_count: Count::new(counts.1)?,
-        data: Text::parse(data)?,
+        data: SharedText::new(alloc, &Text::parse(data)?).ok()?,
     })
 }
 
@@ -114,8 +120,8 @@ fn customer(
     counts: (u32, u32),
     data: &[u8],
 ) -> Option<Pair> {
-    let row = customer_row(money, counts, data)?;
-    Some((key, Row::of_customer(alloc, row).ok()?))
+    let row = customer_row(alloc, money, counts, data)?;
+    Some((key, Row::Customer(row)))
 }
 
 fn stock(warehouse: u8, item: u32, quantity: i16, counts: (u32, u32, u32)) -> Option<Pair> {

@@ -10,9 +10,9 @@ loop-c-init c = none_said (keys_of_customers c.args.warehouse c.args.district) (
 pub add-requires : goal.add-requires
 add-requires c =
     let number = is_number 1 3000 c.loop-c.c c.unwrap-customer.result c.new.result c.new.ensures c.unwrap-customer.ensures in
-    not_taken (keys_of_customers c.args.warehouse c.args.district) c.loop-c.c c.made_customer.result (gathered_database c.loop-c.tables) (c.made_customer.ensures ∙ ap (made_customer c.args.warehouse c.args.district) number) c.loop-c.invariant.1
+    not_taken (keys_of_customers c.args.warehouse c.args.district) c.loop-c.c c.in_ok-said.said (gathered_database c.loop-c.tables) (c.in_ok-said.ensures ∙ ap (made_customer c.args.warehouse c.args.district) number) c.loop-c.invariant.1
 
 pub loop-c-preserved : goal.loop-c-preserved
 loop-c-preserved c =
     let number = is_number 1 3000 c.loop-c.c c.unwrap-customer.result c.new.result c.new.ensures c.unwrap-customer.ensures in
-    one_said (keys_of_customers c.args.warehouse c.args.district) c.loop-c.c c.made_customer.result (gathered_database c.args.tables.now) (gathered_database c.loop-c.tables) (gathered_database c.add.new.tables) (c.made_customer.ensures ∙ ap (made_customer c.args.warehouse c.args.district) number) c.loop-c.auto.c c.loop-c.invariant.0 c.loop-c.invariant.1 c.in_ok-add.ensures
+    one_said (keys_of_customers c.args.warehouse c.args.district) c.loop-c.c c.in_ok-said.said (gathered_database c.args.tables.now) (gathered_database c.loop-c.tables) (gathered_database c.add.new.tables) (c.in_ok-said.ensures ∙ ap (made_customer c.args.warehouse c.args.district) number) c.loop-c.auto.c c.loop-c.invariant.0 c.loop-c.invariant.1 c.in_ok-add.ensures
