@@ -7,7 +7,7 @@ use merkle::Tree;
 use merkle::hashing::{hash_leaf, join};
 use requests::BytesSource;
 use rollback::{Dirty, PointedStore};
-use sha2_lanes::digests_of_four;
+use sha2_lanes::{SecondBlocks, digests_of_four_nodes};
 use std::alloc::Global;
 use std::rt::Clock;
 use std::thread::Threads;
@@ -102,12 +102,18 @@ fn join_alone() -> u64 {
 }
 
 /// As many, four at once.
-fn join_in_lanes() -> u64 {
+fn join_in_lanes(second_blocks: &SecondBlocks) -> u64 {
     let mut mixed = 0u64;
     for turn in 0..LEAVES / 4 {
         let first = [(turn % 251) as u8; NODE_BYTES];
         let second = [(turn % 241) as u8; NODE_BYTES];
-        let [one, two, three, four] = digests_of_four(&first, &second, &second, &first);
+        let [one, two, three, four] = digests_of_four_nodes(
+            second_blocks,
+            &first,
+            &second,
+            &second,
+            &first,
+        );
         let sum = u64::from(one[0]) + u64::from(two[0]) + u64::from(three[0]) + u64::from(four[0]);
         mixed = mixed.wrapping_add(sum);
     }
@@ -147,12 +153,12 @@ impl Times {
         mixed.wrapping_add(u64::from(tree.root()[0]))
     }
 
-    fn take_nodes(&mut self, rt: &impl Clock) -> u64 {
+    fn take_nodes(&mut self, rt: &impl Clock, second_blocks: &SecondBlocks) -> u64 {
         let begin = start(rt);
         let mixed = join_alone();
         self.nodes_alone = self.nodes_alone.min(since(rt, begin));
         let begin = start(rt);
-        let other = join_in_lanes();
+        let other = join_in_lanes(second_blocks);
         self.nodes = self.nodes.min(since(rt, begin));
         mixed.wrapping_add(other)
     }
@@ -180,12 +186,13 @@ pub fn measure<R: Clock + Eprint + AllocGlobal + Threads + Sync>(rt: &R) -> Opti
     let text = full_scale(rt.alloc())?;
     let (_, mut store) = load(rt.alloc(), &mut BytesSource::new(&text, 65_536)).ok()?;
     let mut tree = Tree::build(rt, rt.alloc(), &store).ok()?;
+    let second_blocks = SecondBlocks::new(rt.alloc()).ok()?;
     let mut times = Times::LONGEST;
     let mut mixed = 0u64;
     for _ in 0..ROUNDS {
         let dirty = filled_leaves(rt.alloc(), &mut store)?;
         mixed = mixed.wrapping_add(times.take_tree(rt, &mut tree, &store, &dirty));
-        mixed = mixed.wrapping_add(times.take_nodes(rt));
+        mixed = mixed.wrapping_add(times.take_nodes(rt, &second_blocks));
     }
     times.print(rt);
     (0 < mixed).then_some(())

@@ -3,16 +3,16 @@ ghost use Rattle.std.specs.Prelude.{◌≡◌, ◌≤◌, None, length, map, vec
 ghost use Rattle.std.specs.Bool.{OnTrue};
 ghost use Rattle.sha2.specs.Sha256.{sha256};
 
-use crate::desk::Desk;
 use crate::host::Host;
+use crate::mailbox::Mailbox;
+use crate::outbox::{LONG_BYTES, LONG_TEXTS, Outbox, SHORT_BYTES};
 use crate::parcel::TEXTS;
-use crate::post::{LONG_BYTES, LONG_TEXTS, Post, SHORT_BYTES};
 use crossbeam_utils::sync::{Parker, Unparker};
-use sha2_lanes::digests;
+use sha2_lanes::{SecondBlocks, digests};
 use std::alloc::{AllocError, Global};
 use std::thread;
 
-/// Where texts were sent.
+/// Where messages were sent.
 #[derive(Clone, Copy)]
 pub struct Ticket {
     helper: usize,
@@ -20,10 +20,10 @@ pub struct Ticket {
     is_short: bool,
 }
 
-/// A thread that hashes, as seen by the one that asks it.
+/// A thread that hashes, as its owner sees it.
 struct Helper {
-    long: Post<LONG_BYTES>,
-    short: Post<SHORT_BYTES>,
+    long: Outbox<LONG_BYTES>,
+    short: Outbox<SHORT_BYTES>,
     bell: Unparker,
 }
 
@@ -41,14 +41,15 @@ impl Helper {
     fn start<R: Host>(rt: R, alloc: Global) -> Result<Helper, AllocError> {
         let parker = Parker::new(alloc)?;
         let bell = parker.unparker().clone()?;
-        let (long, long_tray) = Post::new(alloc, LONG_TEXTS)?;
-        let (short, short_tray) = Post::new(alloc, TEXTS)?;
-        let mut desk = Desk {
-            long: long_tray,
-            short: short_tray,
+        let (long, long_inbox) = Outbox::new(alloc, LONG_TEXTS)?;
+        let (short, short_inbox) = Outbox::new(alloc, TEXTS)?;
+        let mut mailbox = Mailbox {
+            long: long_inbox,
+            short: short_inbox,
             bell: parker,
+            second_blocks: SecondBlocks::new(alloc)?,
         };
-        thread::spawn(&rt, move || desk.serve(&rt))?;
+        thread::spawn(&rt, move || mailbox.serve(&rt))?;
         Ok(Helper { long, short, bell })
     }
 
@@ -81,7 +82,7 @@ impl Helper {
     }
 }
 
-/// Threads that hash for the one that has this.
+/// Threads that hash for the owner of this.
 #[derive(Drop)]
 pub struct Helpers {
     helpers: Vec<Helper>,
@@ -99,7 +100,7 @@ impl Helpers {
         }
     }
 
-    /// So many helpers, or as many of them as memory is there for and threads can be started for.
+    /// So many helpers, or as many as there is memory for and threads can be started.
     pub fn start<R: Host>(rt: R, alloc: Global, count: usize) -> Helpers
         ensures { vec_len result.helpers ≤ count }
     {
@@ -120,8 +121,8 @@ impl Helpers {
         self.helpers.len()
     }
 
-    /// Lets one of the first helpers, so many at most, begin with these messages. None begins where there are more than `TEXTS`, where
-    /// one is longer than `LONG_BYTES`, or `SHORT_BYTES` where there are more than `LONG_TEXTS`, or where all have enough to do.
+    /// Lets one of the first `most` helpers begin with these messages, unless it has enough to do: up to `LONG_TEXTS` of up to `LONG_BYTES`,
+    /// or up to `TEXTS` of up to `SHORT_BYTES`.
     pub fn begin(&mut self, most: usize, messages: &[&[u8]]) -> Option<Ticket>
         ensures none { most ≡ 0 → result ≡ None }
         ensures helpers { vec_len self.new.helpers ≡ vec_len self.old.helpers }
@@ -143,7 +144,7 @@ impl Helpers {
             })
     }
 
-    /// The helper's answer, if there is one in time.
+    /// The helper's answer, if it comes in time.
     fn wait(&mut self, ticket: Option<Ticket>, messages: &[&[u8]], digests: &mut [[u8; 32]]) -> bool
         requires { length digests.old ≡ length messages.now }
         ensures len { length digests.new ≡ length digests.old }
@@ -164,15 +165,20 @@ impl Helpers {
             && self.helpers[helper].wait(number, is_short, messages, digests)
     }
 
-    /// The digests of these messages, each at its message's place: those that a helper has found, where it began with just
-    /// them and has ended in time.
-    pub fn finish(&mut self, ticket: Option<Ticket>, messages: &[&[u8]], found: &mut [[u8; 32]])
+    /// The digests of these messages, each at its message's place: a helper's, if it began with just them and is done in time.
+    pub fn finish(
+        &mut self,
+        second_blocks: &SecondBlocks,
+        ticket: Option<Ticket>,
+        messages: &[&[u8]],
+        found: &mut [[u8; 32]],
+    )
         requires { length found.old ≡ length messages.now }
         ensures digests { found.new ≡ map (λ message. sha256 message.now) messages.now }
         ensures helpers { vec_len self.new.helpers ≡ vec_len self.old.helpers }
     {
         if !self.wait(ticket, messages, found) {
-            digests(messages, found);
+            digests(second_blocks, messages, found);
         }
     }
 }

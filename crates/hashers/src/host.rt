@@ -1,4 +1,4 @@
-//! Who may start threads that stay.
+//! Who may start threads that last.
 use std::marker::{Copy, Send};
 use std::sync::Wait;
 use std::thread::Threads;

@@ -1,13 +1,13 @@
-//! SHA-256 on threads that stay: helpers hash texts beside the thread that asks, from one call to the next.
+//! SHA-256 on threads that last from call to call, and hash beside the one that asks.
 #![tactic(auto)]
 
-mod desk;
 mod helpers;
 mod host;
+mod mailbox;
+mod outbox;
 mod parcel;
-mod post;
 
 pub use helpers::{Helpers, Ticket};
 pub use host::Host;
+pub use outbox::{LONG_BYTES, LONG_TEXTS, SHORT_BYTES};
 pub use parcel::TEXTS;
-pub use post::{LONG_BYTES, LONG_TEXTS, SHORT_BYTES};

@@ -5,10 +5,10 @@ ghost use Rattle.sha2.specs.Sha256.{sha256};
 ghost use Rattle.hashers.specs.declared.parcel.TheConstants.{TEXTS};
 
 use arrayvec::ArrayVec;
-use sha2_lanes::digests;
+use sha2_lanes::{SecondBlocks, digests};
 use std::alloc::{AllocError, Global};
 
-/// How many texts a parcel has at most.
+/// The most texts of a parcel.
 pub const TEXTS: usize = 64;
 
 /// A copy of a text.
@@ -21,7 +21,12 @@ fn is_same(text: &[u8], message: &[u8]) -> bool
 }
 
 /// Puts the hashes of the first texts at their places.
-fn hash_first<const N: usize>(texts: &[Text<N>], len: usize, hashes: &mut [[u8; 32]])
+fn hash_first<const N: usize>(
+    second_blocks: &SecondBlocks,
+    texts: &[Text<N>],
+    len: usize,
+    hashes: &mut [[u8; 32]],
+)
     requires inside { len ≤ length texts.now }
     requires same { length hashes.old ≡ length texts.now }
     requires few { length texts.now ≤ TEXTS }
@@ -32,10 +37,10 @@ fn hash_first<const N: usize>(texts: &[Text<N>], len: usize, hashes: &mut [[u8; 
     for text in &texts[..len] {
         messages.push(text.as_slice());
     }
-    digests(messages.as_slice(), &mut hashes[..len]);
+    digests(second_blocks, messages.as_slice(), &mut hashes[..len]);
 }
 
-/// Copies of texts that are to be hashed, each of so many bytes at most, and room for their hashes.
+/// Copies of texts of up to N bytes that are to be hashed, and room for their hashes.
 #[derive(Drop)]
 pub(crate) struct Parcel<const N: usize> {
     number: u64,
@@ -49,7 +54,7 @@ pub(crate) struct Parcel<const N: usize> {
 }
 
 impl<const N: usize> Parcel<N> {
-    /// Room for so many texts.
+    /// With room for so many texts.
     pub(crate) fn new(alloc: Global, room: usize) -> Result<Parcel<N>, AllocError>
         requires small { N < 2 ^ 32 }
         requires few { room ≤ TEXTS }
@@ -67,7 +72,7 @@ impl<const N: usize> Parcel<N> {
         })
     }
 
-    /// Copies these texts; the answer is false where there is no room for all of them.
+    /// Copies these texts; the answer is whether there was room for all of them.
     pub(crate) fn fill(&mut self, number: u64, messages: &[&[u8]]) -> bool {
         self.number = number;
         self.len = 0;
@@ -86,14 +91,14 @@ impl<const N: usize> Parcel<N> {
     }
 
     /// Hashes the texts.
-    pub(crate) fn hashed(self) -> Hashed<N> {
+    pub(crate) fn hashed(self, second_blocks: &SecondBlocks) -> Hashed<N> {
         let Parcel {
             number,
             texts,
             mut hashes,
             len,
         } = self;
-        hash_first(&texts, len, &mut hashes);
+        hash_first(second_blocks, &texts, len, &mut hashes);
         Hashed {
             parcel: Parcel {
                 number,
@@ -105,7 +110,7 @@ impl<const N: usize> Parcel<N> {
     }
 }
 
-/// Texts with their hashes.
+/// A parcel whose texts are hashed.
 #[derive(Drop)]
 pub(crate) struct Hashed<const N: usize> {
     parcel: Parcel<N>,
@@ -117,7 +122,7 @@ impl<const N: usize> Hashed<N> {
         self.parcel.number
     }
 
-    /// Gives the hashes of these texts, where it has just them; the answer is whether it does.
+    /// Gives the hashes of these texts, if they are the parcel's; the answer is whether they are.
     pub(crate) fn give(&self, messages: &[&[u8]], digests: &mut [[u8; 32]]) -> bool
         requires { length digests.old ≡ length messages.now }
         ensures len { length digests.new ≡ length digests.old }

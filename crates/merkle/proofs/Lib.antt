@@ -4,3 +4,4 @@ pub mod Refreshing
 pub mod Texts
 pub mod Marking
 pub mod Chunks
+pub mod NodeTexts

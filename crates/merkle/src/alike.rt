@@ -1,4 +1,4 @@
-//! Trees whose leaves all have one hash.
+//! Trees whose leaves are all alike.
 ghost use Rattle.std.specs.Prelude.{◌≡◌, ◌<◌, ◌≤◌, ◌+◌, ◌*◌, ◌∷◌, [], ℕ, IfOk, length};
 ghost use Rattle.sha2.specs.Sha256.{sha256};
 ghost use Rattle.merkle.specs.Nodes.{IsJoin, IsTree, IsWidth, at};
@@ -10,7 +10,7 @@ use tpcc_rows::codes::LEAVES;
 /// The height of the root above the leaves.
 const HEIGHT: usize = 16;
 
-/// Gives the nodes from one place to before another this hash.
+/// Gives the nodes from `low` to before `high` this hash.
 fn fill(nodes: &mut [[u8; 32]], low: usize, high: usize, hash: &[u8; 32])
     requires low { low ≤ high }
     requires high { high ≤ length nodes.old }
@@ -23,8 +23,7 @@ fn fill(nodes: &mut [[u8; 32]], low: usize, high: usize, hash: &[u8; 32])
     }
 }
 
-/// Makes all leaves this one, and the nodes from `low` on, of which a level begins there, what they then are. The answer is
-/// the hash of that level's nodes.
+/// Makes all leaves alike, and joins the nodes above up to the level that begins at `low`, whose hash is the answer.
 fn fill_alike(nodes: &mut [[u8; 32]], low: usize, height: usize, leaf: &[u8; 32]) -> [u8; 32]
     requires full { length nodes.old ≡ 2 * LEAVES }
     requires low { 1 ≤ low }
@@ -44,7 +43,7 @@ fn fill_alike(nodes: &mut [[u8; 32]], low: usize, height: usize, leaf: &[u8; 32]
     hash
 }
 
-/// The hashes of a tree whose leaves have no rows.
+/// The hashes of a tree without rows.
 pub(crate) fn empty_nodes(alloc: Global) -> Result<Vec<[u8; 32]>, AllocError>
     ensures tree { IfOk result (λ nodes. IsTree nodes.items) }
     ensures leaves { IfOk result (λ nodes. (n : ℕ) → n < LEAVES → at nodes.items (LEAVES + n) ≡ sha256 (0 ∷ [])) }

@@ -1,4 +1,4 @@
-//! The hashes of leaves and of nodes, one at a time, and four at once.
+//! The hashes of leaves and of nodes, one at a time or four at once.
 ghost use Rattle.std.specs.Prelude.{◌≡◌, ◌≤◌, ◌+◌, ◌++◌, ◌∷◌, [], ℕ, List, length};
 ghost use Rattle.std.specs.Bool.{OnFalse, OnTrue};
 ghost use Rattle.std.specs.FinMap as map;
@@ -16,25 +16,25 @@ use tpcc_rows::key::RowKey;
 use tpcc_rows::row::Row;
 use tpcc_rows::row_buf::ByteBuf;
 
-/// The byte before the rows of a leaf. It keeps a leaf's bytes apart from those of a node.
+/// The first byte of a leaf's text, which so is no node's.
 const LEAF: u8 = 0;
 
-/// The byte before the two hashes of a node.
+/// The first byte of a node's text.
 const NODE: u8 = 1;
 
 /// The most bytes of a row.
 const ROW_BYTES: usize = 536;
 
-/// How many bytes wait at most.
+/// The most bytes that wait.
 const WAITING_BYTES: usize = 4096;
 
-/// How many bytes there is room for where a leaf is hashed beside three others.
+/// The most bytes of a leaf that is hashed beside others.
 pub(crate) const LEAF_BYTES: usize = LONG_BYTES;
 
-/// How many bytes the hash of a node is of.
+/// The bytes of a node's text.
 pub(crate) const NODE_BYTES: usize = SHORT_BYTES;
 
-/// What goes to SHA-256, gathered from the bytes of rows: given to it row by row, a tree took half as long again.
+/// A hasher that is fed many rows at once: fed row by row, a tree took half as long again.
 #[derive(Drop)]
 struct Gathered {
     hasher: Sha256,
@@ -42,7 +42,7 @@ struct Gathered {
 }
 
 impl Gathered {
-    /// Of a leaf, before its rows.
+    /// At the beginning of a leaf.
     fn of_leaf() -> Gathered
         ensures { IsFed result (0 ∷ []) }
     {
@@ -54,7 +54,7 @@ impl Gathered {
         }
     }
 
-    /// What waits goes on where there is room for fewer bytes.
+    /// Feeds what waits if so many bytes don't fit behind it.
     fn make_room(&mut self, bytes: usize)
         ensures fed { (m : List ℕ) → IsFed self.old m → IsFed self.new m }
         ensures room { bytes ≤ WAITING_BYTES → length self.new.waiting + bytes ≤ WAITING_BYTES }
@@ -84,7 +84,7 @@ impl Gathered {
     }
 }
 
-/// Room for the texts of two leaves. To make it takes as long as to hash a leaf, so it is used again.
+/// Buffers for the texts of two leaves. Making them takes as long as hashing a leaf, so they are used again.
 #[derive(Drop)]
 pub(crate) struct TwoTexts {
     first: ByteBuf<LEAF_BYTES>,
@@ -100,9 +100,8 @@ impl TwoTexts {
     }
 }
 
-/// Prefetches the rows of a page; the answer is how many bytes suffice for them. A customer's text is reference-counted, and
-/// so lies apart from the page. Read one right after the other, before anything is done with the first, the page's texts come
-/// from memory together, where the encoder would wait for each of them in its turn.
+/// Enough bytes for the rows of a page. Reading them all first prefetches the customers' texts, which lie apart from the page: they come
+/// from memory together, where the encoder would wait for each in its turn.
 pub(crate) fn prefetch_rows(page: &LeafRows) -> usize {
     let mut bytes = 0usize;
     for (_, row) in page.as_slice() {
@@ -132,8 +131,7 @@ pub(crate) fn hash_no_rows() -> [u8; 32]
     hasher.finalize()
 }
 
-/// Fills the buffer anew with what the hash of a leaf is of. Where there is no room for all of it, the answer is false, and
-/// the buffer is empty.
+/// Fills the buffer with the text of a leaf, or leaves it empty if the text may not fit; the answer is whether it is filled.
 pub(crate) fn encode_leaf(page: &LeafRows, text: &mut ByteBuf<LEAF_BYTES>) -> bool
     ensures whole { OnTrue result (text.new ≡ leaf_text page.now) }
     ensures empty { OnFalse result (text.new ≡ []) }
@@ -150,7 +148,7 @@ pub(crate) fn encode_leaf(page: &LeafRows, text: &mut ByteBuf<LEAF_BYTES>) -> bo
     true
 }
 
-/// The hash of a leaf: this one, where it is of the leaf's whole text.
+/// The hash of a leaf: this one, if it is of the leaf's whole text.
 fn hash_from(page: &LeafRows, is_whole: bool, hash: [u8; 32]) -> [u8; 32]
     requires { OnTrue is_whole (hash ≡ sha256 (leaf_text page.now)) }
     ensures { result ≡ sha256 (leaf_text page.now) }
@@ -158,7 +156,7 @@ fn hash_from(page: &LeafRows, is_whole: bool, hash: [u8; 32]) -> [u8; 32]
     if is_whole { hash } else { hash_leaf(page) }
 }
 
-/// The hashes of four leaves, at once. A leaf for whose text there is no room is hashed alone.
+/// The hashes of four leaves at once, but for leaves whose texts may not fit.
 pub(crate) fn hash_four_leaves(
     front: &mut TwoTexts,
     back: &mut TwoTexts,
@@ -188,7 +186,7 @@ pub(crate) fn hash_four_leaves(
     ]
 }
 
-/// The hash of two nodes.
+/// The hash of a node, from those of its children.
 #[tactic(auto, unfolding(tpcc_model::specs::Roots::joined))]
 pub fn join(left: &[u8; 32], right: &[u8; 32]) -> [u8; 32]
     ensures { result ≡ joined left.now right.now }
@@ -200,13 +198,12 @@ pub fn join(left: &[u8; 32], right: &[u8; 32]) -> [u8; 32]
     hasher.finalize()
 }
 
-/// What the hash of two nodes is of.
-pub(crate) fn encode_node(left: &[u8; 32], right: &[u8; 32]) -> ByteBuf<NODE_BYTES>
+/// The text of a node, from the hashes of its children.
+pub(crate) fn encode_node(left: &[u8; 32], right: &[u8; 32]) -> [u8; NODE_BYTES]
     ensures { result ≡ 1 ∷ (left.now ++ right.now) }
 {
-    let mut text = ByteBuf::new();
-    text.push_8(NODE);
-    text.push(left.as_slice());
-    text.push(right.as_slice());
+    let mut text = [NODE; NODE_BYTES];
+    text[1..33].copy_from_slice(left);
+    text[33..].copy_from_slice(right);
     text
 }

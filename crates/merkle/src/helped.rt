@@ -1,4 +1,4 @@
-//! Jobs that helpers do beside the calling thread.
+//! Jobs shared with helpers.
 ghost use Rattle.std.specs.Prelude.{◌≡◌, ◌<◌, ◌≤◌, ◌+◌, ◌*◌, ◌^◌, All, length, map, take};
 ghost use Rattle.merkle.specs.declared.helped.TheConstants.{MOST_HELPERS, ROUND};
 ghost use Rattle.hashers.specs.declared.parcel.TheConstants.{TEXTS};
@@ -15,44 +15,46 @@ use crate::levels::InnerNodes;
 use crate::places::{Places, do_jobs, sort_by_measure};
 use arrayvec::ArrayVec;
 use hashers::{Helpers, Host, LONG_TEXTS, TEXTS, Ticket};
+use sha2_lanes::SecondBlocks;
 use std::alloc::{AllocError, Global};
 use tpcc_rows::row_buf::ByteBuf;
 
-/// How many helpers there are at most.
+/// The most helpers.
 pub(crate) const MOST_HELPERS: usize = 7;
 
-/// How many leaves are encoded at most before their hashes are waited for.
+/// The most leaves that are encoded before their hashes are waited for.
 const ROUND: usize = 128;
 
-/// How many groups a round has at most: of leaves as many as helpers take, of nodes one for each helper.
+/// The most groups of a round: of leaves as many as helpers take, of nodes one a helper.
 const MOST_GROUPS: usize = 8;
 
-/// How many leaves there are at least where helpers pay.
+/// The fewest leaves for which helpers pay.
 const FEWEST_LEAVES: usize = 64;
 
-/// How many nodes a level has at least where helpers pay.
+/// The fewest nodes of a level for which helpers pay.
 const FEWEST_NODES: usize = 32;
 
 /// Where the groups of a round were sent.
 type Tickets = ArrayVec<Option<Ticket>, MOST_GROUPS>;
 
-/// Places whose texts are encoded before they are hashed.
+/// Places whose texts can be encoded apart from hashing them.
 pub(crate) trait Encodes<const N: usize>: Places {
-    /// Fills the buffer anew with what the hash of a place is of; where there is no room for all of it, the buffer is empty.
+    /// Fills the buffer with the text of a place, or leaves it empty if the text may not fit.
     fn encode(&self, place: usize, text: &mut ByteBuf<N>)
         requires { Self.has self.now place }
         ensures { IsTextOf (Self.hash self.now place) text.new };
 }
 
-/// How jobs are shared with helpers: so many at most, in groups of so many.
+/// How jobs are shared: with `most` helpers, in groups of `size`.
 #[derive(Clone, Copy)]
 struct Plan<'a, P> {
     places: &'a P,
+    second_blocks: &'a SecondBlocks,
     most: usize,
     size: usize,
 }
 
-/// The bytes of texts, of so many at most.
+/// The bytes of up to `TEXTS` texts.
 fn bytes_of<const N: usize>(texts: &[ByteBuf<N>]) -> ArrayVec<&[u8], TEXTS>
     requires small { N < 2 ^ 32 }
     requires few { length texts.now ≤ TEXTS }
@@ -65,7 +67,7 @@ fn bytes_of<const N: usize>(texts: &[ByteBuf<N>]) -> ArrayVec<&[u8], TEXTS>
     bytes
 }
 
-/// Lets a helper begin with the texts from one place to before another.
+/// Lets a helper begin with the texts from `start` to before `end`.
 fn begin_group<const N: usize>(
     helpers: &mut Helpers,
     most: usize,
@@ -80,7 +82,7 @@ fn begin_group<const N: usize>(
     helpers.begin(most, bytes_of(&texts[start..end]).as_slice())
 }
 
-/// Encodes the texts of jobs, and lets helpers begin with them, group by group.
+/// Encodes the texts of jobs, and lets helpers begin with each group.
 fn begin<const N: usize, P: Encodes<N>>(
     helpers: &mut Helpers,
     plan: &Plan<'_, P>,
@@ -93,7 +95,12 @@ fn begin<const N: usize, P: Encodes<N>>(
     requires there { All (λ job. P.has plan.now.places.now job.place) jobs.now }
     ensures { AreTexts (P.hash plan.now.places.now) jobs.now texts.new }
 {
-    let Plan { places, most, size } = *plan;
+    let Plan {
+        places,
+        most,
+        size,
+        ..
+    } = *plan;
     let mut tickets = Tickets::new();
     for k in 0..jobs.len() {
         places.encode(jobs[k].place, &mut texts[k]);
@@ -106,7 +113,7 @@ fn begin<const N: usize, P: Encodes<N>>(
     tickets
 }
 
-/// The hash of a place, where this is the hash of its text.
+/// The hash of a place: this one of its text, unless that is empty.
 fn hash_by<P: Places>(places: &P, place: usize, text: &[u8], hash: [u8; 32]) -> [u8; 32]
     requires there { P.has places.now place }
     requires text { IsTextOf (P.hash places.now place) text.now }
@@ -138,9 +145,10 @@ fn give<const N: usize, P: Places>(
     }
 }
 
-/// Puts the hashes of a group's texts into the list.
+/// The hashes of a group's texts.
 fn hash_group<const N: usize>(
     helpers: &mut Helpers,
+    second_blocks: &SecondBlocks,
     ticket: Option<Ticket>,
     texts: &[ByteBuf<N>],
     hashes: &mut [[u8; 32]],
@@ -150,27 +158,33 @@ fn hash_group<const N: usize>(
     requires same { length hashes.old ≡ length texts.now }
     ensures { hashes.new ≡ map (λ text. sha256 text) texts.now }
 {
-    helpers.finish(ticket, bytes_of(texts).as_slice(), hashes);
+    helpers.finish(second_blocks, ticket, bytes_of(texts).as_slice(), hashes);
 }
 
 /// Hashes the texts of a group, and gives the jobs their hashes.
 fn finish_group<const N: usize, P: Places>(
     helpers: &mut Helpers,
     ticket: Option<Ticket>,
-    places: &P,
+    plan: &Plan<'_, P>,
     jobs: &mut [Job],
     texts: &[ByteBuf<N>],
 )
     requires small { N < 2 ^ 32 }
     requires few { length jobs.old ≤ TEXTS }
-    requires there { All (λ job. P.has places.now job.place) jobs.old }
-    requires texts { AreTexts (P.hash places.now) jobs.old texts.now }
-    ensures { IsDone (P.hash places.now) jobs.old jobs.new }
+    requires there { All (λ job. P.has plan.now.places.now job.place) jobs.old }
+    requires texts { AreTexts (P.hash plan.now.places.now) jobs.old texts.now }
+    ensures { IsDone (P.hash plan.now.places.now) jobs.old jobs.new }
 {
     let len = texts.len();
     let mut hashes = [[0u8; 32]; TEXTS];
-    hash_group(helpers, ticket, texts, &mut hashes[..len]);
-    give(places, jobs, texts, &hashes[..len]);
+    hash_group(
+        helpers,
+        plan.second_blocks,
+        ticket,
+        texts,
+        &mut hashes[..len],
+    );
+    give(plan.places, jobs, texts, &hashes[..len]);
 }
 
 /// Gives jobs the hashes of their texts, group by group.
@@ -188,7 +202,7 @@ fn finish<const N: usize, P: Places>(
     requires texts { AreTexts (P.hash plan.now.places.now) jobs.old texts.now }
     ensures { IsDone (P.hash plan.now.places.now) jobs.old jobs.new }
 {
-    let Plan { places, size, .. } = *plan;
+    let size = plan.size;
     let mut start = 0;
     while start < jobs.len() {
         let end = start + size.min(jobs.len() - start);
@@ -196,7 +210,7 @@ fn finish<const N: usize, P: Places>(
         finish_group(
             helpers,
             ticket,
-            places,
+            plan,
             &mut jobs[start..end],
             &texts[start..end],
         );
@@ -204,7 +218,7 @@ fn finish<const N: usize, P: Places>(
     }
 }
 
-/// Does jobs, of which helpers do the first, so many.
+/// Does jobs, the first `given` with helpers.
 fn do_level<const N: usize, P: Encodes<N>>(
     helpers: &mut Helpers,
     plan: &Plan<'_, P>,
@@ -224,7 +238,7 @@ fn do_level<const N: usize, P: Encodes<N>>(
     finish(helpers, tickets.as_slice(), plan, first, &texts[..given]);
 }
 
-/// Does jobs, all with helpers, as far as these have room for them.
+/// Does jobs, all with helpers.
 fn do_round<const N: usize, P: Encodes<N>>(
     helpers: &mut Helpers,
     plan: &Plan<'_, P>,
@@ -263,7 +277,7 @@ fn do_rounds<const N: usize, P: Encodes<N>>(
     }
 }
 
-/// Room for so many texts.
+/// Buffers for so many texts.
 fn texts<const N: usize>(alloc: Global, count: usize) -> Result<Vec<ByteBuf<N>>, AllocError>
     requires { N < 2 ^ 32 }
 {
@@ -274,7 +288,7 @@ fn texts<const N: usize>(alloc: Global, count: usize) -> Result<Vec<ByteBuf<N>>,
     Ok(texts)
 }
 
-/// Helpers, and room for the texts that they are asked to hash.
+/// Helpers, and buffers for the texts that they are asked to hash.
 #[derive(Drop)]
 pub(crate) struct Helped {
     helpers: Helpers,
@@ -306,7 +320,7 @@ impl Helped {
         })
     }
 
-    /// How many helpers there are for so many threads.
+    /// How many helpers there are, for so many threads in all.
     fn most(&self, threads: usize) -> usize
         ensures { result ≤ MOST_HELPERS }
     {
@@ -317,7 +331,13 @@ impl Helped {
     }
 
     /// Hashes leaves.
-    pub(crate) fn do_leaves(&mut self, jobs: &mut [Job], places: &Leaves<'_>, threads: usize)
+    pub(crate) fn do_leaves(
+        &mut self,
+        second_blocks: &SecondBlocks,
+        jobs: &mut [Job],
+        places: &Leaves<'_>,
+        threads: usize,
+    )
         requires { All (λ job. job.place < LEAVES) jobs.old }
         ensures { IsDone (leaf_hash places.now.store.now.rows) jobs.old jobs.new }
     {
@@ -328,6 +348,7 @@ impl Helped {
         }
         let plan = Plan {
             places,
+            second_blocks,
             most,
             size: LONG_TEXTS,
         };
@@ -347,7 +368,12 @@ impl Helped {
         }
         // The calling thread takes a fifth more than a helper, since the helpers begin later.
         let size = (5 * jobs.len() / (5 * most + 6)).clamp(1, TEXTS);
-        let plan = Plan { places, most, size };
+        let plan = Plan {
+            places,
+            second_blocks: places.second_blocks,
+            most,
+            size,
+        };
         let given = (size * most).min(self.nodes.len()).min(jobs.len());
         do_level(&mut self.helpers, &plan, given, jobs, &mut self.nodes);
     }

@@ -9,11 +9,11 @@ ghost use Rattle.merkle.specs.declared.jobs.Job.{Job};
 use crate::marks::{Marks, next_above};
 use tpcc_rows::codes::LEAVES;
 
-/// A place whose hash is to be found: a leaf by its number, or a node by its place in heap order.
+/// A place that is to be hashed: a leaf by its number, or a node by its place in heap order.
 #[derive(Clone, Copy)]
 pub(crate) struct Job {
     pub(crate) place: usize,
-    /// About how many bytes its hash is of.
+    /// About how many bytes its text has.
     pub(crate) measure: usize,
     pub(crate) hash: [u8; 32],
 }
@@ -30,7 +30,7 @@ impl Job {
     }
 }
 
-/// The marked leaves, in their order, as jobs.
+/// The marked leaves as jobs, in order.
 pub(crate) fn gather_leaves(jobs: &mut Vec<Job>, marks: &Marks)
     requires room { LEAVES ≤ vec_capacity jobs.old }
     ensures room { LEAVES ≤ vec_capacity jobs.new }
@@ -46,7 +46,7 @@ pub(crate) fn gather_leaves(jobs: &mut Vec<Job>, marks: &Marks)
     }
 }
 
-/// The nodes from `low` to before `high` above a mark, in their order, as jobs, and marks them.
+/// The nodes from `low` to before `high` above a mark as jobs, in order; they are marked too.
 pub(crate) fn gather_nodes(jobs: &mut Vec<Job>, marks: &mut Marks, low: usize, high: usize)
     requires room { LEAVES ≤ vec_capacity jobs.old }
     requires below { low ≤ high }
@@ -77,13 +77,13 @@ pub(crate) fn put_hashes(hashes: &mut [[u8; 32]], jobs: &[Job])
     }
 }
 
-/// Gives four jobs their hashes.
+/// Gives up to four jobs their hashes.
 pub(crate) fn give_hashes(jobs: &mut [Job], hashes: &[[u8; 32]; 4])
-    requires { length jobs.old ≡ 4 }
-    ensures { (value : ℕ → List ℕ) (d : Job) → ((k : ℕ) → k < 4 → at hashes.now k ≡ value (slice_index_or jobs.old k d).place)
+    requires { length jobs.old ≤ 4 }
+    ensures { (value : ℕ → List ℕ) (d : Job) → ((k : ℕ) → k < length jobs.old → at hashes.now k ≡ value (slice_index_or jobs.old k d).place)
         → IsDone value jobs.old jobs.new }
 {
-    for k in 0..4 {
+    for k in 0..jobs.len() {
         jobs[k].hash = hashes[k];
     }
 }

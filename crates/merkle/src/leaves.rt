@@ -12,13 +12,13 @@ use crate::helped::{Encodes, Helped};
 use crate::jobs::{Job, gather_leaves, put_hashes};
 use crate::marks::Marks;
 use crate::places::Places;
-use crate::shares::{Crew, do_jobs_on};
+use crate::shares::{Context, do_jobs_on};
 use rollback::PointedStore;
 use std::thread::Threads;
 use tpcc_rows::codes::LEAVES;
 use tpcc_rows::row_buf::ByteBuf;
 
-/// How many rows one thread takes at least: so many that it is worth its start, which costs a few hundred of them.
+/// The fewest rows that are worth the start of a thread, which costs as much as a few hundred.
 const ROWS_AT_ONCE: usize = 4096;
 
 /// The leaves of a store.
@@ -79,7 +79,7 @@ impl Encodes<LEAF_BYTES> for Leaves<'_> {
     }
 }
 
-/// How many rows some leaves have, or about so many where they have more.
+/// How many rows some leaves have; from `most` on they aren't counted further.
 fn rows_of(jobs: &[Job], store: &PointedStore, most: usize) -> usize
     requires { All (λ job. job.place < LEAVES) jobs.now }
 {
@@ -93,9 +93,9 @@ fn rows_of(jobs: &[Job], store: &PointedStore, most: usize) -> usize
     rows
 }
 
-/// Hashes leaves, on threads of their own where so many are worth their start, and else with the helpers.
+/// Hashes leaves, on new threads if so many are worth their start, else with helpers.
 fn hash_leaves<R: Threads + Sync>(
-    crew: &Crew<'_, R>,
+    context: &Context<'_, R>,
     jobs: &mut [Job],
     helped: &mut Helped,
     places: &Leaves<'_>,
@@ -103,18 +103,18 @@ fn hash_leaves<R: Threads + Sync>(
     requires { All (λ job. job.place < LEAVES) jobs.old }
     ensures { IsDone (leaf_hash places.now.store.now.rows) jobs.old jobs.new }
 {
-    let most = crew.threads.saturating_mul(ROWS_AT_ONCE);
+    let most = context.threads.saturating_mul(ROWS_AT_ONCE);
     let paying = rows_of(jobs, places.store, most) / ROWS_AT_ONCE;
     if paying > 1 {
-        do_jobs_on(crew, jobs, places, paying);
+        do_jobs_on(context, jobs, places, paying);
     } else {
-        helped.do_leaves(jobs, places, crew.threads);
+        helped.do_leaves(context.second_blocks, jobs, places, context.threads);
     }
 }
 
 /// Hashes again each marked leaf.
 pub(crate) fn rehash<R: Threads + Sync>(
-    crew: &Crew<'_, R>,
+    context: &Context<'_, R>,
     leaves: &mut [[u8; 32]],
     jobs: &mut Vec<Job>,
     helped: &mut Helped,
@@ -128,6 +128,6 @@ pub(crate) fn rehash<R: Threads + Sync>(
     ensures room { LEAVES ≤ vec_capacity jobs.new }
 {
     gather_leaves(jobs, marks);
-    hash_leaves(crew, jobs.as_mut_slice(), helped, places);
+    hash_leaves(context, jobs.as_mut_slice(), helped, places);
     put_hashes(leaves, jobs.as_slice());
 }

@@ -10,28 +10,29 @@ use crate::helped::{Encodes, Helped};
 use crate::jobs::{Job, gather_nodes, put_hashes};
 use crate::marks::Marks;
 use crate::places::Places;
-use crate::shares::{Crew, do_jobs_on};
-use sha2_lanes::digests_of_four;
+use crate::shares::{Context, do_jobs_on};
+use sha2_lanes::{SecondBlocks, digests_of_four_nodes};
 use std::thread::Threads;
 use tpcc_rows::codes::LEAVES;
 use tpcc_rows::row_buf::ByteBuf;
 
-/// How many nodes one thread joins at least: so many that it is worth its start.
+/// The fewest nodes that are worth the start of a thread.
 const NODES_AT_ONCE: usize = 512;
 
-/// What the hash of a node is of.
+/// The text of a node.
 #[tactic(auto, unfolding(tpcc_model::specs::Roots::joined))]
-fn encode_at(nodes: &[[u8; 32]], i: usize) -> ByteBuf<NODE_BYTES>
+fn encode_at(nodes: &[[u8; 32]], i: usize) -> [u8; NODE_BYTES]
     requires { 2 * i + 1 < length nodes.now }
     ensures { sha256 result ≡ join_at nodes.now i }
 {
     encode_node(&nodes[2 * i], &nodes[2 * i + 1])
 }
 
-/// The inner nodes of a tree, whose nodes these are.
+/// The inner nodes of a tree.
 #[derive(Clone, Copy)]
 pub(crate) struct InnerNodes<'a> {
     pub(crate) nodes: &'a [[u8; 32]],
+    pub(crate) second_blocks: &'a SecondBlocks,
 }
 
 impl Places for InnerNodes<'_> {
@@ -63,24 +64,26 @@ impl Places for InnerNodes<'_> {
         c: usize,
         d: usize,
     ) -> [[u8; 32]; 4] {
-        digests_of_four(
-            encode_at(self.nodes, a).as_slice(),
-            encode_at(self.nodes, b).as_slice(),
-            encode_at(self.nodes, c).as_slice(),
-            encode_at(self.nodes, d).as_slice(),
+        digests_of_four_nodes(
+            self.second_blocks,
+            &encode_at(self.nodes, a),
+            &encode_at(self.nodes, b),
+            &encode_at(self.nodes, c),
+            &encode_at(self.nodes, d),
         )
     }
 }
 
 impl Encodes<NODE_BYTES> for InnerNodes<'_> {
     fn encode(&self, i: usize, text: &mut ByteBuf<NODE_BYTES>) {
-        *text = encode_at(self.nodes, i);
+        text.clear();
+        text.push(encode_at(self.nodes, i).as_slice());
     }
 }
 
-/// Joins nodes, on threads of their own where so many are worth their start, and else with the helpers.
+/// Joins nodes, on new threads if so many are worth their start, else with helpers.
 fn join_nodes<R: Threads + Sync>(
-    crew: &Crew<'_, R>,
+    context: &Context<'_, R>,
     jobs: &mut [Job],
     helped: &mut Helped,
     nodes: &[[u8; 32]],
@@ -88,18 +91,21 @@ fn join_nodes<R: Threads + Sync>(
     requires { All (λ job. 2 * job.place + 1 < length nodes.now) jobs.old }
     ensures { IsDone (join_at nodes.now) jobs.old jobs.new }
 {
-    let inner = InnerNodes { nodes };
+    let inner = InnerNodes {
+        nodes,
+        second_blocks: context.second_blocks,
+    };
     let paying = jobs.len() / NODES_AT_ONCE;
     if paying > 1 {
-        do_jobs_on(crew, jobs, &inner, paying);
+        do_jobs_on(context, jobs, &inner, paying);
     } else {
-        helped.do_nodes(jobs, &inner, crew.threads);
+        helped.do_nodes(jobs, &inner, context.threads);
     }
 }
 
 /// Joins again each node from `low` to before `high` above a mark. No node of them is a child of another.
 fn rejoin_level<R: Threads + Sync>(
-    crew: &Crew<'_, R>,
+    context: &Context<'_, R>,
     nodes: &mut [[u8; 32]],
     marks: &mut Marks,
     jobs: &mut Vec<Job>,
@@ -118,13 +124,13 @@ fn rejoin_level<R: Threads + Sync>(
     ensures room { LEAVES ≤ vec_capacity jobs.new }
 {
     gather_nodes(jobs, marks, low, high);
-    join_nodes(crew, jobs.as_mut_slice(), helped, nodes);
+    join_nodes(context, jobs.as_mut_slice(), helped, nodes);
     put_hashes(nodes, jobs.as_slice());
 }
 
 /// Joins again each inner node above a mark, level by level from the lowest up.
 pub(crate) fn rejoin<R: Threads + Sync>(
-    crew: &Crew<'_, R>,
+    context: &Context<'_, R>,
     nodes: &mut [[u8; 32]],
     marks: &mut Marks,
     jobs: &mut Vec<Job>,
@@ -140,7 +146,7 @@ pub(crate) fn rejoin<R: Threads + Sync>(
     let mut high = LEAVES;
     while high > 1 {
         let low = high - high / 2;
-        rejoin_level(crew, nodes, marks, jobs, helped, low, high);
+        rejoin_level(context, nodes, marks, jobs, helped, low, high);
         high = low;
     }
 }

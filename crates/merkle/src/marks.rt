@@ -1,4 +1,4 @@
-//! Marks of the places of a tree that are to be hashed anew.
+//! Marks of the places of a tree that are to be hashed again.
 ghost use Rattle.std.specs.Prelude.{◌≡◌, ◌<◌, ◌≤◌, ◌+◌, ◌∷◌, [], ℕ, IfSome, None, false};
 ghost use Rattle.std.specs.FinMap as map;
 ghost use Rattle.sha2.specs.Sha256.{sha256};

@@ -4,11 +4,10 @@ ghost use Rattle.merkle.specs.Jobs.{IsDone, KeepsPlaces};
 
 use crate::jobs::{Job, give_hashes};
 
-/// How many places are measured together, and are then put in the order of their lengths: four neighbours take the time of the
-/// longest.
+/// How many places are measured together, and sorted by length: four neighbours take the time of the longest.
 const WINDOW: usize = 32;
 
-/// What has places, each with its hash.
+/// Places that can be hashed.
 pub(crate) trait Places {
     // Which places it has.
     ghost has: { Self → ℕ → Type 0 };
@@ -16,13 +15,12 @@ pub(crate) trait Places {
     // The hash of a place.
     ghost hash: { Self → ℕ → List ℕ };
 
-    /// Room for two of the four texts that are hashed at once. The other two have such a room in another frame, so that no frame
-    /// passes 64 KB; both are made once for many texts.
+    /// Room for two of four texts that are hashed at once. The other two have theirs in another frame, so that no frame passes 64 KB.
     type Room: Drop;
 
     fn room() -> Self::Room;
 
-    /// About how many bytes the hash is of. They are prefetched where they lie far apart.
+    /// About how many bytes the text has. They are prefetched if they lie far apart.
     fn measure(&self, place: usize) -> usize
         requires { has self.now place };
 
@@ -47,7 +45,7 @@ pub(crate) trait Places {
         ensures { result ≡ hash self.now a ∷ hash self.now b ∷ hash self.now c ∷ hash self.now d ∷ [] };
 }
 
-/// Measures what the jobs hash.
+/// Measures the jobs' texts.
 fn measure<P: Places>(jobs: &mut [Job], places: &P)
     requires { All (λ job. P.has places.now job.place) jobs.old }
     ensures { KeepsPlaces jobs.old jobs.new }
@@ -77,23 +75,26 @@ fn do_few<P: Places>(jobs: &mut [Job], places: &P)
     }
 }
 
-/// Does four jobs at once.
+/// Does three or four jobs at once.
 fn do_four<P: Places>(jobs: &mut [Job], places: &P, front: &mut P::Room, back: &mut P::Room)
-    requires four { length jobs.old ≡ 4 }
+    requires low { 3 ≤ length jobs.old }
+    requires high { length jobs.old ≤ 4 }
     requires there { All (λ job. P.has places.now job.place) jobs.old }
     ensures { IsDone (P.hash places.now) jobs.old jobs.new }
 {
-    let [a, b, c, d] = [jobs[0].place, jobs[1].place, jobs[2].place, jobs[3].place];
+    let [a, b, c] = [jobs[0].place, jobs[1].place, jobs[2].place];
+    let d = jobs[jobs.len() - 1].place;
     let hashes = places.hash_four(front, back, a, b, c, d);
     give_hashes(jobs, &hashes);
 }
 
-/// Does four jobs, or the few that are left.
+/// Does up to four jobs. Two cost less one after the other.
 fn do_group<P: Places>(jobs: &mut [Job], places: &P, front: &mut P::Room, back: &mut P::Room)
-    requires { All (λ job. P.has places.now job.place) jobs.old }
+    requires few { length jobs.old ≤ 4 }
+    requires there { All (λ job. P.has places.now job.place) jobs.old }
     ensures { IsDone (P.hash places.now) jobs.old jobs.new }
 {
-    if jobs.len() == 4 {
+    if jobs.len() > 2 {
         do_four(jobs, places, front, back);
     } else {
         do_few(jobs, places);
@@ -135,7 +136,7 @@ fn do_windows<P: Places>(jobs: &mut [Job], places: &P, front: &mut P::Room)
     }
 }
 
-/// Does jobs. Its frame has a room, so it isn't part of one that calls itself.
+/// Does jobs. Its frame has a room, so it isn't inlined into a function that calls itself.
 #[inline(never)]
 pub(crate) fn do_jobs<P: Places>(jobs: &mut [Job], places: &P)
     requires { All (λ job. P.has places.now job.place) jobs.old }

@@ -6,10 +6,11 @@ ghost use Rattle.merkle.specs.Jobs.{IsDone};
 use crate::jobs::Job;
 use crate::places::{Places, do_jobs};
 use rayon::prelude::par_chunks_mut_for_each;
+use sha2_lanes::SecondBlocks;
 use std::thread::{Threads, join_mut};
 use tpcc_rows::codes::LEAVES;
 
-/// What is hashed.
+/// What threads are started for.
 #[derive(Clone, Copy)]
 pub(crate) enum Task {
     /// A whole tree, on threads that `rayon` starts.
@@ -18,18 +19,19 @@ pub(crate) enum Task {
     Refresh,
 }
 
-/// Threads that are started where they pay, so many at most.
+/// What the places of a tree are hashed with.
 #[derive(Clone, Copy)]
-pub(crate) struct Crew<'a, R> {
+pub(crate) struct Context<'a, R> {
     pub(crate) rt: &'a R,
+    pub(crate) second_blocks: &'a SecondBlocks,
     pub(crate) threads: usize,
     pub(crate) task: Task,
 }
 
-/// Jobs are shared out in parts of so many.
+/// How many jobs a part has.
 const PART: usize = 16;
 
-/// How many jobs each thread takes where so many threads pay, so that they are shared out evenly, in whole parts.
+/// How many jobs each thread takes if so many threads pay: an even share, in whole parts.
 fn share(jobs: usize, paying: usize, threads: usize) -> usize
     ensures { 0 < result }
 {
@@ -37,7 +39,7 @@ fn share(jobs: usize, paying: usize, threads: usize) -> usize
     jobs.div_ceil(PART).div_ceil(useful).clamp(1, LEAVES) * PART
 }
 
-/// Does two parts of jobs, the first on a thread of its own, where one can be made.
+/// Does two parts of jobs, the first on a new thread, if one can be started.
 #[cycle(shares)]
 fn do_parts<R: Threads + Sync, P: Places + Sync>(
     rt: &R,
@@ -65,8 +67,7 @@ where
     join_mut(rt, &mut front, &mut back);
 }
 
-/// Does jobs, so many on each thread. All threads are started by this one: those that start each other at once are often given the
-/// same processor.
+/// Does jobs, `size` on each thread. This one starts them all: threads that start each other are often given the same processor.
 #[cycle(shares)]
 fn do_shares<R: Threads + Sync, P: Places + Sync>(rt: &R, places: &P, size: usize, jobs: &mut [Job])
 where
@@ -83,8 +84,7 @@ where
     do_parts(rt, places, size, first, rest);
 }
 
-/// Does jobs, so many on each thread that `rayon` starts. Its `with_min_len` isn't there for chunks that are written: chunks of
-/// an even share are what windows would come to by it.
+/// Does jobs, `size` on each thread that `rayon` starts.
 fn do_chunks<R: Threads + Sync, P: Places + Sync>(rt: &R, places: &P, size: usize, jobs: &mut [Job])
 where
     P::Room: Send,
@@ -105,7 +105,7 @@ where
 
 /// Does jobs on as many threads as pay.
 pub(crate) fn do_jobs_on<R: Threads + Sync, P: Places + Sync>(
-    crew: &Crew<'_, R>,
+    context: &Context<'_, R>,
     jobs: &mut [Job],
     places: &P,
     paying: usize,
@@ -115,9 +115,9 @@ where
     requires { All (λ job. P.has places.now job.place) jobs.old }
     ensures { IsDone (P.hash places.now) jobs.old jobs.new }
 {
-    let size = share(jobs.len(), paying, crew.threads);
-    match crew.task {
-        Task::Build => do_chunks(crew.rt, places, size, jobs),
-        Task::Refresh => do_shares(crew.rt, places, size, jobs),
+    let size = share(jobs.len(), paying, context.threads);
+    match context.task {
+        Task::Build => do_chunks(context.rt, places, size, jobs),
+        Task::Refresh => do_shares(context.rt, places, size, jobs),
     }
 }

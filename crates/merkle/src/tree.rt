@@ -1,4 +1,4 @@
-//! All nodes of the tree.
+//! The tree.
 ghost use Rattle.std.specs.Prelude.{◌≡◌, ◌<◌, ◌≤◌, ◌+◌, ℕ, IfOk, cond, drop, vec_capacity};
 ghost use Rattle.pages.specs.BitSets.{has_bit};
 ghost use Rattle.merkle.specs.Nodes.{IsOf, IsOfClean, IsTree, at, rehashed};
@@ -11,9 +11,10 @@ use crate::jobs::Job;
 use crate::leaves::{Leaves, rehash};
 use crate::levels::rejoin;
 use crate::marks::{Marks, mark_dirty, mark_filled};
-use crate::shares::{Crew, Task};
+use crate::shares::{Context, Task};
 use hashers::Host;
 use rollback::{Dirty, PointedStore};
+use sha2_lanes::SecondBlocks;
 use std::alloc::Global;
 use std::marker::Model;
 use std::num::NonZeroUsize;
@@ -23,7 +24,7 @@ use tpcc_rows::memory::Memory;
 
 /// Hashes again each marked leaf, and each node above one.
 fn refresh_nodes<R: Threads + Sync>(
-    crew: &Crew<'_, R>,
+    context: &Context<'_, R>,
     nodes: &mut [[u8; 32]],
     jobs: &mut Vec<Job>,
     helped: &mut Helped,
@@ -38,18 +39,19 @@ fn refresh_nodes<R: Threads + Sync>(
     ensures room { LEAVES ≤ vec_capacity jobs.new }
 {
     let (_, leaves) = nodes.split_at_mut(LEAVES);
-    rehash(crew, leaves, jobs, helped, places, marks);
-    rejoin(crew, nodes, marks, jobs, helped);
+    rehash(context, leaves, jobs, helped, places, marks);
+    rejoin(context, nodes, marks, jobs, helped);
 }
 
-/// The hashes of all leaves and of all nodes above them, in heap order: the root at 1, the children of the node at i
-/// at 2 i and 2 i + 1. Contracts see the hashes of the leaves.
+/// The hashes of all nodes in heap order: the root at 1, the children of the node at i at 2 i and 2 i + 1. Contracts see those of the
+/// leaves.
 #[derive(Drop)]
 pub struct Tree {
     nodes: Vec<[u8; 32]>,
-    // Room for what is to be hashed, so that a refresh takes no memory.
+    // With room for all leaves, so that a refresh takes no memory.
     jobs: Vec<Job>,
     helped: Helped,
+    second_blocks: SecondBlocks,
 }
 
 impl Model for Tree {
@@ -65,14 +67,14 @@ impl Model for Tree {
 }
 
 impl Tree {
-    /// The root. Where each leaf hash is that of the rows, it is theirs.
+    /// The root: that of the rows, if each leaf hash is theirs.
     pub fn root(&self) -> [u8; 32]
         ensures { (rows : Rows) → IsOf self.now rows → result ≡ root rows }
     {
         self.nodes[1]
     }
 
-    /// The tree of the rows, its leaves from as many threads as there are processors.
+    /// The tree of the rows, built on all processors.
     pub fn build<R: Threads + Sync>(
         rt: &R,
         alloc: Global,
@@ -82,13 +84,15 @@ impl Tree {
     {
         let mut nodes = empty_nodes(alloc)?;
         let mut jobs = Vec::with_capacity(alloc, LEAVES)?;
+        let second_blocks = SecondBlocks::new(alloc)?;
         let threads = thread::available_parallelism(rt).map_or(1, NonZeroUsize::get);
         let mut helped = Helped::alone(alloc);
         let mut marks = Marks::new();
         mark_filled(&mut marks, store);
         refresh_nodes(
-            &Crew {
+            &Context {
                 rt,
+                second_blocks: &second_blocks,
                 threads,
                 task: Task::Build,
             },
@@ -102,10 +106,11 @@ impl Tree {
             nodes,
             jobs,
             helped,
+            second_blocks,
         })
     }
 
-    /// Starts threads that hash beside the calling one in later calls, so many at most, as far as there are processors for them.
+    /// Starts threads that hash beside the calling one in later calls: at most `threads` with it, and no more than there are processors.
     pub fn keep_threads<R: Host>(&mut self, rt: R, alloc: Global, threads: usize)
         ensures { self.new ≡ self.old }
     {
@@ -116,7 +121,7 @@ impl Tree {
         }
     }
 
-    /// Hashes the dirty leaves again, and each node above one, on so many threads at most. It takes no memory.
+    /// Hashes again the dirty leaves and each node above one, on up to `threads` threads. It takes no memory.
     pub fn refresh<R: Threads + Sync>(
         &mut self,
         rt: &R,
@@ -130,8 +135,9 @@ impl Tree {
         let mut marks = Marks::new();
         mark_dirty(&mut marks, dirty);
         refresh_nodes(
-            &Crew {
+            &Context {
                 rt,
+                second_blocks: &self.second_blocks,
                 threads,
                 task: Task::Refresh,
             },

@@ -1,6 +1,6 @@
 //! Groups of messages of all kinds of lengths.
 use crate::printing::print_digest;
-use sha2_lanes::digests;
+use sha2_lanes::{SecondBlocks, digests};
 use std::alloc::Global;
 
 /// How many bytes the messages of each group have.
@@ -43,14 +43,20 @@ pub fn all_bytes(alloc: Global, count: u16) -> Option<Vec<u8>> {
     Some(bytes)
 }
 
-fn show_group(rt: &impl Print, alloc: Global, bytes: &[u8], lengths: &[usize]) -> Option<()> {
+fn show_group(
+    rt: &impl Print,
+    alloc: Global,
+    second_blocks: &SecondBlocks,
+    bytes: &[u8],
+    lengths: &[usize],
+) -> Option<()> {
     let _ = println!(rt; "messages: {}", lengths.len());
     let mut messages = Vec::new(alloc);
     for (place, length) in lengths.iter().enumerate() {
         messages.push(bytes.get(place..)?.get(..*length)?).ok()?;
     }
     let mut each = vec![in alloc; [0u8; 32]; messages.len()].ok()?;
-    digests(&messages, &mut each);
+    digests(second_blocks, &messages, &mut each);
     for (message, digest) in messages.iter().zip(each.iter()) {
         let name = format!(in alloc; "  {} bytes", message.len()).ok()?;
         print_digest(rt, &name, message, digest);
@@ -61,8 +67,9 @@ fn show_group(rt: &impl Print, alloc: Global, bytes: &[u8], lengths: &[usize]) -
 /// Shows each group.
 pub fn show(rt: &impl Print, alloc: Global) -> Option<()> {
     let bytes = all_bytes(alloc, 4_160)?;
+    let second_blocks = SecondBlocks::new(alloc).ok()?;
     for lengths in GROUPS {
-        show_group(rt, alloc, &bytes, lengths)?;
+        show_group(rt, alloc, &second_blocks, &bytes, lengths)?;
     }
     Some(())
 }

@@ -2,6 +2,7 @@
 use crate::groups::{GROUPS, all_bytes};
 use hashers::{Helpers, Host, LONG_BYTES, SHORT_BYTES, TEXTS};
 use sha2::{Digest, Sha256};
+use sha2_lanes::SecondBlocks;
 use std::alloc::Global;
 
 /// How many helpers there are.
@@ -40,18 +41,29 @@ fn are_as_alone(messages: &[&[u8]], digests: &[[u8; 32]]) -> bool {
         .all(|(message, digest)| Sha256::digest(message) == *digest)
 }
 
+/// Helpers, and what their owner hashes with.
+#[derive(Drop)]
+struct Started {
+    helpers: Helpers,
+    second_blocks: SecondBlocks,
+}
+
 /// Lets a helper begin with some messages, and asks for the digests of others.
-fn ask(alloc: Global, helpers: &mut Helpers, begun: &[&[u8]], asked: &[&[u8]]) -> Option<bool> {
+fn ask(alloc: Global, started: &mut Started, begun: &[&[u8]], asked: &[&[u8]]) -> Option<bool> {
+    let Started {
+        helpers,
+        second_blocks,
+    } = started;
     let mut digests = vec![in alloc; [0u8; 32]; asked.len()].ok()?;
     let ticket = helpers.begin(helpers.len(), begun);
-    helpers.finish(ticket, asked, &mut digests);
+    helpers.finish(second_blocks, ticket, asked, &mut digests);
     Some(are_as_alone(asked, &digests))
 }
 
 /// For how many groups the digests are as alone.
 fn count(
     alloc: Global,
-    helpers: &mut Helpers,
+    started: &mut Started,
     bytes: &[u8],
     groups: &[&[usize]],
     turned: bool,
@@ -60,7 +72,7 @@ fn count(
     for lengths in groups {
         let begun = messages_of(alloc, bytes, lengths, false)?;
         let asked = messages_of(alloc, bytes, lengths, turned)?;
-        if ask(alloc, helpers, &begun, &asked)? {
+        if ask(alloc, started, &begun, &asked)? {
             right = right.saturating_add(1);
         }
     }
@@ -69,7 +81,10 @@ fn count(
 
 /// Shows for how many groups the digests are as alone: of the messages that were begun with, and of others.
 fn show_with<R: Host + Print>(rt: &R, alloc: Global, bytes: &[u8], helpers: usize) -> Option<()> {
-    let mut started = Helpers::start(*rt, alloc, helpers);
+    let mut started = Started {
+        helpers: Helpers::start(*rt, alloc, helpers),
+        second_blocks: SecondBlocks::new(alloc).ok()?,
+    };
     let same = count(alloc, &mut started, bytes, &GROUPS, false)?;
     let other = count(alloc, &mut started, bytes, &GROUPS, true)?;
     let long = count(alloc, &mut started, bytes, &LONG_GROUPS, false)?;

@@ -1,4 +1,4 @@
-use Rattle.std.proofs.Common.{◌≡◌, ℕ, ◌<◌, ◌≤◌, List, get_or}
+use Rattle.std.proofs.Common.{◌≡◌, ℕ, ◌<◌, ◌≤◌, List, length, get_or}
 use Rattle.merkle.specs.declared.jobs.Job.{Job}
 use Rattle.merkle.specs.Nodes.{at}
 use Rattle.merkle.proofs.Placing.{IsDoneTo}
@@ -8,5 +8,5 @@ use Rattle.merkle.proofs.jobs.give_hashes.Given as goal
 abbrev pub invariant-loop-k : goal.invariant-loop-k
 invariant-loop-k l = record {
   left : (k : ℕ) (d : Job) → l.k ≤ k → get_or l.jobs k d ≡ get_or l.fn.jobs k d;
-  done : (value : ℕ → List ℕ) (d : Job) → ((k : ℕ) → k < 4 → at l.hashes k ≡ value (get_or l.fn.jobs k d).place) → IsDoneTo value l.k l.fn.jobs l.jobs;
+  done : (value : ℕ → List ℕ) (d : Job) → ((k : ℕ) → k < length l.fn.jobs → at l.hashes k ≡ value (get_or l.fn.jobs k d).place) → IsDoneTo value l.k l.fn.jobs l.jobs;
 }

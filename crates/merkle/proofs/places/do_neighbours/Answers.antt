@@ -1,9 +1,17 @@
-use Rattle.std.proofs.Common.{◌+◌, ◌-◌, ◌*◌, arith, length, min}
+use Rattle.std.proofs.Common.{◌+◌, ◌-◌, ◌*◌, arith, drop, length, min}
+use Rattle.std.proofs.lemmas.List.{length-take}
 use Rattle.merkle.proofs.Placing.{all-done, all-kept, all-part, step-done}
 use Rattle.merkle.proofs.places.do_neighbours.Goals as goal
 
 pub do_group-requires : goal.do_group-requires
-do_group-requires g c = all-part (λ job. g.P.Places.has c.args.places.now job.place) c.loop-group.jobs (4 * c.loop-group.group) (c.min-end.result - 4 * c.loop-group.group) (all-kept (g.P.Places.has c.args.places.now) c.args.jobs.now c.loop-group.jobs c.loop-group.invariant.places c.requires)
+do_group-requires g c =
+    let start = 4 * c.loop-group.group in
+    let count = c.min-end.result - start in
+    record {
+      few = omega (arith, length-take count (drop start c.loop-group.jobs), c.min-end.ensures);
+      there = all-part (λ job. g.P.Places.has c.args.places.now job.place) c.loop-group.jobs start count
+          (all-kept (g.P.Places.has c.args.places.now) c.args.jobs.now c.loop-group.jobs c.loop-group.invariant.places c.requires);
+    }
 
 pub loop-group-preserved : goal.loop-group-preserved
 loop-group-preserved g c =

@@ -1,42 +1,43 @@
-//! The ends of a helper where one asks.
+//! The asking thread's ends of a helper's queues.
 ghost use Rattle.std.specs.Prelude.{◌≡◌, ◌<◌, ◌≤◌, ◌^◌, Some, length, map, true};
 ghost use Rattle.std.specs.Bool.{OnTrue};
 ghost use Rattle.sha2.specs.Sha256.{sha256};
 ghost use Rattle.hashers.specs.declared.parcel.TheConstants.{TEXTS};
 
-use crate::desk::Tray;
+use crate::mailbox::Inbox;
 use crate::parcel::{Hashed, Parcel};
 use rtrb::{Consumer, Producer, PushError, RingBuffer};
 use std::alloc::{AllocError, Global};
 use std::thread::yield_now;
 
-/// How many bytes a long text has at most, and how many long texts a parcel.
+/// The most bytes of a long text.
 pub const LONG_BYTES: usize = 5_000;
 
+/// The most long texts of a parcel.
 pub const LONG_TEXTS: usize = 16;
 
-/// How many bytes a short text has at most.
+/// The most bytes of a short text.
 pub const SHORT_BYTES: usize = 65;
 
-/// How many parcels of a kind a helper has.
+/// How many parcels a queue has.
 const PARCELS: usize = 5;
 
-/// How often one looks for an answer before one hashes the texts oneself.
+/// How often an answer is looked for before it counts as late.
 const LOOKS: usize = 400;
 
 /// Where parcels are sent to one helper, and come back.
 #[derive(Drop)]
-pub(crate) struct Post<const N: usize> {
+pub(crate) struct Outbox<const N: usize> {
     asked: Producer<Parcel<N>>,
     answered: Consumer<Hashed<N>>,
     spare: Vec<Parcel<N>>,
-    /// Whether an answer didn't come in time. Nothing is waited for then until it has come.
+    /// Whether an answer is late. Until it comes, no other is waited for.
     is_late: bool,
 }
 
-impl<const N: usize> Post<N> {
-    /// Both ends, for parcels of so many texts at most.
-    pub(crate) fn new(alloc: Global, room: usize) -> Result<(Post<N>, Tray<N>), AllocError>
+impl<const N: usize> Outbox<N> {
+    /// Both ends of the queues of a helper, for parcels of up to `room` texts.
+    pub(crate) fn new(alloc: Global, room: usize) -> Result<(Outbox<N>, Inbox<N>), AllocError>
         requires small { N < 2 ^ 32 }
         requires few { room ≤ TEXTS }
     {
@@ -46,17 +47,17 @@ impl<const N: usize> Post<N> {
         for _ in 0..PARCELS {
             spare.push(Parcel::new(alloc, room)?)?;
         }
-        let post = Post {
+        let outbox = Outbox {
             asked,
             answered,
             spare,
             is_late: false,
         };
-        let tray = Tray {
+        let inbox = Inbox {
             asked: to_serve,
             answered: served,
         };
-        Ok((post, tray))
+        Ok((outbox, inbox))
     }
 
     fn keep(&mut self, parcel: Parcel<N>) {
@@ -65,7 +66,7 @@ impl<const N: usize> Post<N> {
         }
     }
 
-    /// A parcel that is here, or has come back too late.
+    /// A spare parcel, or one that has come back late.
     fn spare_one(&mut self) -> Option<Parcel<N>> {
         if self.is_late
             && let Ok(hashed) = self.answered.pop()
@@ -75,7 +76,7 @@ impl<const N: usize> Post<N> {
         self.spare.pop()
     }
 
-    /// Sends these texts; the answer is false where they can't be sent now.
+    /// Sends these texts; the answer is whether there was room for them.
     pub(crate) fn ask(&mut self, number: u64, messages: &[&[u8]]) -> bool {
         let Some(mut parcel) = self.spare_one() else {
             return false;
@@ -93,7 +94,7 @@ impl<const N: usize> Post<N> {
         }
     }
 
-    /// Takes what has come back, where there is something: whether it has this number, and these texts, whose hashes are then given.
+    /// Takes a parcel back, if one has come: whether it is this one, with these texts, whose hashes are then given.
     fn take(&mut self, number: u64, messages: &[&[u8]], digests: &mut [[u8; 32]]) -> Option<bool>
         requires { length digests.old ≡ length messages.now }
         ensures len { length digests.new ≡ length digests.old }
@@ -106,7 +107,7 @@ impl<const N: usize> Post<N> {
         Some(is_it)
     }
 
-    /// Takes what has come back; the answer is true where the answer to a parcel is among it.
+    /// Takes back parcels that have come, up to this one; the answer is whether it has.
     fn take_all(&mut self, number: u64, messages: &[&[u8]], digests: &mut [[u8; 32]]) -> bool
         requires { length digests.old ≡ length messages.now }
         ensures len { length digests.new ≡ length digests.old }
@@ -122,7 +123,7 @@ impl<const N: usize> Post<N> {
         false
     }
 
-    /// Waits for the answer to a parcel, though not for long; the answer is true where it has come.
+    /// Waits for a parcel for a while; the answer is whether it has come.
     pub(crate) fn wait(&mut self, number: u64, messages: &[&[u8]], digests: &mut [[u8; 32]]) -> bool
         requires { length digests.old ≡ length messages.now }
         ensures len { length digests.new ≡ length digests.old }
