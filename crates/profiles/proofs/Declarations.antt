@@ -33,7 +33,7 @@ pub each-at : {A B : Type 0} (f : List A → A → B) (xs : List A) (n : ℕ) (x
 each-at {A = A} f xs n x h = each_after-at f [] xs n x h ∙ ap (λ (e : List A). Some (f e x)) (append-nil (reverse (take n xs)))
 
 -- two lists alike at each place
-alike : {A : Type 0} (xs ys : List A) → length xs ≡ length ys → ((n : ℕ) (x y : A) → slice_get xs n ≡ Some x → slice_get ys n ≡ Some y → x ≡ y) → xs ≡ ys
+pub alike : {A : Type 0} (xs ys : List A) → length xs ≡ length ys → ((n : ℕ) (x y : A) → slice_get xs n ≡ Some x → slice_get ys n ≡ Some y → x ≡ y) → xs ≡ ys
 alike [] [] e h = refl
 alike [] (y ∷ ys) e h = absurd (omega (arith, e))
 alike (x ∷ xs) [] e h = absurd (omega (arith, e))

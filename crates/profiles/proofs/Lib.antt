@@ -4,4 +4,5 @@ pub mod RecentTouches
 pub mod NewOrders
 pub mod Declarations
 pub mod Counts
+pub mod Settled
 pub mod Walks

@@ -6,6 +6,7 @@ ghost use Rattle.profiles.specs.Places.{AreDeclared, IsDeclared};
 ghost use Rattle.tpcc_model.specs.Database.{database};
 ghost use Rattle.tpcc_model.specs.Soundness.{IsSound};
 
+use crate::asked::Asked;
 use crate::earlier::{Counted, count};
 use crate::{delivery, new_order, order_status, payment, stock_level};
 use catalog::Catalog;
@@ -20,7 +21,7 @@ use tpcc_rows::memory::Memory;
 const REQUESTS_A_THREAD: usize = 64;
 
 /// On how many threads so many requests are declared, of so many at most.
-fn threads_for(requests: usize, most: usize) -> usize
+pub(crate) fn threads_for(requests: usize, most: usize) -> usize
     ensures { 0 < result }
 {
     (requests / REQUESTS_A_THREAD).clamp(1, most.max(1))
@@ -53,6 +54,25 @@ fn declare_at(
     }
 }
 
+/// What the request at this place of the batch declares, if it is asked and memory isn't refused.
+fn told_at(
+    alloc: Global,
+    catalog: &Catalog,
+    batch: &Counted<'_>,
+    place: usize,
+    store: &PointedStore,
+    asked: Asked,
+) -> Option<Footprint>
+    requires { place < length batch.now.requests.now }
+    ensures { IsDeclared (database catalog.now store.now.rows) batch.now.requests.now place result }
+{
+    let request = batch.request(place);
+    if !asked.has(request) {
+        return None;
+    }
+    declare_at(alloc, catalog, request, batch, place, store).ok()
+}
+
 /// A place for what each of so many requests declares.
 fn places(alloc: Global, count: usize) -> Result<Vec<Option<Footprint>>, Memory>
     ensures { IfOk result (λ places. length places.items ≡ count) }
@@ -64,7 +84,8 @@ fn places(alloc: Global, count: usize) -> Result<Vec<Option<Footprint>>, Memory>
     Ok(places)
 }
 
-/// Fills the place of each request with what it declares, on so many threads at most. Where memory is refused, it has nothing.
+/// Fills the place of each request that is asked with what it declares, on so many threads at most. Where memory is refused, it
+/// has nothing.
 fn fill<R: Threads + Sync>(
     rt: &R,
     alloc: Global,
@@ -73,6 +94,7 @@ fn fill<R: Threads + Sync>(
     store: &PointedStore,
     places: &mut [Option<Footprint>],
     threads: usize,
+    asked: Asked,
 )
     requires threads { 0 < threads }
     requires each { length places.old ≡ length batch.now.requests.now }
@@ -86,9 +108,41 @@ fn fill<R: Threads + Sync>(
             requires { n < length batch.now.requests.now }
             ensures { IsDeclared (database catalog.entry.now store.entry.now.rows) batch.entry.now.requests.now n place.new }
         {
-            *place = declare_at(alloc, catalog, batch.request(n), batch, n, store).ok();
+            *place = told_at(alloc, catalog, batch, n, store, asked);
         },
     );
+}
+
+/// What each request declares that is asked. Where memory is refused, it has nothing.
+pub(crate) fn tell<R: Threads + Sync>(
+    rt: &R,
+    alloc: Global,
+    catalog: &Catalog,
+    requests: &[Request],
+    store: &PointedStore,
+    threads: usize,
+    asked: Asked,
+) -> Result<Vec<Option<Footprint>>, Memory>
+    requires threads { 0 < threads }
+    ensures { IfOk result (λ told. AreDeclared (database catalog.now store.now.rows) requests.now told.items) }
+{
+    let known = count(alloc, requests)?;
+    let batch = Counted {
+        requests,
+        known: known.as_slice(),
+    };
+    let mut places = places(alloc, requests.len())?;
+    fill(
+        rt,
+        alloc,
+        catalog,
+        &batch,
+        store,
+        &mut places,
+        threads,
+        asked,
+    );
+    Ok(places)
 }
 
 /// The footprints at all places, unless one has none.
@@ -114,13 +168,7 @@ pub fn declare_batch<R: Threads + Sync>(
     ensures declared { IsSound (database catalog.now store.now.rows) → IfOk result (λ footprints. footprints.items ≡ declared (database catalog.now store.now.rows) requests.now) }
     ensures each { IfOk result (λ footprints. length footprints.items ≡ length requests.now) }
 {
-    let known = count(alloc, requests)?;
-    let batch = Counted {
-        requests,
-        known: known.as_slice(),
-    };
-    let mut places = places(alloc, requests.len())?;
     let threads = threads_for(requests.len(), threads);
-    fill(rt, alloc, catalog, &batch, store, &mut places, threads);
-    taken(alloc, places)
+    let told = tell(rt, alloc, catalog, requests, store, threads, Asked::All)?;
+    taken(alloc, told)
 }
