@@ -1,11 +1,11 @@
 //! Places of a tree that have hashes: leaves, and inner nodes.
-ghost use Rattle.std.specs.Prelude.{◌≡◌, ◌∷◌, [], ℕ, List, All, length};
+ghost use Rattle.std.specs.Prelude.{◌≡◌, ◌≤◌, ◌∷◌, [], ℕ, List, All, length};
 ghost use Rattle.merkle.specs.Jobs.{IsDone, KeepsPlaces};
 
 use crate::jobs::{Job, give_hashes};
 
 /// How many places are measured together, and sorted by length: four neighbours take the time of the longest.
-const WINDOW: usize = 32;
+const WINDOW: usize = 128;
 
 /// Places that can be hashed.
 pub(crate) trait Places {

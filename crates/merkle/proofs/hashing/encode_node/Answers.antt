@@ -1,6 +1,6 @@
 use Rattle.std.proofs.Common.{◌∷◌, ap, refl}
 use Rattle.merkle.proofs.NodeTexts.{both_laid}
-use Rattle.merkle.proofs.encode_node.Goals as goal
+use Rattle.merkle.proofs.hashing.encode_node.Goals as goal
 
 pub returns : goal.returns
 returns c =

@@ -3,4 +3,4 @@ use Rattle.merkle.proofs.Placing.{IsDoneTo}
 use Rattle.merkle.proofs.places.do_windows.Given as goal
 
 abbrev pub invariant-loop-window : goal.invariant-loop-window
-invariant-loop-window g l = IsDoneTo (g.P.Places.hash l.places) (min (32 * l.window) (length l.fn.jobs)) l.fn.jobs l.jobs
+invariant-loop-window g l = IsDoneTo (g.P.Places.hash l.places) (min (128 * l.window) (length l.fn.jobs)) l.fn.jobs l.jobs
