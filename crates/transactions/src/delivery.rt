@@ -4,6 +4,7 @@ ghost use Rattle.std.specs.Prelude.{◌≡◌, ◌≤◌, is_ok, map, option_cop
 ghost use Rattle.std.specs.List.{list_all};
 ghost use Rattle.requests.specs.declared.request.RequestKind.TheVariants as kind;
 ghost use Rattle.tpcc_model.specs.Deliveries.{amount_of, carried, credited, delivery, districts_delivered, lines_amount, lines_dated, oldest_delivered, order_delivered};
+ghost use Rattle.tpcc_model.specs.Staging.{within};
 ghost use Rattle.tpcc_model.specs.Steps.{delivery_outcome};
 ghost use Rattle.tpcc_model.specs.Touches.{credited_touch, delivery_touch, district_touch, delivered_touch};
 ghost use Rattle.tpcc_rows.specs.Changing.{after};
@@ -16,7 +17,7 @@ ghost use Rattle.transactions.specs.OnViews.{AnswersOn, ExecutesOn};
 ghost use Rattle.transactions.specs.Outcomes.{concluded};
 ghost use Rattle.worker_rows.specs.Views.{covers};
 
-use crate::fault::{Fault, limited};
+use crate::fault::Fault;
 use crate::lent::{self, Lent, Seen};
 use catalog::Catalog;
 use requests::reply::{DeliveryReply, Reply, RequestRefusal};
@@ -69,19 +70,19 @@ fn lines_amount<V: RowView>(
     amount
 }
 
-/// Refused where a limit is passed.
+/// None where a limit is passed.
 #[tactic(auto, unfolding(tpcc_model::specs::Deliveries::credited))]
-fn credited(old: &CustomerRow, amount: u32) -> Result<CustomerRow, Fault>
-    ensures { AnswersBy (λ row. row) (credited old.now amount) result }
+fn credited(old: CustomerRow, amount: u32) -> Option<CustomerRow>
+    ensures { within result ≡ credited old amount }
 {
-    let balance = limited(old.balance.raised(amount))?;
-    let delivery_count = limited(old.delivery_count.raised(1))?;
-    Ok(CustomerRow {
+    let balance = old.balance.raised(amount)?;
+    let delivery_count = old.delivery_count.raised(1)?;
+    Some(CustomerRow {
         balance,
         ytd_payment: old.ytd_payment,
         payment_count: old.payment_count,
         delivery_count,
-        data: old.data.copied()?,
+        data: old.data,
     })
 }
 
@@ -187,8 +188,11 @@ fn order_delivered<V: RowView>(
     let Some(old) = customer_row(&rows, p.warehouse, district, row.customer) else {
         return Err(Fault::Refused(RequestRefusal::UnknownKey));
     };
+    let old = old.copied()?;
     let amount = lines_amount(view, changes, p, district, order, row.line_count);
-    let new = credited(old, amount)?;
+    let Some(new) = credited(old, amount) else {
+        return Err(Fault::Refused(RequestRefusal::LimitReached));
+    };
     carried(p, district, order, row, changes)?;
     lines_dated(view, p, moment, district, order, row.line_count, changes)?;
     let customer_key = RowKey::Customer {

@@ -101,6 +101,15 @@ fn payment_note(p: &Payment, customer: CustomerId) -> Text<500>
     text
 }
 
+/// C_DATA of a customer of bad credit.
+fn noted(p: &Payment, customer: CustomerId, old: &SharedText<500>) -> Text<500>
+    ensures { result ≡ clip 500 (payment_note p.now customer ++ old.now) }
+{
+    let mut text = payment_note(p, customer);
+    text.push_clipped(old.as_bytes());
+    text
+}
+
 #[tactic(auto, unfolding(tpcc_model::specs::Payments::paid_data))]
 fn paid_data(
     alloc: Global,
@@ -114,8 +123,7 @@ fn paid_data(
     match credit {
         Credit::Good => old.copied(),
         Credit::Bad => {
-            let mut text = payment_note(p, customer);
-            text.push_clipped(old.as_bytes());
+            let text = noted(p, customer, old);
             SharedText::new(alloc, &text)
         }
     }
@@ -282,7 +290,8 @@ fn payment<V: RowView>(
     let Some(rows) = found_rows(&lent_rows, p, cards.customer_id) else {
         return Err(Fault::Refused(RequestRefusal::UnknownKey));
     };
-    paid_rows(alloc, p, moment, &cards, &rows)
+    let paid = paid_rows(alloc, p, moment, &cards, &rows)?;
+    Ok(paid)
 }
 
 #[tactic(auto, unfolding(tpcc_model::specs::Payments::payment_reply))]
