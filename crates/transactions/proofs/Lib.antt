@@ -8,3 +8,4 @@ pub mod HeldItems
 pub mod LowItemFacts
 pub mod DeliverySteps
 pub mod Within
+pub mod DeliveredOrders

@@ -10,7 +10,8 @@ ghost use Rattle.tpcc_model.specs.Touches.{credited_touch, delivery_touch, distr
 ghost use Rattle.tpcc_rows.specs.Changing.{after};
 ghost use Rattle.tpcc_rows.specs.Limits.{ten};
 ghost use Rattle.tpcc_rows.specs.Picks.{oldest};
-ghost use Rattle.transactions.specs.DeliveryParts.{dated_at, delivered_of};
+ghost use Rattle.tpcc_rows.specs.Rows.{customer_row, order_row};
+ghost use Rattle.transactions.specs.DeliveryParts.{credited_customer, dated_at, delivered_of, written};
 ghost use Rattle.transactions.specs.Faults.{AnswersBy};
 ghost use Rattle.transactions.specs.Lending.{lent};
 ghost use Rattle.transactions.specs.OnViews.{AnswersOn, ExecutesOn};
@@ -26,7 +27,7 @@ use std::alloc::Global;
 use tpcc_model::number::line_number;
 use tpcc_rows::delta::Delta;
 use tpcc_rows::granule::Granule;
-use tpcc_rows::id::{DistrictId, LineNumber, OrderId};
+use tpcc_rows::id::{CustomerId, DistrictId, LineNumber, OrderId};
 use tpcc_rows::key::RowKey;
 use tpcc_rows::memory::Memory;
 use tpcc_rows::number::Moment;
@@ -70,6 +71,24 @@ fn lines_amount<V: RowView>(
     amount
 }
 
+/// The order as the changes leave it.
+fn seen_order<V: RowView>(
+    view: &V,
+    changes: &Delta,
+    p: &Delivery,
+    district: DistrictId,
+    order: OrderId,
+) -> Option<OrderRow>
+    ensures { result ≡ order_row (after (lent (V.sees view.now)) changes.now) p.now.warehouse district order }
+{
+    let rows = Seen {
+        lent: Lent { view },
+        changes,
+    };
+    let row = order_row(&rows, p.warehouse, district, order)?;
+    Some(*row)
+}
+
 /// None where a limit is passed.
 #[tactic(auto, unfolding(tpcc_model::specs::Deliveries::credited))]
 fn credited(old: CustomerRow, amount: u32) -> Option<CustomerRow>
@@ -84,6 +103,32 @@ fn credited(old: CustomerRow, amount: u32) -> Option<CustomerRow>
         delivery_count,
         data: old.data,
     })
+}
+
+/// The customer's row as the changes leave it, with this amount more.
+#[tactic(auto, unfolding(crate::specs::DeliveryParts::credited_customer))]
+fn credited_customer<V: RowView>(
+    view: &V,
+    changes: &Delta,
+    p: &Delivery,
+    district: DistrictId,
+    customer: CustomerId,
+    amount: u32,
+) -> Result<CustomerRow, Fault>
+    ensures { AnswersBy (λ row. row) (credited_customer (after (lent (V.sees view.now)) changes.now) p.now district customer amount) result }
+{
+    let rows = Seen {
+        lent: Lent { view },
+        changes,
+    };
+    let Some(row) = customer_row(&rows, p.warehouse, district, customer) else {
+        return Err(Fault::Refused(RequestRefusal::UnknownKey));
+    };
+    let row = row.copied()?;
+    match credited(row, amount) {
+        Some(new) => Ok(new),
+        None => Err(Fault::Refused(RequestRefusal::LimitReached)),
+    }
 }
 
 /// One line, which gets the moment as its delivery date where it is there.
@@ -142,10 +187,10 @@ fn carried(
     p: &Delivery,
     district: DistrictId,
     order: OrderId,
-    row: OrderRow,
+    row: &OrderRow,
     changes: &mut Delta,
 ) -> Result<(), Memory>
-    ensures { OnOk result (changes.new ≡ carried p.now district order row changes.old) }
+    ensures { OnOk result (changes.new ≡ carried p.now district order row.now changes.old) }
 {
     let warehouse = p.warehouse;
     let new_order_key = RowKey::NewOrder {
@@ -161,12 +206,44 @@ fn carried(
     };
     let order_row = OrderRow {
         carrier: Some(p.carrier),
-        ..row
+        ..*row
     };
     changes.put(order_key, Row::Order(order_row))
 }
 
-#[tactic(auto, unfolding(tpcc_model::specs::Deliveries::order_delivered))]
+/// An order that is delivered: its row, and its customer's new one.
+#[derive(Clone, Copy)]
+pub(crate) struct DeliveredOrder<'a> {
+    pub order: OrderId,
+    pub row: OrderRow,
+    pub customer: &'a CustomerRow,
+}
+
+/// Writes the order, its lines and its customer.
+fn write_delivered<V: RowView>(
+    view: &V,
+    p: &Delivery,
+    moment: Moment,
+    district: DistrictId,
+    delivered: &DeliveredOrder<'_>,
+    changes: &mut Delta,
+) -> Result<(), Memory>
+    ensures { OnOk result (changes.new ≡ written (lent (V.sees view.now)) p.now moment district delivered.now.order delivered.now.row delivered.now.customer.now changes.old) }
+{
+    let order = delivered.order;
+    let count = delivered.row.line_count;
+    carried(p, district, order, &delivered.row, changes)?;
+    lines_dated(view, p, moment, district, order, count, changes)?;
+    let key = RowKey::Customer {
+        warehouse: p.warehouse,
+        district,
+        customer: delivered.row.customer,
+    };
+    let customer = delivered.customer.copied()?;
+    changes.put(key, Row::Customer(customer))
+}
+
+#[tactic(auto, using(crate::proofs::DeliveredOrders::delivers, crate::proofs::DeliveredOrders::refuses, crate::proofs::DeliveredOrders::unknown))]
 fn order_delivered<V: RowView>(
     view: &V,
     p: &Delivery,
@@ -177,31 +254,20 @@ fn order_delivered<V: RowView>(
 ) -> Result<(), Fault>
     ensures { AnswersBy (λ done. changes.new) (order_delivered (lent (V.sees view.now)) p.now moment district order changes.old) result }
 {
-    let rows = Seen {
-        lent: Lent { view },
-        changes: &*changes,
-    };
-    let Some(row) = order_row(&rows, p.warehouse, district, order) else {
+    let Some(row) = seen_order(view, changes, p, district, order) else {
         return Err(Fault::Refused(RequestRefusal::UnknownKey));
     };
-    let row = *row;
-    let Some(old) = customer_row(&rows, p.warehouse, district, row.customer) else {
-        return Err(Fault::Refused(RequestRefusal::UnknownKey));
-    };
-    let old = old.copied()?;
     let amount = lines_amount(view, changes, p, district, order, row.line_count);
-    let Some(new) = credited(old, amount) else {
-        return Err(Fault::Refused(RequestRefusal::LimitReached));
+    let customer = credited_customer(view, changes, p, district, row.customer, amount)?;
+    let delivered = DeliveredOrder {
+        order,
+        row,
+        customer: &customer,
     };
-    carried(p, district, order, row, changes)?;
-    lines_dated(view, p, moment, district, order, row.line_count, changes)?;
-    let customer_key = RowKey::Customer {
-        warehouse: p.warehouse,
-        district,
-        customer: row.customer,
-    };
-    changes.put(customer_key, Row::Customer(new))?;
-    Ok(())
+    match write_delivered(view, p, moment, district, &delivered, changes) {
+        Ok(()) => Ok(()),
+        Err(Memory) => Err(Fault::Memory),
+    }
 }
 
 /// A district without a new order is skipped.
