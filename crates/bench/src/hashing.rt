@@ -117,7 +117,7 @@ fn look_up_on_pages(store: &PointedStore) -> u64 {
     found
 }
 
-fn look_up_in_one_map(store: &plain::RowStore) -> u64 {
+fn look_up_in_one_map(store: &plain::RowMap) -> u64 {
     let mut found = 0u64;
     for turn in 0..100_000u32 {
         if let Some(key) = stock_key(turn) {
@@ -127,7 +127,7 @@ fn look_up_in_one_map(store: &plain::RowStore) -> u64 {
     found
 }
 
-fn put_page(page: &LeafRows, rows: &mut plain::RowStore) -> Option<()> {
+fn put_page(page: &LeafRows, rows: &mut plain::RowMap) -> Option<()> {
     for (key, row) in page.as_slice() {
         if fits(key, row) {
             rows.put(*key, row.copied().ok()?).ok()?;
@@ -137,8 +137,8 @@ fn put_page(page: &LeafRows, rows: &mut plain::RowStore) -> Option<()> {
 }
 
 /// The same rows in one map.
-fn in_one_map(alloc: Global, store: &PointedStore) -> Option<plain::RowStore> {
-    let mut rows = plain::RowStore::new(alloc);
+fn in_one_map(alloc: Global, store: &PointedStore) -> Option<plain::RowMap> {
+    let mut rows = plain::RowMap::new(alloc);
     for leaf in 0..LEAVES {
         put_page(store.page(leaf), &mut rows)?;
     }

@@ -24,8 +24,8 @@ use Rattle.records.proofs.RecordLemmas.{records_after-none, records_after-some}
 use Rattle.records.specs.Fields.{Fields, ◌>>=◌, is_text}
 use Rattle.records.specs.Records.{records_after}
 use Rattle.records.specs.declared.fault.ReadError.TheVariants as err
-use Rattle.records.specs.declared.fault.Slip.{Slip}
-use Rattle.records.specs.declared.fault.Slip.TheVariants as slip
+use Rattle.records.specs.declared.fault.FaultKind.{FaultKind}
+use Rattle.records.specs.declared.fault.FaultKind.TheVariants as fault_kind
 use Rattle.requests.specs.BatchRecords.{head_at, request_at}
 use Rattle.requests.specs.Batches as Run
 use Rattle.requests.specs.Batches.{End, Reading, batch_of, batches, clean, fault, reading_from}
@@ -60,12 +60,12 @@ rows_are_records bytes = rows-are-next at.StartRecord [] [] 0 (strip_bom bytes) 
 
 -- ---- openings
 -- it begins no batch
-IsNoBatch : Result Opening Slip → Type 0
+IsNoBatch : Result Opening FaultKind → Type 0
 IsNoBatch (Ok (opening.Batch head)) = ⊥
 IsNoBatch (Ok (opening.Control c)) = Unit {0}
 IsNoBatch (Err e) = Unit {0}
 
-control-no-batch : (x : Result Control Slip) → IsNoBatch (x >>= (λ c. Ok (opening.Control c)))
+control-no-batch : (x : Result Control FaultKind) → IsNoBatch (x >>= (λ c. Ok (opening.Control c)))
 unfolding IsNoBatch
 control-no-batch (Ok c) = tt
 control-no-batch (Err e) = tt
@@ -98,7 +98,7 @@ names-batch (Some bytes) is = ap (λ (b : List ℕ). Some b) ((bytes_eq-Decides 
 opening-of-batch : (r : Fields) → is_text (codes "B") (field_at r 0) ≡ true → opening_at r ≡ (head_at r >>= (λ head. Ok (opening.Batch head)))
 opening-of-batch r is = rw (names-batch (field_at r 0) is) refl
 
-head-of-other : (r : Fields) → is_text (codes "B") (field_at r 0) ≡ false → head_at r ≡ Err slip.UnknownKind
+head-of-other : (r : Fields) → is_text (codes "B") (field_at r 0) ≡ false → head_at r ≡ Err fault_kind.UnknownKind
 head-of-other r other = rw other refl
 
 -- ---- readings
@@ -129,15 +129,15 @@ module _ (readings : Run.Place → Reading) (hearings : Place → Hearing) (more
     | inr less ↦ rw less (more (Run.within head qs))
   ]
 
-  continued-alike : (n : ℕ) (head : BatchHead) (qs : List Request) (x : Result Request Slip) → Alike (Run.continued n head qs x readings) (continued n head qs x hearings)
+  continued-alike : (n : ℕ) (head : BatchHead) (qs : List Request) (x : Result Request FaultKind) → Alike (Run.continued n head qs x readings) (continued n head qs x hearings)
   continued-alike n head qs (Ok q) = settled-alike head (qs ++ q ∷ [])
   continued-alike n head qs (Err s) = inr (fault_at n s ∷ (hearings behind).0, refl, inl refl)
 
-  headed-alike : (n : ℕ) (x : Result BatchHead Slip) → Alike (Run.begun n x readings) (begun n (x >>= (λ head. Ok (opening.Batch head))) hearings)
+  headed-alike : (n : ℕ) (x : Result BatchHead FaultKind) → Alike (Run.begun n x readings) (begun n (x >>= (λ head. Ok (opening.Batch head))) hearings)
   headed-alike n (Ok head) = settled-alike head []
   headed-alike n (Err s) = inr (fault_at n s ∷ (hearings behind).0, refl, inl refl)
 
-  other-alike : (n : ℕ) (x : Result Opening Slip) → IsNoBatch x → Alike (Run.begun n (Err slip.UnknownKind) readings) (begun n x hearings)
+  other-alike : (n : ℕ) (x : Result Opening FaultKind) → IsNoBatch x → Alike (Run.begun n (Err fault_kind.UnknownKind) readings) (begun n x hearings)
   unfolding IsNoBatch
   other-alike n (Ok (opening.Batch head)) kind = absurd kind
   other-alike n (Ok (opening.Control c)) kind = inr (heard.Command (command.Control c) ∷ (hearings between).0, refl, (n, refl))
@@ -145,8 +145,8 @@ module _ (readings : Run.Place → Reading) (hearings : Place → Hearing) (more
 
   begun-alike : (n : ℕ) (r : Fields) → Alike (Run.begun n (head_at r) readings) (begun n (opening_at r) hearings)
   begun-alike n r = elim (cases_Bool (is_text (codes "B") (field_at r 0))) [
-    | inl is ↦ subst (λ (x : Result Opening Slip). Alike (Run.begun n (head_at r) readings) (begun n x hearings)) (sym (opening-of-batch r is)) (headed-alike n (head_at r))
-    | inr other ↦ subst (λ (x : Result BatchHead Slip). Alike (Run.begun n x readings) (begun n (opening_at r) hearings)) (sym (head-of-other r other)) (other-alike n (opening_at r) (not-batch r other))
+    | inl is ↦ subst (λ (x : Result Opening FaultKind). Alike (Run.begun n (head_at r) readings) (begun n x hearings)) (sym (opening-of-batch r is)) (headed-alike n (head_at r))
+    | inr other ↦ subst (λ (x : Result BatchHead FaultKind). Alike (Run.begun n x readings) (begun n (opening_at r) hearings)) (sym (head-of-other r other)) (other-alike n (opening_at r) (not-batch r other))
   ]
 
 alike : (rows : List Row) (rest n spent : ℕ) (p : Run.Place) → Alike (reading_from (map (λ row. row.0) rows) (n + 1) p) (commands_from rows rest n spent (mine p))

@@ -12,7 +12,7 @@ use Rattle.csv.specs.declared.parser.State.{State}
 use Rattle.records.specs.Fields.{Fields}
 use Rattle.records.specs.declared.fault.ReadError.{ReadError}
 use Rattle.records.specs.declared.fault.ReadError.TheVariants as err
-use Rattle.records.specs.declared.fault.Slip.{Slip}
+use Rattle.records.specs.declared.fault.FaultKind.{FaultKind}
 use Rattle.requests.specs.BatchRecords.{request_at}
 use Rattle.requests.specs.Batches.{End, batch_of, clean, fault}
 use Rattle.requests.specs.declared.batch_record.BatchHead.{BatchHead}
@@ -33,8 +33,8 @@ pub data Place : Type 0 where
   behind : Place
 
 -- the fault of the record of this number
-abbrev pub fault_at : ℕ → Slip → Heard
-fault_at n slip = heard.Fault (record { number = n; slip = slip })
+abbrev pub fault_at : ℕ → FaultKind → Heard
+fault_at n fault_kind = heard.Fault (record { number = n; kind = fault_kind })
 
 -- a batch with all its requests is complete, and reading continues behind it
 abbrev pub settled : BatchHead → List Request → (Place → Hearing) → Hearing
@@ -48,14 +48,14 @@ opened (opening.Batch head) rest = settled head [] rest
 opened (opening.Control c) rest = with_front (heard.Command (command.Control c)) (rest between)
 
 -- the record of this number begins a command, or is faulty
-abbrev pub begun : ℕ → Result Opening Slip → (Place → Hearing) → Hearing
+abbrev pub begun : ℕ → Result Opening FaultKind → (Place → Hearing) → Hearing
 begun n (Ok first) rest = opened first rest
-begun n (Err slip) rest = with_front (fault_at n slip) (rest behind)
+begun n (Err fault_kind) rest = with_front (fault_at n fault_kind) (rest behind)
 
 -- the record of this number is the batch's next request, or faulty: then the batch is dropped
-abbrev pub continued : ℕ → BatchHead → List Request → Result Request Slip → (Place → Hearing) → Hearing
+abbrev pub continued : ℕ → BatchHead → List Request → Result Request FaultKind → (Place → Hearing) → Hearing
 continued n head requests (Ok request) rest = settled head (requests ++ request ∷ []) rest
-continued n head requests (Err slip) rest = with_front (fault_at n slip) (rest behind)
+continued n head requests (Err fault_kind) rest = with_front (fault_at n fault_kind) (rest behind)
 
 -- the meaning of the record of this number, by place
 abbrev pub told : ℕ → Place → Fields → (Place → Hearing) → Hearing

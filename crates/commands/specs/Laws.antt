@@ -23,7 +23,7 @@ as_heard batch = heard.Command (command.Batch batch)
 -- session's command, or meant as one
 abbrev pub BeginsAlike : ReadError → List Heard → End → Type 0
 BeginsAlike e [] end = end ≡ fault e
-BeginsAlike e (heard.Fault f ∷ rest) end = (fault_of f.number f.slip ≡ e) ⊎ (e ≡ err.UnknownKind f.number)
+BeginsAlike e (heard.Fault f ∷ rest) end = (fault_of f.number f.kind ≡ e) ⊎ (e ≡ err.UnknownKind f.number)
 BeginsAlike e (heard.Command (command.Control c) ∷ rest) end = (n : ℕ) × (e ≡ err.UnknownKind n)
 BeginsAlike e (heard.Command (command.Batch batch) ∷ rest) end = ⊥
 

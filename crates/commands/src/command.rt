@@ -1,5 +1,5 @@
 //! The commands of a session.
-use records::fault::Slip;
+use records::fault::FaultKind;
 use requests::request::Batch;
 
 /// A command that is one record.
@@ -29,7 +29,7 @@ pub enum Command {
 #[derive(Clone, Copy)]
 pub struct RecordFault {
     pub number: u64,
-    pub slip: Slip,
+    pub kind: FaultKind,
 }
 
 /// A command, or the fault of a record in its place.

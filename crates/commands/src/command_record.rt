@@ -5,7 +5,7 @@ ghost use Rattle.commands.specs.CommandRecords.{IsShortOpening, alone_at, names_
 
 use crate::command::Control;
 use csv::ByteRecord;
-use records::fault::Slip;
+use records::fault::FaultKind;
 use records::fields::{has_text, number_at};
 use requests::batch_record::{BatchHead, batch_head};
 use tpcc_rows::id::END_OF_NUMBERS;
@@ -21,27 +21,27 @@ pub(crate) enum Opening {
 }
 
 /// Parses the batch number, in the second of two fields.
-fn rollback(fields: &ByteRecord) -> Result<Control, Slip>
+fn rollback(fields: &ByteRecord) -> Result<Control, FaultKind>
     ensures { result ≡ rollback_at (fields_of fields.now) }
 {
     if fields.len() != 2 {
-        return Err(Slip::WrongCount);
+        return Err(FaultKind::WrongCount);
     }
     Ok(Control::RollbackTo(number_at(fields, 1, 0, LAST_SEQUENCE)?))
 }
 
 /// Parses a command of one field.
-fn alone(fields: &ByteRecord, control: Control) -> Result<Control, Slip>
+fn alone(fields: &ByteRecord, control: Control) -> Result<Control, FaultKind>
     ensures { result ≡ alone_at (fields_of fields.now) control }
 {
     if fields.len() != 1 {
-        return Err(Slip::WrongCount);
+        return Err(FaultKind::WrongCount);
     }
     Ok(control)
 }
 
 /// Parses the first record of a command.
-pub(crate) fn opening_at(fields: &ByteRecord) -> Result<Opening, Slip>
+pub(crate) fn opening_at(fields: &ByteRecord) -> Result<Opening, FaultKind>
     ensures value { result ≡ opening_at (fields_of fields.now) }
     ensures range { IfOk result IsShortOpening }
 {

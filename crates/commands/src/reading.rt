@@ -80,10 +80,10 @@ fn read_batch<S: Source>(
         };
         match request(&records.fields) {
             Ok(request) => requests.push(request)?,
-            Err(slip) => {
+            Err(kind) => {
                 return Ok(Heard::Fault(RecordFault {
                     number: records.read,
-                    slip,
+                    kind,
                 }));
             }
         }
@@ -120,9 +120,9 @@ pub(crate) fn read_heard<S: Source>(
     match opening_at(&records.fields) {
         Ok(Opening::Control(control)) => Ok(Some(Heard::Command(Command::Control(control)))),
         Ok(Opening::Batch(head)) => Ok(Some(read_batch(alloc, records, source, head, total)?)),
-        Err(slip) => Ok(Some(Heard::Fault(RecordFault {
+        Err(kind) => Ok(Some(Heard::Fault(RecordFault {
             number: records.read,
-            slip,
+            kind,
         }))),
     }
 }

@@ -22,8 +22,8 @@ use Rattle.tpcc_model.specs.Machine.{tpcc}
 use Rattle.tpcc_model.specs.Serial.{State, batch_replies, batch_rows}
 use Rattle.tpcc_model.specs.Soundness.{IsSound}
 use Rattle.tpcc_model.specs.Steps.{steps_at}
-use Rattle.transactions.specs.declared.exec_error.ExecError.{ExecError}
-use Rattle.transactions.specs.declared.exec_error.ExecError.TheVariants as exec_error
+use Rattle.transactions.specs.declared.stop.Stop.{Stop}
+use Rattle.transactions.specs.declared.stop.Stop.TheVariants as stop
 use Rattle.workers.specs.LevelEnds.{StraysWhere}
 use Rattle.executor.specs.Filing.{reply_at}
 use Rattle.executor.specs.Laws.{DeclaredLevelsAreSerial, RunsAsSerial}
@@ -45,10 +45,10 @@ pub each_place : (P : ℕ → Type 0) (places : List ℕ) → ((place : ℕ) →
 each_place P places f k d below = f (get_or places k d) (has_at places k d below)
 
 -- ---- errors
-pub stray_up : {A : Type 0} (level whole : Bool) (e : ExecError) (result : Result A ExecError) → (level ≡ true → whole ≡ true) → StraysWhere level e → IsErrAnd result (λ f. f ≡ e) → IfErr result (StraysWhere whole)
+pub stray_up : {A : Type 0} (level whole : Bool) (e : Stop) (result : Result A Stop) → (level ≡ true → whole ≡ true) → StraysWhere level e → IsErrAnd result (λ f. f ≡ e) → IfErr result (StraysWhere whole)
 stray_up level whole e (Ok x) then strays by = absurd by
-stray_up level whole exec_error.Strayed (Err f) then strays by = subst (StraysWhere whole) (sym by) (then strays)
-stray_up level whole exec_error.Memory (Err f) then strays by = subst (StraysWhere whole) (sym by) tt
+stray_up level whole stop.Strayed (Err f) then strays by = subst (StraysWhere whole) (sym by) (then strays)
+stray_up level whole stop.Memory (Err f) then strays by = subst (StraysWhere whole) (sym by) tt
 
 -- ---- replies in the order of the batch
 -- each of these is filed, at its place

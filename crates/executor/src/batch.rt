@@ -26,7 +26,7 @@ use std::thread::Threads;
 use token::{TokenParts, reply_digest};
 use tpcc_rows::id::END_OF_NUMBERS;
 use tpcc_rows::memory::Memory;
-use transactions::ExecError;
+use transactions::Stop;
 use workers::{Gate, Workers};
 
 /// Saves the present rows as the newest point, for which there is capacity.
@@ -110,11 +110,11 @@ impl Engine {
                 Verdict::Commit => return Ok((replies, path_of(strayed))),
                 Verdict::Rerun => Path::Verdict,
             },
-            Err(ExecError::Strayed) => match next.batch.verdict {
+            Err(Stop::Strayed) => match next.batch.verdict {
                 Verdict::Commit => Path::Reran,
                 Verdict::Rerun => Path::Verdict,
             },
-            Err(ExecError::Memory) => return Err(Memory),
+            Err(Stop::Memory) => return Err(Memory),
         };
         rewind(&mut self.store, point);
         let replies = execute_sequential(alloc, &self.catalog, &mut self.store, next, gate)?;

@@ -20,7 +20,7 @@ use tpcc_rows::footprint::Footprint;
 use tpcc_rows::id::RequestNumber;
 use tpcc_rows::memory::Memory;
 use tpcc_rows::number::Moment;
-use transactions::{ExecError, execute};
+use transactions::{Stop, execute};
 use worker_rows::Loan;
 
 /// The replies to a batch, in order, and whether it strays.
@@ -60,8 +60,8 @@ fn executed_within(
         let loan = Loan { store, footprint };
         match execute(alloc, catalog, request, number, moment, &loan) {
             Ok(done) => return Ok(done),
-            Err(ExecError::Memory) => return Err(Memory),
-            Err(ExecError::Strayed) => *strayed = true,
+            Err(Stop::Memory) => return Err(Memory),
+            Err(Stop::Strayed) => *strayed = true,
         }
     }
     executed(alloc, catalog, request, number, moment, store)

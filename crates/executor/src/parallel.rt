@@ -30,7 +30,7 @@ use tpcc_rows::delta::Delta;
 use tpcc_rows::footprint::Footprint;
 use tpcc_rows::id::{END_OF_NUMBERS, RequestNumber};
 use tpcc_rows::memory::Memory;
-use transactions::ExecError;
+use transactions::Stop;
 use workers::{Gate, LevelEnd, PlaceOutcome, run_level};
 
 /// Files the replies of a level, where `first` is the number of the batch's first request; returns the changes, in order.
@@ -77,7 +77,7 @@ fn settle_level<R: Threads + Sync, G: Gate>(
     store: &mut PointedStore,
     level: &Level<'_>,
     book: &mut ReplyBook,
-) -> Result<(), ExecError>
+) -> Result<(), Stop>
     requires book { book.old.first ≡ level.now.plan.first }
     requires awaited { All (Awaits book.old) level.now.places.now }
     ensures within { OnOk result (level_strays catalog.now store.old.rows level.now ≡ false) }
@@ -101,7 +101,7 @@ fn settle_level<R: Threads + Sync, G: Gate>(
         crew.workers,
         crew.gate,
     )? {
-        LevelEnd::Strayed(_) => Err(ExecError::Strayed),
+        LevelEnd::Strayed(_) => Err(Stop::Strayed),
         LevelEnd::Done(outcomes) => {
             let deltas = file_replies(alloc, plan.first, outcomes, book)?;
             apply_each(store, deltas)?;
@@ -160,7 +160,7 @@ fn run_levels<R: Threads + Sync, G: Gate>(
     store: &mut PointedStore,
     plan: &Plan<'_>,
     cut: &Cut,
-) -> Result<ReplyBook, ExecError>
+) -> Result<ReplyBook, Stop>
     requires { IsCutOf (length plan.now.footprints.now) cut.now }
     ensures within { OnOk result (plan_strays catalog.now store.old.rows plan.now cut.now ≡ false) }
     ensures rows { OnOk result (store.new.rows ≡ plan_rows catalog.now store.old.rows plan.now cut.now) }
@@ -193,7 +193,7 @@ pub(crate) fn execute_parallel<R: Threads + Sync, G: Gate>(
     catalog: &Catalog,
     store: &mut PointedStore,
     next: &NextBatch<'_>,
-) -> Result<Pass, ExecError>
+) -> Result<Pass, Stop>
     requires sound { IsSoundState catalog.now (state_of store.old.rows next.now.stamp) }
     ensures strayed { IfOk result (λ pass. pass.strayed ≡ strays catalog.now (state_of store.old.rows next.now.stamp) next.now.batch.now) }
     ensures replies { IfOk result (λ pass. pass.replies.items ≡ batch_replies catalog.now (state_of store.old.rows next.now.stamp) next.now.batch.now) }

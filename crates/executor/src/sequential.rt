@@ -17,7 +17,7 @@ use tpcc_rows::delta::Delta;
 use tpcc_rows::id::RequestNumber;
 use tpcc_rows::memory::Memory;
 use tpcc_rows::number::Moment;
-use transactions::{ExecError, execute};
+use transactions::{Stop, execute};
 use worker_rows::Whole;
 use workers::Gate;
 
@@ -34,8 +34,8 @@ pub(crate) fn executed(
 {
     match execute(alloc, catalog, request, number, moment, &Whole { store }) {
         Ok(done) => Ok(done),
-        Err(ExecError::Memory) => Err(Memory),
-        Err(ExecError::Strayed) => unreachable!(),
+        Err(Stop::Memory) => Err(Memory),
+        Err(Stop::Strayed) => unreachable!(),
     }
 }
 

@@ -11,7 +11,7 @@ use std::alloc::Global;
 use tpcc_rows::id::{DistrictId, LineNumber, OrderId, WarehouseId};
 use tpcc_rows::key::RowKey;
 use tpcc_rows::memory::Memory;
-use tpcc_rows::plain::RowStore;
+use tpcc_rows::plain::RowMap;
 use tpcc_rows::row::Row;
 
 /// Totals of a district's orders, new orders and order lines.
@@ -231,7 +231,7 @@ pub(crate) fn enter(books: &mut Books, key: &RowKey, row: &Row)
 }
 
 /// The totals of all districts.
-pub(crate) fn books_of(alloc: Global, rows: &RowStore) -> Result<Books, Memory>
+pub(crate) fn books_of(alloc: Global, rows: &RowMap) -> Result<Books, Memory>
     ensures { IfOk result (λ books. AreBooks books.places.items rows.now) }
 {
     let mut books = Books::new(alloc)?;

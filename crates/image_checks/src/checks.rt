@@ -23,7 +23,7 @@ use std::alloc::Global;
 use tpcc_rows::id::{CustomerId, DistrictId, ItemId, LineNumber, WarehouseId};
 use tpcc_rows::key::RowKey;
 use tpcc_rows::number::Cents;
-use tpcc_rows::plain::RowStore;
+use tpcc_rows::plain::RowMap;
 use tpcc_rows::row::{HistoryRow, Row};
 
 /// A sum for each warehouse, indexed by its number.
@@ -197,14 +197,14 @@ pub(crate) fn row_has_parents(
     }
 }
 
-fn has_row(rows: &RowStore, key: RowKey) -> bool
+fn has_row(rows: &RowMap, key: RowKey) -> bool
     ensures { result ≡ has_row rows.now key }
 {
     rows.get(&key).is_some()
 }
 
 /// Whether a district's two rows are there.
-fn has_own_rows(rows: &RowStore, key: &CardKey) -> bool
+fn has_own_rows(rows: &RowMap, key: &CardKey) -> bool
     ensures { result ≡ has_own_rows rows.now key.now }
 {
     match *key {
@@ -227,7 +227,7 @@ fn has_own_rows(rows: &RowStore, key: &CardKey) -> bool
 }
 
 /// Whether the parents of all cards are there.
-fn cards_have_parents(catalog: &Catalog, rows: &RowStore) -> bool
+fn cards_have_parents(catalog: &Catalog, rows: &RowMap) -> bool
     ensures { result ≡ list_all (card_has_parents (database catalog.now rows.now)) (map.entries catalog.now) }
 {
     for (key, card) in catalog.cards() {
@@ -240,7 +240,7 @@ fn cards_have_parents(catalog: &Catalog, rows: &RowStore) -> bool
 }
 
 /// The order that a row belongs to, if any.
-fn order_of<'a>(rows: &'a RowStore, key: &RowKey) -> Option<&'a Row>
+fn order_of<'a>(rows: &'a RowMap, key: &RowKey) -> Option<&'a Row>
     ensures { option_copied result ≡ order_of rows.now key.now }
 {
     let order = order_key(key)?;
@@ -248,7 +248,7 @@ fn order_of<'a>(rows: &'a RowStore, key: &RowKey) -> Option<&'a Row>
 }
 
 /// Whether the parents of all rows are there.
-fn rows_have_parents(catalog: &Catalog, rows: &RowStore) -> bool
+fn rows_have_parents(catalog: &Catalog, rows: &RowMap) -> bool
     ensures { result ≡ list_all (row_has_parents (database catalog.now rows.now)) (map.entries rows.now) }
 {
     for (key, row) in rows.iter() {
@@ -262,7 +262,7 @@ fn rows_have_parents(catalog: &Catalog, rows: &RowStore) -> bool
 
 /// Whether all parents are there.
 #[tactic(auto, unfolding(crate::specs::Checks::parents_there))]
-fn parents_there(catalog: &Catalog, rows: &RowStore) -> bool
+fn parents_there(catalog: &Catalog, rows: &RowMap) -> bool
     ensures { result ≡ parents_there (database catalog.now rows.now) }
 {
     cards_have_parents(catalog, rows) && rows_have_parents(catalog, rows)
@@ -303,7 +303,7 @@ pub(crate) fn add_share(sums: &mut Sums, key: &RowKey, row: &Row)
 
 /// The sum of each warehouse's D_YTD.
 #[tactic(auto, unfolding(tpcc_rows::specs::Totals::total))]
-fn district_sums(rows: &RowStore) -> Sums
+fn district_sums(rows: &RowMap) -> Sums
     ensures { AreSums result rows.now }
 {
     let mut sums = [0i128; 101];
@@ -327,7 +327,7 @@ pub(crate) fn ytd_agrees(sums: &Sums, key: &RowKey, row: &Row) -> bool
 
 /// Whether each warehouse's W_YTD is the sum of its districts' D_YTD.
 #[tactic(auto, unfolding(crate::specs::Checks::ytds_agree))]
-fn ytds_agree(rows: &RowStore) -> bool
+fn ytds_agree(rows: &RowMap) -> bool
     ensures { result ≡ ytds_agree rows.now }
 {
     let sums = district_sums(rows);
@@ -340,7 +340,7 @@ fn ytds_agree(rows: &RowStore) -> bool
 }
 
 /// Checks that tables, whose values are within their limits, are sound.
-pub fn check(alloc: Global, catalog: &Catalog, rows: &RowStore) -> Result<(), LoadError>
+pub fn check(alloc: Global, catalog: &Catalog, rows: &RowMap) -> Result<(), LoadError>
     ensures ok { OnOk result (checked (database catalog.now rows.now) ≡ Ok (database catalog.now rows.now)) }
     ensures err { IfErr result (λ e. StopsBy e (checked (database catalog.now rows.now))) }
     ensures kinds { IfErr result IsOfText }

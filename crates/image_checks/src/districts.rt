@@ -6,7 +6,7 @@ ghost use Rattle.image_checks.specs.Districts.{line_count_agrees, line_counts_ag
 
 use crate::books::{Books, book_of};
 use tpcc_rows::key::RowKey;
-use tpcc_rows::plain::RowStore;
+use tpcc_rows::plain::RowMap;
 use tpcc_rows::row::Row;
 
 pub(crate) fn next_order_agrees(books: &Books, key: &RowKey, row: &Row) -> bool
@@ -26,7 +26,7 @@ pub(crate) fn next_order_agrees(books: &Books, key: &RowKey, row: &Row) -> bool
 
 /// Whether each district's D_NEXT_O_ID - 1 is its maximum O_ID, and its maximum NO_O_ID if it has new orders.
 #[tactic(auto, unfolding(crate::specs::Districts::next_orders_agree))]
-pub(crate) fn next_orders_agree(books: &Books, rows: &RowStore) -> bool
+pub(crate) fn next_orders_agree(books: &Books, rows: &RowMap) -> bool
     requires { AreBooks books.now.places.items rows.now }
     ensures { result ≡ next_orders_agree rows.now }
 {
@@ -51,7 +51,7 @@ pub(crate) fn span_agrees(books: &Books, key: &RowKey, row: &Row) -> bool
 
 /// Whether the numbers of each district's new orders have no gap.
 #[tactic(auto, unfolding(crate::specs::Districts::spans_agree))]
-pub(crate) fn spans_agree(books: &Books, rows: &RowStore) -> bool
+pub(crate) fn spans_agree(books: &Books, rows: &RowMap) -> bool
     requires { AreBooks books.now.places.items rows.now }
     ensures { result ≡ spans_agree rows.now }
 {
@@ -75,7 +75,7 @@ pub(crate) fn line_count_agrees(books: &Books, key: &RowKey, row: &Row) -> bool
 
 /// Whether each district has as many order lines as its orders' O_OL_CNT add up to.
 #[tactic(auto, unfolding(crate::specs::Districts::line_counts_agree))]
-pub(crate) fn line_counts_agree(books: &Books, rows: &RowStore) -> bool
+pub(crate) fn line_counts_agree(books: &Books, rows: &RowMap) -> bool
     requires { AreBooks books.now.places.items rows.now }
     ensures { result ≡ line_counts_agree rows.now }
 {

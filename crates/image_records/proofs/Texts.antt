@@ -3,14 +3,14 @@ use Rattle.std.proofs.Common.{◌≡◌, ◌+◌, ℕ, suc, List, [], ◌∷◌,
 use Rattle.std.specs.Prelude.{if◌then◌else◌}
 use Rattle.std.specs.Result.{IsErrAnd}
 use Rattle.records.specs.Fields.{◌>>=◌, Fields, text_at}
-use Rattle.records.specs.declared.fault.Slip.{Slip}
+use Rattle.records.specs.declared.fault.FaultKind.{FaultKind}
 use Rattle.image_records.specs.Columns.{texts_at}
 use Rattle.image_records.specs.Faults.{IsFaultOf, Reads}
 use Rattle.image_records.specs.declared.record_fault.RecordFault.{RecordFault}
 use Rattle.image_records.specs.declared.record_fault.RecordFault.TheVariants as record_fault
 
 -- the texts that are read, and then those of so many fields from this place on
-abbrev pub texts_after : List (List ℕ) → Fields → ℕ → ℕ → Result (List (List ℕ)) Slip
+abbrev pub texts_after : List (List ℕ) → Fields → ℕ → ℕ → Result (List (List ℕ)) FaultKind
 texts_after so_far fields i count = texts_at fields i count 24 >>= λ texts. Ok (so_far ++ texts)
 
 pub text_more : (so_far : List (List ℕ)) (fields : Fields) (i count rest : ℕ) (t : List ℕ) → count ≡ suc rest → text_at fields i 24 ≡ Ok t
@@ -18,14 +18,14 @@ pub text_more : (so_far : List (List ℕ)) (fields : Fields) (i count rest : ℕ
 unfolding texts_at
 text_more so_far fields i count rest t more is = rw (more, is) (rest-of (texts_at fields (i + 1) rest 24))
   where
-    rest-of : (r : Result (List (List ℕ)) Slip) → ((r >>= λ texts. Ok (t ∷ texts)) >>= λ texts. Ok (so_far ++ texts)) ≡ (r >>= λ texts. Ok ((so_far ++ t ∷ []) ++ texts))
+    rest-of : (r : Result (List (List ℕ)) FaultKind) → ((r >>= λ texts. Ok (t ∷ texts)) >>= λ texts. Ok (so_far ++ texts)) ≡ (r >>= λ texts. Ok ((so_far ++ t ∷ []) ++ texts))
     rest-of (Ok texts) = ap Ok (sym (append_assoc so_far (t ∷ []) texts))
     rest-of (Err e) = refl
 
 pub count_more : (so_far : List (List ℕ)) (t : List ℕ) (count rest all : ℕ) → length so_far + count ≡ all → count ≡ suc rest → length (so_far ++ t ∷ []) + rest ≡ all
 count_more so_far t count rest all is more = let longer = length-append so_far (t ∷ []) in omega (arith, longer, is, more)
 
-pub text_refused : (so_far : List (List ℕ)) (fields : Fields) (i count rest : ℕ) (e : Slip) → count ≡ suc rest → text_at fields i 24 ≡ Err e → texts_after so_far fields i count ≡ Err e
+pub text_refused : (so_far : List (List ℕ)) (fields : Fields) (i count rest : ℕ) (e : FaultKind) → count ≡ suc rest → text_at fields i 24 ≡ Err e → texts_after so_far fields i count ≡ Err e
 unfolding texts_at
 text_refused so_far fields i count rest e more is = rw (more, is) refl
 
@@ -33,7 +33,7 @@ text_refused so_far fields i count rest e more is = rw (more, is) refl
 pub texts_begin : (fields : Fields) (i count : ℕ) → texts_at fields i count 24 ≡ texts_after [] fields i count
 texts_begin fields i count = rest-of (texts_at fields i count 24)
   where
-    rest-of : (r : Result (List (List ℕ)) Slip) → r ≡ (r >>= λ texts. Ok texts)
+    rest-of : (r : Result (List (List ℕ)) FaultKind) → r ≡ (r >>= λ texts. Ok texts)
     rest-of (Ok texts) = refl
     rest-of (Err e) = refl
 
@@ -42,7 +42,7 @@ unfolding texts_at
 texts_end so_far fields i count none = rw none (ap Ok (append-nil so_far))
 
 -- a record's fault, as the code hands it on
-pub read_fault : {A : Type 0} (definition : Result A Slip) (result : Result A RecordFault) (e : Slip) → definition ≡ Err e → IsErrAnd result (λ fault. fault ≡ record_fault.Slip e) → Reads definition result
+pub read_fault : {A : Type 0} (definition : Result A FaultKind) (result : Result A RecordFault) (e : FaultKind) → definition ≡ Err e → IsErrAnd result (λ fault. fault ≡ record_fault.FaultKind e) → Reads definition result
 read_fault definition (Ok x) e is by = absurd by
 read_fault definition (Err fault) e is by = subst (IsFaultOf definition) (sym by) is
 

@@ -3,18 +3,18 @@ use Rattle.std.specs.Prelude.{◌+◌, List, [], ◌∷◌, ℕ, zero, suc, code
 use Rattle.catalog.specs.declared.card.Credit.{Credit}
 use Rattle.catalog.specs.declared.card.Credit.TheVariants as credit
 use Rattle.records.specs.Fields.{Fields, ◌>>=◌, is_text, text_at}
-use Rattle.records.specs.declared.fault.Slip.{Slip}
-use Rattle.records.specs.declared.fault.Slip.TheVariants as slip
+use Rattle.records.specs.declared.fault.FaultKind.{FaultKind}
+use Rattle.records.specs.declared.fault.FaultKind.TheVariants as fault_kind
 
 -- C_CREDIT
-abbrev pub credit_of : Option (List ℕ) → Result Credit Slip
+abbrev pub credit_of : Option (List ℕ) → Result Credit FaultKind
 credit_of field =
     if is_text (codes "GC") field then Ok credit.Good
     else if is_text (codes "BC") field then Ok credit.Bad
-    else Err slip.BadField
+    else Err fault_kind.BadField
 
 -- the texts in so many fields, the first at this place
-unfoldable pub texts_at : Fields → ℕ → ℕ → ℕ → Result (List (List ℕ)) Slip
+unfoldable pub texts_at : Fields → ℕ → ℕ → ℕ → Result (List (List ℕ)) FaultKind
 texts_at fields i zero most = Ok []
 texts_at fields i (suc count) most = do
   text ← text_at fields i most

@@ -1,7 +1,7 @@
 -- Faults of an image.
 use Rattle.std.specs.Prelude.{◌≡◌, ◌⊎◌, ℕ, List, codes, Option, Some, None, Result, Ok, Err, MatchResult}
-use Rattle.records.specs.declared.fault.Slip.{Slip}
-use Rattle.records.specs.declared.fault.Slip.TheVariants as slip
+use Rattle.records.specs.declared.fault.FaultKind.{FaultKind}
+use Rattle.records.specs.declared.fault.FaultKind.TheVariants as fault_kind
 use Rattle.image_records.specs.declared.fault.LoadError.{LoadError}
 use Rattle.image_records.specs.declared.fault.LoadError.TheVariants as err
 use Rattle.image_records.specs.declared.record_fault.RecordFault.{RecordFault}
@@ -42,20 +42,20 @@ place_of err.Truncated = None
 place_of err.InputTooLong = None
 
 -- the fault of the record of this number: only a number outside its limits is told from what is no such field
-abbrev pub fault_of : ℕ → Slip → LoadError
-fault_of n slip.OutOfRange = err.LimitReached n
-fault_of n slip.BadField = err.BadRecord n
-fault_of n slip.WrongCount = err.BadRecord n
-fault_of n slip.UnknownKind = err.BadRecord n
-fault_of n slip.BatchTooLong = err.BadRecord n
+abbrev pub fault_of : ℕ → FaultKind → LoadError
+fault_of n fault_kind.OutOfRange = err.LimitReached n
+fault_of n fault_kind.BadField = err.BadRecord n
+fault_of n fault_kind.WrongCount = err.BadRecord n
+fault_of n fault_kind.UnknownKind = err.BadRecord n
+fault_of n fault_kind.BatchTooLong = err.BadRecord n
 
 -- a record's fault is the definition's; memory may be refused at any time
-abbrev pub IsFaultOf : {A : Type 0} → Result A Slip → RecordFault → Type 0
-IsFaultOf definition (record_fault.Slip e) = definition ≡ Err e
+abbrev pub IsFaultOf : {A : Type 0} → Result A FaultKind → RecordFault → Type 0
+IsFaultOf definition (record_fault.FaultKind e) = definition ≡ Err e
 IsFaultOf definition record_fault.Memory = Unit {0}
 
 -- what is read of a record is what the definition says, where memory isn't refused
-abbrev pub Reads : {A : Type 0} → Result A Slip → Result A RecordFault → Type 0
+abbrev pub Reads : {A : Type 0} → Result A FaultKind → Result A RecordFault → Type 0
 Reads definition result = MatchResult result (λ x. definition ≡ Ok x) (IsFaultOf definition)
 
 -- the reasons for which the bytes aren't had, or no memory for what they say

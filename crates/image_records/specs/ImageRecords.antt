@@ -2,8 +2,8 @@
 use Rattle.std.specs.Prelude.{Bool, true, false, ◌==◌, ℕ, List, Result, Ok, Err, codes, if◌then◌else◌}
 use Rattle.csv.specs.Records.{field_at}
 use Rattle.records.specs.Fields.{Fields, ◌>>=◌, is_text, number_at, number_or_null_at, of_count, signed_at, text_at}
-use Rattle.records.specs.declared.fault.Slip.{Slip}
-use Rattle.records.specs.declared.fault.Slip.TheVariants as slip
+use Rattle.records.specs.declared.fault.FaultKind.{FaultKind}
+use Rattle.records.specs.declared.fault.FaultKind.TheVariants as fault_kind
 use Rattle.tpcc_rows.specs.Limits.{most_cents}
 use Rattle.tpcc_rows.specs.declared.id.TheConstants.{LAST_REQUEST}
 use Rattle.image_records.specs.Columns.{credit_of, texts_at}
@@ -13,7 +13,7 @@ use Rattle.image_records.specs.declared.version.Version.{Version}
 use Rattle.image_records.specs.declared.version.Version.TheVariants as version
 
 -- `W,w,name,tax,ytd`
-unfoldable pub warehouse_fields : Fields → Result ImageRecord Slip
+unfoldable pub warehouse_fields : Fields → Result ImageRecord FaultKind
 warehouse_fields fields = do
   w ← number_at fields 1 1 100
   name ← text_at fields 2 10
@@ -22,7 +22,7 @@ warehouse_fields fields = do
   Ok (said.Warehouse (record { warehouse = w; name = name; tax = tax }) (record { ytd = ytd }))
 
 -- `D,w,d,name,tax`
-unfoldable pub district_fields : Fields → Result ImageRecord Slip
+unfoldable pub district_fields : Fields → Result ImageRecord FaultKind
 district_fields fields = do
   w ← number_at fields 1 1 100
   d ← number_at fields 2 1 10
@@ -31,7 +31,7 @@ district_fields fields = do
   Ok (said.District (record { warehouse = w; district = d; name = name; tax = tax }))
 
 -- `Y,w,d,ytd`
-unfoldable pub district_ytd_fields : Fields → Result ImageRecord Slip
+unfoldable pub district_ytd_fields : Fields → Result ImageRecord FaultKind
 district_ytd_fields fields = do
   w ← number_at fields 1 1 100
   d ← number_at fields 2 1 10
@@ -39,7 +39,7 @@ district_ytd_fields fields = do
   Ok (said.DistrictYtd w d (record { ytd = ytd }))
 
 -- `X,w,d,next`
-unfoldable pub district_next_fields : Fields → Result ImageRecord Slip
+unfoldable pub district_next_fields : Fields → Result ImageRecord FaultKind
 district_next_fields fields = do
   w ← number_at fields 1 1 100
   d ← number_at fields 2 1 10
@@ -47,7 +47,7 @@ district_next_fields fields = do
   Ok (said.DistrictNext w d (record { next_order = next }))
 
 -- `D,w,d,name,tax,ytd,next`
-unfoldable pub whole_district_fields : Fields → Result ImageRecord Slip
+unfoldable pub whole_district_fields : Fields → Result ImageRecord FaultKind
 whole_district_fields fields = do
   w ← number_at fields 1 1 100
   d ← number_at fields 2 1 10
@@ -59,7 +59,7 @@ whole_district_fields fields = do
       (record { warehouse = w; district = d; name = name; tax = tax }) (record { ytd = ytd }) (record { next_order = next }))
 
 -- `C,w,d,c,last,middle,first,credit,discount,balance,ytd_payment,payment_cnt,delivery_cnt,data`
-unfoldable pub customer_fields : Fields → Result ImageRecord Slip
+unfoldable pub customer_fields : Fields → Result ImageRecord FaultKind
 customer_fields fields = do
   w ← number_at fields 1 1 100
   d ← number_at fields 2 1 10
@@ -92,7 +92,7 @@ customer_fields fields = do
   }))
 
 -- `I,i,name,price,data`
-unfoldable pub item_fields : Fields → Result ImageRecord Slip
+unfoldable pub item_fields : Fields → Result ImageRecord FaultKind
 item_fields fields = do
   i ← number_at fields 1 1 100000
   name ← text_at fields 2 24
@@ -101,7 +101,7 @@ item_fields fields = do
   Ok (said.Item (record { item = i; name = name; price = price; «data» = text }))
 
 -- `S,w,i,quantity,ytd,order_cnt,remote_cnt,data,dist01,..,dist10`
-unfoldable pub stock_fields : Fields → Result ImageRecord Slip
+unfoldable pub stock_fields : Fields → Result ImageRecord FaultKind
 stock_fields fields = do
   w ← number_at fields 1 1 100
   i ← number_at fields 2 1 100000
@@ -116,7 +116,7 @@ stock_fields fields = do
       (record { quantity = quantity; ytd = ytd; order_count = orders; remote_count = remotes }))
 
 -- `O,w,d,o,c,entry,carrier,ol_cnt,all_local`
-unfoldable pub order_fields : Fields → Result ImageRecord Slip
+unfoldable pub order_fields : Fields → Result ImageRecord FaultKind
 order_fields fields = do
   w ← number_at fields 1 1 100
   d ← number_at fields 2 1 10
@@ -135,7 +135,7 @@ order_fields fields = do
   }))
 
 -- `N,w,d,o`
-unfoldable pub new_order_fields : Fields → Result ImageRecord Slip
+unfoldable pub new_order_fields : Fields → Result ImageRecord FaultKind
 new_order_fields fields = do
   w ← number_at fields 1 1 100
   d ← number_at fields 2 1 10
@@ -143,7 +143,7 @@ new_order_fields fields = do
   Ok (said.NewOrder w d o)
 
 -- `L,w,d,o,number,item,supply,delivery,quantity,amount,info`
-unfoldable pub order_line_fields : Fields → Result ImageRecord Slip
+unfoldable pub order_line_fields : Fields → Result ImageRecord FaultKind
 order_line_fields fields = do
   w ← number_at fields 1 1 100
   d ← number_at fields 2 1 10
@@ -165,7 +165,7 @@ order_line_fields fields = do
   }))
 
 -- `H,number,c,cd,cw,d,w,date,amount,data`
-unfoldable pub history_fields : Fields → Result ImageRecord Slip
+unfoldable pub history_fields : Fields → Result ImageRecord FaultKind
 history_fields fields = do
   number ← number_at fields 1 1 LAST_REQUEST
   c ← number_at fields 2 1 3000
@@ -188,7 +188,7 @@ history_fields fields = do
   }))
 
 -- whether a record is of the kind with this first field, whose records have so many fields
-abbrev pub is_kind : List ℕ → ℕ → Fields → Result Bool Slip
+abbrev pub is_kind : List ℕ → ℕ → Fields → Result Bool FaultKind
 is_kind kind count fields = if is_text kind (field_at fields 0) then of_count count fields (Ok true) else Ok false
 
 -- in version 1 the record of a district has all its columns, in version 2 those of its card
@@ -196,20 +196,20 @@ abbrev pub district_count : Version → ℕ
 district_count version.One = 7
 district_count version.Two = 5
 
-abbrev pub district_record_at : Version → Fields → Result ImageRecord Slip
+abbrev pub district_record_at : Version → Fields → Result ImageRecord FaultKind
 district_record_at version.One fields = whole_district_fields fields
 district_record_at version.Two fields = district_fields fields
 
 -- what a record says of a district's row, which has a record of its own in version 2 alone
-abbrev pub district_row_at : Version → Fields → Result ImageRecord Slip
-district_row_at version.One fields = Err slip.UnknownKind
+abbrev pub district_row_at : Version → Fields → Result ImageRecord FaultKind
+district_row_at version.One fields = Err fault_kind.UnknownKind
 district_row_at version.Two fields =
     if is_text (codes "Y") (field_at fields 0) then of_count 4 fields (district_ytd_fields fields)
     else if is_text (codes "X") (field_at fields 0) then of_count 4 fields (district_next_fields fields)
-    else Err slip.UnknownKind
+    else Err fault_kind.UnknownKind
 
 -- what a record says of a row without a card
-abbrev pub row_record_at : Version → Fields → Result ImageRecord Slip
+abbrev pub row_record_at : Version → Fields → Result ImageRecord FaultKind
 row_record_at version fields =
     if is_text (codes "O") (field_at fields 0) then of_count 9 fields (order_fields fields)
     else if is_text (codes "N") (field_at fields 0) then of_count 4 fields (new_order_fields fields)
@@ -218,7 +218,7 @@ row_record_at version fields =
     else district_row_at version fields
 
 -- what a record says: its kind is told by its first field, and each kind has its number of fields
-abbrev pub record_at : Version → Fields → Result ImageRecord Slip
+abbrev pub record_at : Version → Fields → Result ImageRecord FaultKind
 record_at version fields =
     if is_text (codes "W") (field_at fields 0) then of_count 5 fields (warehouse_fields fields)
     else if is_text (codes "D") (field_at fields 0) then of_count (district_count version) fields (district_record_at version fields)

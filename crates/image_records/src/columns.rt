@@ -7,12 +7,12 @@ ghost use Rattle.image_records.specs.Faults.{Reads};
 use crate::record_fault::RecordFault;
 use catalog::card::{Credit, DistrictInfos};
 use csv::ByteRecord;
-use records::fault::Slip;
+use records::fault::FaultKind;
 use records::fields::{has_text, text};
 use std::alloc::Global;
 
 /// C_CREDIT: `GC` or `BC`.
-pub(crate) fn credit(fields: &ByteRecord, i: usize) -> Result<Credit, Slip>
+pub(crate) fn credit(fields: &ByteRecord, i: usize) -> Result<Credit, FaultKind>
     ensures { result ≡ credit_of (field_at (fields_of fields.now) i) }
 {
     if has_text(fields, i, b"GC") {
@@ -21,7 +21,7 @@ pub(crate) fn credit(fields: &ByteRecord, i: usize) -> Result<Credit, Slip>
     if has_text(fields, i, b"BC") {
         return Ok(Credit::Bad);
     }
-    Err(Slip::BadField)
+    Err(FaultKind::BadField)
 }
 
 /// S_DIST_01 to S_DIST_10, from field `first` on.

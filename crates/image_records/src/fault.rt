@@ -3,7 +3,7 @@ ghost use Rattle.std.specs.Prelude.{◌≡◌};
 ghost use Rattle.image_records.specs.Faults.{code_of, fault_of, name_of, place_of};
 ghost use Rattle.image_records.specs.declared.fault.LoadError.TheVariants as load_error;
 
-use records::fault::Slip;
+use records::fault::FaultKind;
 use std::alloc::{AllocError, AllocFailed};
 use thiserror::Error;
 use tpcc_rows::memory::Memory;
@@ -118,13 +118,14 @@ impl From<Memory> for LoadError {
 }
 
 /// The fault of the record with this number.
-pub fn fault(number: u64, slip: Slip) -> LoadError
-    ensures { result ≡ fault_of number slip }
+pub fn fault(number: u64, kind: FaultKind) -> LoadError
+    ensures { result ≡ fault_of number kind }
 {
-    match slip {
-        Slip::OutOfRange => LoadError::LimitReached(number),
-        Slip::BadField | Slip::WrongCount | Slip::UnknownKind | Slip::BatchTooLong => {
-            LoadError::BadRecord(number)
-        }
+    match kind {
+        FaultKind::OutOfRange => LoadError::LimitReached(number),
+        FaultKind::BadField
+        | FaultKind::WrongCount
+        | FaultKind::UnknownKind
+        | FaultKind::BatchTooLong => { LoadError::BadRecord(number) }
     }
 }

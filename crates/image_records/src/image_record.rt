@@ -9,7 +9,7 @@ use crate::record_fault::RecordFault;
 use crate::version::Version;
 use catalog::card::{CustomerCard, DistrictCard, ItemCard, StockCard, WarehouseCard};
 use csv::ByteRecord;
-use records::fault::Slip;
+use records::fault::FaultKind;
 use records::fields::{
     amount, carrier_or_null, cents, count, customer, district, has_text, item, line_number,
     line_quantity, moment, moment_or_null, next_order, number_at, order, price, rate,
@@ -86,7 +86,7 @@ pub enum ImageRecord {
 
 /// `W,w,name,tax,ytd`
 #[tactic(auto, unfolding(crate::specs::ImageRecords::warehouse_fields))]
-fn warehouse_record(fields: &ByteRecord) -> Result<ImageRecord, Slip>
+fn warehouse_record(fields: &ByteRecord) -> Result<ImageRecord, FaultKind>
     ensures { result ≡ warehouse_fields (fields_of fields.now) }
 {
     let card = WarehouseCard {
@@ -102,7 +102,7 @@ fn warehouse_record(fields: &ByteRecord) -> Result<ImageRecord, Slip>
 
 /// `D,w,d,name,tax`
 #[tactic(auto, unfolding(crate::specs::ImageRecords::district_fields))]
-fn card_record(fields: &ByteRecord) -> Result<ImageRecord, Slip>
+fn card_record(fields: &ByteRecord) -> Result<ImageRecord, FaultKind>
     ensures { result ≡ district_fields (fields_of fields.now) }
 {
     let card = DistrictCard {
@@ -116,7 +116,7 @@ fn card_record(fields: &ByteRecord) -> Result<ImageRecord, Slip>
 
 /// `D,w,d,name,tax,ytd,next`
 #[tactic(auto, unfolding(crate::specs::ImageRecords::whole_district_fields))]
-fn whole_district_record(fields: &ByteRecord) -> Result<ImageRecord, Slip>
+fn whole_district_record(fields: &ByteRecord) -> Result<ImageRecord, FaultKind>
     ensures { result ≡ whole_district_fields (fields_of fields.now) }
 {
     let card = DistrictCard {
@@ -135,7 +135,7 @@ fn whole_district_record(fields: &ByteRecord) -> Result<ImageRecord, Slip>
 }
 
 /// A district's record.
-fn district_record(version: Version, fields: &ByteRecord) -> Result<ImageRecord, Slip>
+fn district_record(version: Version, fields: &ByteRecord) -> Result<ImageRecord, FaultKind>
     ensures { result ≡ district_record_at version (fields_of fields.now) }
 {
     match version {
@@ -156,7 +156,7 @@ fn district_count(version: Version) -> usize
 
 /// `Y,w,d,ytd`
 #[tactic(auto, unfolding(crate::specs::ImageRecords::district_ytd_fields))]
-fn district_ytd_record(fields: &ByteRecord) -> Result<ImageRecord, Slip>
+fn district_ytd_record(fields: &ByteRecord) -> Result<ImageRecord, FaultKind>
     ensures { result ≡ district_ytd_fields (fields_of fields.now) }
 {
     Ok(ImageRecord::DistrictYtd {
@@ -170,7 +170,7 @@ fn district_ytd_record(fields: &ByteRecord) -> Result<ImageRecord, Slip>
 
 /// `X,w,d,next`
 #[tactic(auto, unfolding(crate::specs::ImageRecords::district_next_fields))]
-fn district_next_record(fields: &ByteRecord) -> Result<ImageRecord, Slip>
+fn district_next_record(fields: &ByteRecord) -> Result<ImageRecord, FaultKind>
     ensures { result ≡ district_next_fields (fields_of fields.now) }
 {
     Ok(ImageRecord::DistrictNext {
@@ -209,7 +209,7 @@ fn customer_record(alloc: Global, fields: &ByteRecord) -> Result<ImageRecord, Re
 
 /// `I,i,name,price,data`
 #[tactic(auto, unfolding(crate::specs::ImageRecords::item_fields))]
-fn item_record(fields: &ByteRecord) -> Result<ImageRecord, Slip>
+fn item_record(fields: &ByteRecord) -> Result<ImageRecord, FaultKind>
     ensures { result ≡ item_fields (fields_of fields.now) }
 {
     let card = ItemCard {
@@ -245,7 +245,7 @@ fn stock_record(alloc: Global, fields: &ByteRecord) -> Result<ImageRecord, Recor
 
 /// `O,w,d,o,c,entry,carrier,ol_cnt,all_local`
 #[tactic(auto, unfolding(crate::specs::ImageRecords::order_fields))]
-fn order_record(fields: &ByteRecord) -> Result<ImageRecord, Slip>
+fn order_record(fields: &ByteRecord) -> Result<ImageRecord, FaultKind>
     ensures { result ≡ order_fields (fields_of fields.now) }
 {
     Ok(ImageRecord::Order {
@@ -264,7 +264,7 @@ fn order_record(fields: &ByteRecord) -> Result<ImageRecord, Slip>
 
 /// `N,w,d,o`
 #[tactic(auto, unfolding(crate::specs::ImageRecords::new_order_fields))]
-fn new_order_record(fields: &ByteRecord) -> Result<ImageRecord, Slip>
+fn new_order_record(fields: &ByteRecord) -> Result<ImageRecord, FaultKind>
     ensures { result ≡ new_order_fields (fields_of fields.now) }
 {
     Ok(ImageRecord::NewOrder {
@@ -276,7 +276,7 @@ fn new_order_record(fields: &ByteRecord) -> Result<ImageRecord, Slip>
 
 /// `L,w,d,o,number,item,supply,delivery,quantity,amount,info`
 #[tactic(auto, unfolding(crate::specs::ImageRecords::order_line_fields))]
-fn order_line_record(fields: &ByteRecord) -> Result<ImageRecord, Slip>
+fn order_line_record(fields: &ByteRecord) -> Result<ImageRecord, FaultKind>
     ensures { result ≡ order_line_fields (fields_of fields.now) }
 {
     Ok(ImageRecord::OrderLine {
@@ -297,7 +297,7 @@ fn order_line_record(fields: &ByteRecord) -> Result<ImageRecord, Slip>
 
 /// `H,number,c,cd,cw,d,w,date,amount,data`
 #[tactic(auto, unfolding(crate::specs::ImageRecords::history_fields))]
-fn history_record(fields: &ByteRecord) -> Result<ImageRecord, Slip>
+fn history_record(fields: &ByteRecord) -> Result<ImageRecord, FaultKind>
     ensures { result ≡ history_fields (fields_of fields.now) }
 {
     let number = request_number(fields, 1)?;
@@ -315,24 +315,24 @@ fn history_record(fields: &ByteRecord) -> Result<ImageRecord, Slip>
 }
 
 /// Whether a record's first field is `kind`; if so it must have `count` fields.
-fn is_kind(fields: &ByteRecord, kind: &[u8], count: usize) -> Result<bool, Slip>
+fn is_kind(fields: &ByteRecord, kind: &[u8], count: usize) -> Result<bool, FaultKind>
     ensures { result ≡ is_kind kind.now count (fields_of fields.now) }
 {
     if !has_text(fields, 0, kind) {
         return Ok(false);
     }
     if fields.len() != count {
-        return Err(Slip::WrongCount);
+        return Err(FaultKind::WrongCount);
     }
     Ok(true)
 }
 
 /// The record of a district's row, which only version 2 has.
-fn district_row_record(version: Version, fields: &ByteRecord) -> Result<ImageRecord, Slip>
+fn district_row_record(version: Version, fields: &ByteRecord) -> Result<ImageRecord, FaultKind>
     ensures { result ≡ district_row_at version (fields_of fields.now) }
 {
     match version {
-        Version::One => return Err(Slip::UnknownKind),
+        Version::One => return Err(FaultKind::UnknownKind),
         Version::Two => {}
     }
     if is_kind(fields, b"Y", 4)? {
@@ -341,11 +341,11 @@ fn district_row_record(version: Version, fields: &ByteRecord) -> Result<ImageRec
     if is_kind(fields, b"X", 4)? {
         return district_next_record(fields);
     }
-    Err(Slip::UnknownKind)
+    Err(FaultKind::UnknownKind)
 }
 
 /// The record of a row that has no card.
-fn row_record(version: Version, fields: &ByteRecord) -> Result<ImageRecord, Slip>
+fn row_record(version: Version, fields: &ByteRecord) -> Result<ImageRecord, FaultKind>
     ensures { result ≡ row_record_at version (fields_of fields.now) }
 {
     if is_kind(fields, b"O", 9)? {

@@ -2,22 +2,22 @@
 ghost use Rattle.std.specs.Prelude.{◌≡◌};
 ghost use Rattle.image_records.specs.declared.record_fault.RecordFault.TheVariants as record_fault;
 
-use records::fault::Slip;
+use records::fault::FaultKind;
 use std::alloc::{AllocError, AllocFailed};
 use tpcc_rows::memory::Memory;
 
 /// Why a record can't be read: what is wrong with it, or that an allocation failed.
 #[derive(Clone, Copy)]
 pub enum RecordFault {
-    Slip(Slip),
+    OfKind(FaultKind),
     Memory,
 }
 
-impl From<Slip> for RecordFault {
-    ghost from_gives = { λ e fault. fault ≡ record_fault.Slip e };
+impl From<FaultKind> for RecordFault {
+    ghost from_gives = { λ e fault. fault ≡ record_fault.OfKind e };
 
-    fn from(slip: Slip) -> RecordFault {
-        RecordFault::Slip(slip)
+    fn from(kind: FaultKind) -> RecordFault {
+        RecordFault::OfKind(kind)
     }
 }
 

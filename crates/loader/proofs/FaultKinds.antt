@@ -2,8 +2,8 @@
 use Rattle.std.proofs.Common.{◌+◌, ℕ, List, [], ◌∷◌, Bool, true, false, cond, Option, Some, None, Result, Ok, Err, sym, subst, inl, inr}
 use Rattle.records.specs.Fields.{Fields}
 use Rattle.records.specs.Records.{records_in}
-use Rattle.records.specs.declared.fault.Slip.{Slip}
-use Rattle.records.specs.declared.fault.Slip.TheVariants as slip
+use Rattle.records.specs.declared.fault.FaultKind.{FaultKind}
+use Rattle.records.specs.declared.fault.FaultKind.TheVariants as fault_kind
 use Rattle.tpcc_model.specs.Database.{Database}
 use Rattle.image_records.specs.Faults.{IsOfText, StopsBy, fault_of}
 use Rattle.loader.specs.Image.{counts, ended, is_end, placed, read_all, read_as, read_from}
@@ -24,15 +24,15 @@ either : (b : Bool) (x y : Result Database LoadError) → Faults x → Faults y 
 either true x y p q = p
 either false x y p q = q
 
-of_slip : (n : ℕ) (s : Slip) → IsOfText (fault_of n s)
-of_slip n slip.BadField = tt
-of_slip n slip.WrongCount = tt
-of_slip n slip.OutOfRange = tt
-of_slip n slip.UnknownKind = tt
-of_slip n slip.BatchTooLong = tt
+of_fault_kind : (n : ℕ) (s : FaultKind) → IsOfText (fault_of n s)
+of_fault_kind n fault_kind.BadField = tt
+of_fault_kind n fault_kind.WrongCount = tt
+of_fault_kind n fault_kind.OutOfRange = tt
+of_fault_kind n fault_kind.UnknownKind = tt
+of_fault_kind n fault_kind.BatchTooLong = tt
 
-placed-faults : (n : ℕ) (db : Database) (o : Result ImageRecord Slip) (rest : Database → Result Database LoadError) → ((d : Database) → Faults (rest d)) → Faults (placed n db o rest)
-placed-faults n db (Err s) rest more = of_slip n s
+placed-faults : (n : ℕ) (db : Database) (o : Result ImageRecord FaultKind) (rest : Database → Result Database LoadError) → ((d : Database) → Faults (rest d)) → Faults (placed n db o rest)
+placed-faults n db (Err s) rest more = of_fault_kind n s
 placed-faults n db (Ok said) rest more = either (is_taken db said) (Err (err.Duplicate n)) (rest (with_record db said)) tt (more (with_record db said))
 
 ended-faults : (rs : List Fields) (n : ℕ) (db : Database) → Faults (ended rs n db)

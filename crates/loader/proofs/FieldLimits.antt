@@ -10,36 +10,36 @@ use Rattle.std.proofs.lemmas.List.Elements.{All-cons, All-nil}
 use Rattle.std.proofs.lemmas.Bool.Decides.{nat_tests}
 use Rattle.csv.specs.Records.{field_at}
 use Rattle.records.specs.Fields.{◌>>=◌, Fields, below_zero, in_range, is_numeral, is_text as is_field, number_at, number_in, number_or_null_at, said_by, signed_at, signed_in, text_at, text_in}
-use Rattle.records.specs.declared.fault.Slip.{Slip}
-use Rattle.records.specs.declared.fault.Slip.TheVariants as slip
+use Rattle.records.specs.declared.fault.FaultKind.{FaultKind}
+use Rattle.records.specs.declared.fault.FaultKind.TheVariants as fault_kind
 use Rattle.tpcc_rows.specs.Limits.{IsBetween, IsCents, IsStockQuantity}
 use Rattle.tpcc_rows.specs.Texts.{ArePrintable, IsPrintable, IsText, is_printable, is_text}
 use Rattle.image_records.specs.Columns.{texts_at}
 use Rattle.tpcc_rows.proofs.Singles.{and-left, and-right}
 
 -- a field, and what is made of it
-pub then-gives : {A B : Type 0} (P : A → Type 0) (Q : B → Type 0) (r : Result A Slip) (f : A → Result B Slip) → IfOk r P → ((a : A) → P a → IfOk (f a) Q) → IfOk (r >>= f) Q
+pub then-gives : {A B : Type 0} (P : A → Type 0) (Q : B → Type 0) (r : Result A FaultKind) (f : A → Result B FaultKind) → IfOk r P → ((a : A) → P a → IfOk (f a) Q) → IfOk (r >>= f) Q
 then-gives P Q (Ok a) f h more = more a h
 then-gives P Q (Err e) f h more = tt
 
 -- a field with no limits
-pub any-gives : {A B : Type 0} (Q : B → Type 0) (r : Result A Slip) (f : A → Result B Slip) → ((a : A) → IfOk (f a) Q) → IfOk (r >>= f) Q
+pub any-gives : {A B : Type 0} (Q : B → Type 0) (r : Result A FaultKind) (f : A → Result B FaultKind) → ((a : A) → IfOk (f a) Q) → IfOk (r >>= f) Q
 any-gives Q (Ok a) f more = more a
 any-gives Q (Err e) f more = tt
 
-test-gives : {A : Type 0} (P : A → Type 0) (b : Bool) (r : Result A Slip) (e : Slip) → (b ≡ true → IfOk r P) → IfOk (cond b r (Err e)) P
+test-gives : {A : Type 0} (P : A → Type 0) (b : Bool) (r : Result A FaultKind) (e : FaultKind) → (b ≡ true → IfOk r P) → IfOk (cond b r (Err e)) P
 test-gives P true r e h = h refl
 test-gives P false r e h = tt
 
 number_in-within : (low high : ℕ) (bytes : List ℕ) → IfOk (number_in low high bytes) (IsBetween low high)
-number_in-within low high bytes = test-gives (IsBetween low high) (is_numeral bytes) (in_range low high (digits_value 10 bytes)) slip.BadField (λ _.
-    test-gives (IsBetween low high) (nat_le low (digits_value 10 bytes) && nat_le (digits_value 10 bytes) high) (Ok (digits_value 10 bytes)) slip.OutOfRange (λ test.
+number_in-within low high bytes = test-gives (IsBetween low high) (is_numeral bytes) (in_range low high (digits_value 10 bytes)) fault_kind.BadField (λ _.
+    test-gives (IsBetween low high) (nat_le low (digits_value 10 bytes) && nat_le (digits_value 10 bytes) high) (Ok (digits_value 10 bytes)) fault_kind.OutOfRange (λ test.
     let above = and-left (nat_le low (digits_value 10 bytes)) (nat_le (digits_value 10 bytes) high) test in
     let below = and-right (nat_le low (digits_value 10 bytes)) (nat_le (digits_value 10 bytes) high) test in
     (grind (arith, nat_tests), grind (arith, nat_tests))))
 
 -- the field at a place
-said_by-within : {A : Type 0} (P : A → Type 0) (says : List ℕ → Result A Slip) → ((bytes : List ℕ) → IfOk (says bytes) P) → (field : Option (List ℕ)) → IfOk (said_by says field) P
+said_by-within : {A : Type 0} (P : A → Type 0) (says : List ℕ → Result A FaultKind) → ((bytes : List ℕ) → IfOk (says bytes) P) → (field : Option (List ℕ)) → IfOk (said_by says field) P
 said_by-within P says all None = tt
 said_by-within P says all (Some bytes) = all bytes
 

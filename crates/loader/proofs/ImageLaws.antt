@@ -3,7 +3,7 @@ use Rattle.std.proofs.Common.{◌≡◌, ◌+◌, ℕ, List, [], ◌∷◌, Bool
 use Rattle.std.specs.Prelude.{IfOk}
 use Rattle.records.specs.Fields.{Fields}
 use Rattle.records.specs.Records.{records_in}
-use Rattle.records.specs.declared.fault.Slip.{Slip}
+use Rattle.records.specs.declared.fault.FaultKind.{FaultKind}
 use Rattle.tpcc_model.specs.Database.{Database}
 use Rattle.tpcc_model.specs.Soundness.{IsSound}
 use Rattle.image_checks.specs.Checks.{parents_there, ytds_agree}
@@ -24,7 +24,7 @@ either : (P : Database → Type 0) (b : Bool) (x y : Result Database LoadError) 
 either P true x y p q = p refl
 either P false x y p q = q refl
 
-placed-filled : (n : ℕ) (db : Database) (o : Result ImageRecord Slip) (rest : Database → Result Database LoadError) → IfOk o IsRead → IsFilled db → ((d : Database) → IsFilled d → IfOk (rest d) IsFilled)
+placed-filled : (n : ℕ) (db : Database) (o : Result ImageRecord FaultKind) (rest : Database → Result Database LoadError) → IfOk o IsRead → IsFilled db → ((d : Database) → IsFilled d → IfOk (rest d) IsFilled)
     → IfOk (placed n db o rest) IsFilled
 placed-filled n db (Err e) rest read filled more = tt
 placed-filled n db (Ok said) rest read filled more = either IsFilled (is_taken db said) (Err (err.Duplicate n)) (rest (with_record db said)) (λ _. tt) (λ _. more (with_record db said) (filled-more db said read filled))

@@ -4,8 +4,8 @@ use Rattle.std.specs.Prelude.{IfOk, ◌==◌, length, codes}
 use Rattle.std.specs.List.{AllByRecursion}
 use Rattle.csv.specs.Records.{field_at}
 use Rattle.records.specs.Fields.{◌>>=◌, Fields, is_text, number_at, number_or_null_at, of_count, signed_at, text_at}
-use Rattle.records.specs.declared.fault.Slip.{Slip}
-use Rattle.records.specs.declared.fault.Slip.TheVariants as slip
+use Rattle.records.specs.declared.fault.FaultKind.{FaultKind}
+use Rattle.records.specs.declared.fault.FaultKind.TheVariants as fault_kind
 use Rattle.tpcc_rows.specs.Limits.{IsBetween, IsCents, IsStockQuantity}
 use Rattle.tpcc_rows.specs.Texts.{IsText}
 use Rattle.image_records.specs.Columns.{credit_of, texts_at}
@@ -17,22 +17,22 @@ use Rattle.loader.proofs.FieldLimits.{any-gives, cents_at-within, number_at-with
 use Rattle.loader.proofs.Filled.{IsRead}
 
 module _ (fields : Fields) where
-  number : (i low high : ℕ) (f : ℕ → Result ImageRecord Slip) → ((n : ℕ) → IsBetween low high n → IfOk (f n) IsRead) → IfOk (number_at fields i low high >>= f) IsRead
+  number : (i low high : ℕ) (f : ℕ → Result ImageRecord FaultKind) → ((n : ℕ) → IsBetween low high n → IfOk (f n) IsRead) → IfOk (number_at fields i low high >>= f) IsRead
   number i low high f more = then-gives (IsBetween low high) IsRead (number_at fields i low high) f (number_at-within fields i low high) more
 
-  text : (i most : ℕ) (f : List ℕ → Result ImageRecord Slip) → ((t : List ℕ) → IsText most t → IfOk (f t) IsRead) → IfOk (text_at fields i most >>= f) IsRead
+  text : (i most : ℕ) (f : List ℕ → Result ImageRecord FaultKind) → ((t : List ℕ) → IsText most t → IfOk (f t) IsRead) → IfOk (text_at fields i most >>= f) IsRead
   text i most f more = then-gives (IsText most) IsRead (text_at fields i most) f (text_at-within fields i most) more
 
-  cents : (i : ℕ) (f : ℤ → Result ImageRecord Slip) → ((z : ℤ) → IsCents z → IfOk (f z) IsRead) → IfOk (signed_at fields i 1000000000000000 >>= f) IsRead
+  cents : (i : ℕ) (f : ℤ → Result ImageRecord FaultKind) → ((z : ℤ) → IsCents z → IfOk (f z) IsRead) → IfOk (signed_at fields i 1000000000000000 >>= f) IsRead
   cents i f more = then-gives IsCents IsRead (signed_at fields i 1000000000000000) f (cents_at-within fields i) more
 
-  quantity : (i : ℕ) (f : ℤ → Result ImageRecord Slip) → ((z : ℤ) → IsStockQuantity z → IfOk (f z) IsRead) → IfOk (signed_at fields i 9999 >>= f) IsRead
+  quantity : (i : ℕ) (f : ℤ → Result ImageRecord FaultKind) → ((z : ℤ) → IsStockQuantity z → IfOk (f z) IsRead) → IfOk (signed_at fields i 9999 >>= f) IsRead
   quantity i f more = then-gives IsStockQuantity IsRead (signed_at fields i 9999) f (quantity_at-within fields i) more
 
-  or_null : (i low high : ℕ) (f : Option ℕ → Result ImageRecord Slip) → ((o : Option ℕ) → IfSome o (IsBetween low high) → IfOk (f o) IsRead) → IfOk (number_or_null_at fields i low high >>= f) IsRead
+  or_null : (i low high : ℕ) (f : Option ℕ → Result ImageRecord FaultKind) → ((o : Option ℕ) → IfSome o (IsBetween low high) → IfOk (f o) IsRead) → IfOk (number_or_null_at fields i low high >>= f) IsRead
   or_null i low high f more = then-gives (λ o. IfSome o (IsBetween low high)) IsRead (number_or_null_at fields i low high) f (number_or_null_at-within fields i low high) more
 
-  infos : (i count : ℕ) (f : List (List ℕ) → Result ImageRecord Slip) → ((ts : List (List ℕ)) → (length ts ≡ count) × AllByRecursion (IsText 24) ts → IfOk (f ts) IsRead) → IfOk (texts_at fields i count 24 >>= f) IsRead
+  infos : (i count : ℕ) (f : List (List ℕ) → Result ImageRecord FaultKind) → ((ts : List (List ℕ)) → (length ts ≡ count) × AllByRecursion (IsText 24) ts → IfOk (f ts) IsRead) → IfOk (texts_at fields i count 24 >>= f) IsRead
   infos i count f more = then-gives (λ ts. (length ts ≡ count) × AllByRecursion (IsText 24) ts) IsRead (texts_at fields i count 24) f (texts_at-within fields i count 24) more
 
   warehouse : IfOk (warehouse_fields fields) IsRead
@@ -184,12 +184,12 @@ module _ (fields : Fields) where
       number 8 0 999999 _ (λ amount amount_is.
       text 9 24 _ (λ note note_is. record { number = n_is; date = date_is; amount = amount_is; text = note_is })))))))))
 
-  kind : (b : Bool) (x y : Result ImageRecord Slip) → IfOk x IsRead → IfOk y IsRead → IfOk (cond b x y) IsRead
+  kind : (b : Bool) (x y : Result ImageRecord FaultKind) → IfOk x IsRead → IfOk y IsRead → IfOk (cond b x y) IsRead
   kind true x y p q = p
   kind false x y p q = q
 
-  counted : (count : ℕ) (said : Result ImageRecord Slip) → IfOk said IsRead → IfOk (of_count count fields said) IsRead
-  counted count said h = kind (length fields == count) said (Err slip.WrongCount) h tt
+  counted : (count : ℕ) (said : Result ImageRecord FaultKind) → IfOk said IsRead → IfOk (of_count count fields said) IsRead
+  counted count said h = kind (length fields == count) said (Err fault_kind.WrongCount) h tt
 
   district_record : (version : Version) → IfOk (district_record_at version fields) IsRead
   district_record version.One = whole_district
@@ -199,7 +199,7 @@ module _ (fields : Fields) where
   district_row version.One = tt
   district_row version.Two =
       kind (is_text (codes "Y") (field_at fields 0)) _ _ (counted 4 (district_ytd_fields fields) district_ytd)
-      (kind (is_text (codes "X") (field_at fields 0)) (of_count 4 fields (district_next_fields fields)) (Err slip.UnknownKind) (counted 4 (district_next_fields fields) district_next) tt)
+      (kind (is_text (codes "X") (field_at fields 0)) (of_count 4 fields (district_next_fields fields)) (Err fault_kind.UnknownKind) (counted 4 (district_next_fields fields) district_next) tt)
 
   pub record_at-limits : (version : Version) → IfOk (record_at version fields) IsRead
   record_at-limits version =

@@ -3,7 +3,7 @@ use Rattle.std.specs.Prelude.{◌≡◌, ◌⊎◌, ◌==◌, ◌&&◌, ◌+◌,
 use Rattle.csv.specs.Records.{field_at}
 use Rattle.records.specs.Fields.{Fields, is_text}
 use Rattle.records.specs.Records.{records_in}
-use Rattle.records.specs.declared.fault.Slip.{Slip}
+use Rattle.records.specs.declared.fault.FaultKind.{FaultKind}
 use Rattle.tpcc_model.specs.Database.{Database}
 use Rattle.image_checks.specs.Checks.{checked}
 use Rattle.image_records.specs.Faults.{fault_of}
@@ -20,7 +20,7 @@ abbrev pub Rest : Type 0
 Rest = Database → Result Database LoadError
 
 -- what the record of this number says is taken in, unless its key came before, and what follows goes on from there
-abbrev pub placed : ℕ → Database → Result ImageRecord Slip → Rest → Result Database LoadError
+abbrev pub placed : ℕ → Database → Result ImageRecord FaultKind → Rest → Result Database LoadError
 placed n db (Err e) rest = Err (fault_of n e)
 placed n db (Ok said) rest = if is_taken db said then Err (err.Duplicate n) else rest (with_record db said)
 

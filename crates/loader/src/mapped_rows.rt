@@ -9,11 +9,11 @@ use rollback::PointedStore;
 use std::alloc::Global;
 use tpcc_rows::key::RowKey;
 use tpcc_rows::memory::Memory;
-use tpcc_rows::plain::RowStore;
+use tpcc_rows::plain::RowMap;
 use tpcc_rows::row::Row;
 
 /// The rows as a list in key order.
-fn listed(alloc: Global, rows: RowStore) -> Result<Vec<(RowKey, Row)>, Memory>
+fn listed(alloc: Global, rows: RowMap) -> Result<Vec<(RowKey, Row)>, Memory>
     ensures all { IfOk result (λ list. list.items ≡ map.entries rows) }
     ensures kinds { IfOk result (λ list. list_all (λ row. fits row.0 row.1) list.items ≡ true) }
 {
@@ -26,12 +26,12 @@ fn listed(alloc: Global, rows: RowStore) -> Result<Vec<(RowKey, Row)>, Memory>
 
 /// The rows on their leaves' pages, all clean, without a point. They pass through a list, so that the map is freed before
 /// the pages are allocated.
-pub fn on_pages(alloc: Global, rows: RowStore) -> Result<PointedStore, Memory>
+pub fn on_pages(alloc: Global, rows: RowMap) -> Result<PointedStore, Memory>
     ensures rows { IfOk result (λ store. store.rows ≡ rows) }
     ensures points { IfOk result (λ store. store.points ≡ []) }
     ensures clean { IfOk result (λ store. AreClean store.dirty) }
 {
     let list = listed(alloc, rows)?;
-    let store = pages::RowStore::from_rows(alloc, list)?;
+    let store = pages::RowMap::from_rows(alloc, list)?;
     Ok(PointedStore::new(alloc, store))
 }

@@ -47,7 +47,7 @@ fn place(
 {
     let said = match image_record(alloc, version, fields) {
         Ok(said) => said,
-        Err(RecordFault::Slip(slip)) => return Err(fault(number, slip)),
+        Err(RecordFault::OfKind(kind)) => return Err(fault(number, kind)),
         Err(RecordFault::Memory) => return Err(LoadError::Memory),
     };
     match tables.add(said) {

@@ -22,14 +22,14 @@ use std::alloc::Global;
 use std::marker::Model;
 use tpcc_rows::key::RowKey;
 use tpcc_rows::memory::Memory;
-use tpcc_rows::plain::RowStore;
+use tpcc_rows::plain::RowMap;
 use tpcc_rows::row::Row;
 
 /// Rows in key order, or in a map.
 #[derive(Drop)]
 pub(crate) enum Unpaged {
     Sorted(SortedRows),
-    Mapped(RowStore),
+    Mapped(RowMap),
 }
 
 /// A finite map from keys to rows, each row of its key's kind.
@@ -57,7 +57,7 @@ fn of_list(alloc: Global, rows: Vec<(RowKey, Row)>) -> Result<Unpaged, Memory>
     if is_in_order(&rows) {
         Ok(Unpaged::Sorted(SortedRows::of(rows)))
     } else {
-        Ok(Unpaged::Mapped(RowStore::from_rows(alloc, rows)?))
+        Ok(Unpaged::Mapped(RowMap::from_rows(alloc, rows)?))
     }
 }
 

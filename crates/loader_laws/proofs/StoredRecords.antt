@@ -19,8 +19,8 @@ use Rattle.catalog.specs.declared.card.WarehouseCard.{WarehouseCard}
 use Rattle.csv.specs.Records.{field_at}
 use Rattle.records.specs.Fields.{Fields, number_in, number_or_null_at, signed_in}
 use Rattle.records.specs.Spelling.{number_or_dash}
-use Rattle.records.specs.declared.fault.Slip.{Slip}
-use Rattle.records.specs.declared.fault.Slip.TheVariants as slip
+use Rattle.records.specs.declared.fault.FaultKind.{FaultKind}
+use Rattle.records.specs.declared.fault.FaultKind.TheVariants as fault_kind
 use Rattle.records.proofs.SpellingLemmas.{number_in-decimal, signed_in-decimal}
 use Rattle.tpcc_model.specs.Soundness.{IsCard, IsCustomerRow, IsStockRow}
 use Rattle.tpcc_rows.specs.Limits.{IsBetween, IsCents, IsStockQuantity, ten}
@@ -75,7 +75,7 @@ not_dash n small = elim (cases_Bool (bytes_eq (decimal n) (codes "-"))) [
   | inl same ↦
       let is : decimal n ≡ codes "-" = (bytes_eq-Decides (decimal n) (codes "-")).0 same in
       let read : number_in 0 n (decimal n) ≡ Ok n = number_in-decimal 0 n n (omega arith) (omega arith) small in
-      let no : ◌≡◌ {A = Result ℕ Slip} (Err slip.BadField) (Ok n) = rw is at read in
+      let no : ◌≡◌ {A = Result ℕ FaultKind} (Err fault_kind.BadField) (Ok n) = rw is at read in
       cc no
   | inr apart ↦ apart
 ]
@@ -271,7 +271,7 @@ stock-read c r h =
       info c.district_infos 7 infos (omega (arith, all)),
       info c.district_infos 8 infos (omega (arith, all)),
       info c.district_infos 9 infos (omega (arith, all)),
-    ) (ap (λ (xs : List (List ℕ)). let s : ImageRecord = said.Stock (record c { district_infos = xs }) r in let ok : Result ImageRecord Slip = Ok s in ok) (ten_texts c.district_infos all))
+    ) (ap (λ (xs : List (List ℕ)). let s : ImageRecord = said.Stock (record c { district_infos = xs }) r in let ok : Result ImageRecord FaultKind = Ok s in ok) (ten_texts c.district_infos all))
 
 -- a record is read as what it says
 pub record_at-written : (s : ImageRecord) → IsStored s → record_at version.Two (written_record s) ≡ Ok s

@@ -62,7 +62,7 @@ impl Pages {
     }
 
     /// The rows of a plain store, each moved to its page, which has their room from the first.
-    pub(crate) fn from_plain(alloc: Global, rows: plain::RowStore) -> Result<Pages, Memory>
+    pub(crate) fn from_plain(alloc: Global, rows: plain::RowMap) -> Result<Pages, Memory>
         ensures { IfOk result (λ store. store ≡ rows) }
     {
         let rooms = Rooms::of_plain(alloc, &rows)?;

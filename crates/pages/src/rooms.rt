@@ -39,7 +39,7 @@ impl Rooms {
     }
 
     /// As many as a plain store has.
-    pub(crate) fn of_plain(alloc: Global, rows: &plain::RowStore) -> Result<Rooms, Memory> {
+    pub(crate) fn of_plain(alloc: Global, rows: &plain::RowMap) -> Result<Rooms, Memory> {
         let mut rooms = Rooms::new(alloc)?;
         for (key, _) in rows.iter() {
             rooms.add(key);

@@ -169,7 +169,7 @@ impl RowStore {
     }
 
     /// The rows of a plain store, each moved to its page, which has their room from the first.
-    pub fn from_plain(alloc: Global, rows: plain::RowStore) -> Result<RowStore, Memory>
+    pub fn from_plain(alloc: Global, rows: plain::RowMap) -> Result<RowStore, Memory>
         ensures { IfOk result (λ store. store ≡ rows) }
     {
         let pages = Pages::from_plain(alloc, rows)?;

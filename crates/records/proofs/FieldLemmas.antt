@@ -10,7 +10,7 @@ use Rattle.std.proofs.lemmas.List.Folds.{list_all_at}
 use Rattle.std.proofs.lemmas.Str.{digit_value_digit}
 use Rattle.std.proofs.lemmas.Str.Parse.{digits_value-take-le}
 use Rattle.records.specs.Fields.{is_numeral, number_in}
-use Rattle.records.specs.declared.fault.Slip.TheVariants as slip
+use Rattle.records.specs.declared.fault.FaultKind.TheVariants as fault_kind
 
 -- a `0` that stands alone
 alone : (c : ℕ) (cs : List ℕ) (i : ℕ) → c ≡ 48 → length cs ≡ 0 → i < length (c ∷ cs) → (48 ≤ get_or (c ∷ cs) i 0) × (get_or (c ∷ cs) i 0 ≤ 57)
@@ -39,7 +39,7 @@ value_more xs i n e h is =
     omega (arith, value, more, is, digit)
 
 -- a numeral of which some front is above the range
-pub number_in-above : (low high n i : ℕ) (xs : List ℕ) → is_numeral xs ≡ true → n ≡ digits_value 10 (take i xs) → high < n → number_in low high xs ≡ Err slip.OutOfRange
+pub number_in-above : (low high n i : ℕ) (xs : List ℕ) → is_numeral xs ≡ true → n ≡ digits_value 10 (take i xs) → high < n → number_in low high xs ≡ Err fault_kind.OutOfRange
 number_in-above low high n i xs e is h =
     let grows = digits_value-take-le 10 xs i (omega arith) in
     let above : high < digits_value 10 xs = omega (arith, grows, is) in

@@ -22,8 +22,8 @@ use Rattle.tpcc_rows.specs.Texts.{ArePrintable, IsPrintable, IsText, is_printabl
 use Rattle.records.specs.Fields.{◌>>=◌, Fields, IsWithin, in_range, is_numeral, number_in, signed_in, text_in}
 use Rattle.records.specs.Records.{records_after}
 use Rattle.records.specs.Spelling.{text_of_records}
-use Rattle.records.specs.declared.fault.Slip.{Slip}
-use Rattle.records.specs.declared.fault.Slip.TheVariants as slip
+use Rattle.records.specs.declared.fault.FaultKind.{FaultKind}
+use Rattle.records.specs.declared.fault.FaultKind.TheVariants as fault_kind
 use Rattle.records.proofs.RecordLemmas.{records_after-none, records_after-some}
 
 own : IsNumeralModel (λ ds. list_all is_ascii_digit ds ≡ true) (digits_value 10)
@@ -79,13 +79,13 @@ is_numeral-parts (c ∷ cs) e = elim (cases_Bool (c == 48)) [
   | inr plain ↦ (rw plain at e, omega arith, λ z. let bad : true ≡ false = rw z at plain in cc bad)
 ]
 
-ok-same : {A : Type 0} (x y : A) → ◌≡◌ {A = Result A Slip} (Ok x) (Ok y) → x ≡ y
+ok-same : {A : Type 0} (x y : A) → ◌≡◌ {A = Result A FaultKind} (Ok x) (Ok y) → x ≡ y
 ok-same x y e = cc e
 
 in_range-value : (low high m n : ℕ) → in_range low high m ≡ Ok n → m ≡ n
 in_range-value low high m n e = elim (cases_Bool (nat_le low m && nat_le m high)) [
   | inl good ↦ ok-same m n (rw good at e)
-  | inr bad ↦ let no : ◌≡◌ {A = Result ℕ Slip} (Err slip.OutOfRange) (Ok n) = rw bad at e in cc no
+  | inr bad ↦ let no : ◌≡◌ {A = Result ℕ FaultKind} (Err fault_kind.OutOfRange) (Ok n) = rw bad at e in cc no
 ]
 
 pub number_in-spelled : (low high n : ℕ) (bytes : List ℕ) → n < 2 ^ 64 → number_in low high bytes ≡ Ok n → bytes ≡ decimal n
@@ -94,7 +94,7 @@ number_in-spelled low high n bytes h e = elim (cases_Bool (is_numeral bytes)) [
       let (digits, full, first) = is_numeral-parts bytes good in
       let value = in_range-value low high (digits_value 10 bytes) n (rw good at e) in
       sym (rw value at (decimal-digits_value own bytes digits full first (rw value h)))
-  | inr bad ↦ let no : ◌≡◌ {A = Result ℕ Slip} (Err slip.BadField) (Ok n) = rw bad at e in cc no
+  | inr bad ↦ let no : ◌≡◌ {A = Result ℕ FaultKind} (Err fault_kind.BadField) (Ok n) = rw bad at e in cc no
 ]
 
 -- a text that doesn't begin with a sign
@@ -120,7 +120,7 @@ signed_in-decimal most (pos n) h small =
     let high = h.1 in
     let within : n ≤ most = omega (arith, ints, high) in
     let fits : n < 2 ^ 64 = omega arith in
-    signed_in-plain most (decimal n) (decimal_nonempty n fits) (first-digit n fits) ∙ ap (λ (r : Result ℕ Slip). r >>= λ n. Ok (pos n)) (number_in-decimal 0 most n (omega arith) within fits)
+    signed_in-plain most (decimal n) (decimal_nonempty n fits) (first-digit n fits) ∙ ap (λ (r : Result ℕ FaultKind). r >>= λ n. Ok (pos n)) (number_in-decimal 0 most n (omega arith) within fits)
 signed_in-decimal most (negsuc n) h small =
     let low = h.0 in
     let within : suc n ≤ most = omega (arith, ints, low) in

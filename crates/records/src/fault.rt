@@ -108,9 +108,9 @@ impl From<Memory> for ReadError {
     }
 }
 
-/// What is wrong with a record, apart from its number.
+/// What is wrong with a record.
 #[derive(Clone, Copy, PartialEq, Eq)]
-pub enum Slip {
+pub enum FaultKind {
     BadField,
     WrongCount,
     OutOfRange,

@@ -13,6 +13,6 @@ pub mod record_writer;
 pub mod slurp;
 
 pub use fail_at::FailAt;
-pub use fault::{ReadError, Slip};
+pub use fault::{FaultKind, ReadError};
 pub use io::{Counting, Failed, Sink, Source};
 pub use memory_ends::{BytesSink, BytesSource};

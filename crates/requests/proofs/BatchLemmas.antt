@@ -7,7 +7,7 @@ use Rattle.requests.specs.Batches.{Place, Reading, batches, begun, between, cont
 use Rattle.records.specs.Fields.{Fields}
 use Rattle.records.specs.Records.{records_in}
 use Rattle.requests.specs.declared.batch_record.BatchHead.{BatchHead}
-use Rattle.records.specs.declared.fault.Slip.{Slip}
+use Rattle.records.specs.declared.fault.FaultKind.{FaultKind}
 use Rattle.requests.specs.declared.request.Request.{Request}
 use Rattle.records.proofs.RecordLemmas.{length-records_in}
 
@@ -17,11 +17,11 @@ length-settled h qs rest n less = elim (cases_Bool (length qs == h.count)) [
   | inr more ↦ rw more (let k = less (within h qs) in omega (arith, k))
 ]
 
-length-begun : (n : ℕ) (r : Result BatchHead Slip) (rest : Place → Reading) (m : ℕ) → ((p : Place) → length (rest p).0 ≤ m) → length (begun n r rest).0 ≤ m + 1
+length-begun : (n : ℕ) (r : Result BatchHead FaultKind) (rest : Place → Reading) (m : ℕ) → ((p : Place) → length (rest p).0 ≤ m) → length (begun n r rest).0 ≤ m + 1
 length-begun n (Ok h) rest m less = length-settled h [] rest m less
 length-begun n (Err e) rest m less = omega arith
 
-length-continued : (n : ℕ) (h : BatchHead) (qs : List Request) (r : Result Request Slip) (rest : Place → Reading) (m : ℕ) → ((p : Place) → length (rest p).0 ≤ m) → length (continued n h qs r rest).0 ≤ m + 1
+length-continued : (n : ℕ) (h : BatchHead) (qs : List Request) (r : Result Request FaultKind) (rest : Place → Reading) (m : ℕ) → ((p : Place) → length (rest p).0 ≤ m) → length (continued n h qs r rest).0 ≤ m + 1
 length-continued n h qs (Ok q) rest m less = length-settled h (qs ++ q ∷ []) rest m less
 length-continued n h qs (Err e) rest m less = omega arith
 

@@ -3,20 +3,20 @@ use Rattle.std.proofs.Common.{◌≡◌, ◌∙◌, ◌+◌, ◌*◌, ◌-◌, �
 use Rattle.std.specs.Prelude.{Result, Ok, Err}
 use Rattle.records.specs.Fields.{◌>>=◌, Fields}
 use Rattle.requests.specs.RequestRecords.{ordered_line_at, ordered_lines_at}
-use Rattle.records.specs.declared.fault.Slip.{Slip}
+use Rattle.records.specs.declared.fault.FaultKind.{FaultKind}
 use Rattle.requests.specs.declared.request.OrderedLine.{OrderedLine}
 
 -- these lines, and then those
-abbrev pub then_more : List OrderedLine → Result (List OrderedLine) Slip → Result (List OrderedLine) Slip
+abbrev pub then_more : List OrderedLine → Result (List OrderedLine) FaultKind → Result (List OrderedLine) FaultKind
 then_more lines more = more >>= λ rest. Ok (lines ++ rest)
 
-joined : (lines : List OrderedLine) (line : OrderedLine) (more : Result (List OrderedLine) Slip) → then_more lines (more >>= λ rest. Ok (line ∷ rest)) ≡ then_more (lines ++ line ∷ []) more
+joined : (lines : List OrderedLine) (line : OrderedLine) (more : Result (List OrderedLine) FaultKind) → then_more lines (more >>= λ rest. Ok (line ∷ rest)) ≡ then_more (lines ++ line ∷ []) more
 joined lines line (Ok rest) = ap Ok (sym (append_assoc lines (line ∷ []) rest))
 joined lines line (Err e) = refl
 
 module _ (fields : Fields) (n count : ℕ) (below : n < count) where
   -- a line, and then those after it
-  abbrev and_after : Result OrderedLine Slip → Result (List OrderedLine) Slip
+  abbrev and_after : Result OrderedLine FaultKind → Result (List OrderedLine) FaultKind
   and_after said = said >>= λ line. ordered_lines_at fields (4 + 3 * (n + 1)) (count - (n + 1)) >>= λ rest. Ok (line ∷ rest)
 
   next-line : ordered_lines_at fields (4 + 3 * n) (count - n) ≡ and_after (ordered_line_at fields (4 + 3 * n))
@@ -33,7 +33,7 @@ module _ (fields : Fields) (n count : ℕ) (below : n < count) where
       ap (then_more lines) (next-line ∙ ap and_after (sym is)) ∙ joined lines line (ordered_lines_at fields (4 + 3 * (n + 1)) (count - (n + 1)))
 
   -- a line at fault
-  pub then_more-fault : (lines : List OrderedLine) (e : Slip) → Err e ≡ ordered_line_at fields (4 + 3 * n) → then_more lines (ordered_lines_at fields (4 + 3 * n) (count - n)) ≡ Err e
+  pub then_more-fault : (lines : List OrderedLine) (e : FaultKind) → Err e ≡ ordered_line_at fields (4 + 3 * n) → then_more lines (ordered_lines_at fields (4 + 3 * n) (count - n)) ≡ Err e
   then_more-fault lines e is = ap (then_more lines) (next-line ∙ ap and_after (sym is))
 
 -- no line left

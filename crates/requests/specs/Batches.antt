@@ -6,8 +6,8 @@ use Rattle.records.specs.Records.{records_in}
 use Rattle.requests.specs.declared.batch_record.BatchHead.{BatchHead}
 use Rattle.requests.specs.declared.request.Batch.{Batch}
 use Rattle.requests.specs.declared.request.Request.{Request}
-use Rattle.records.specs.declared.fault.Slip.{Slip}
-use Rattle.records.specs.declared.fault.Slip.TheVariants as slip
+use Rattle.records.specs.declared.fault.FaultKind.{FaultKind}
+use Rattle.records.specs.declared.fault.FaultKind.TheVariants as fault_kind
 use Rattle.records.specs.declared.fault.ReadError.{ReadError}
 use Rattle.records.specs.declared.fault.ReadError.TheVariants as err
 
@@ -17,12 +17,12 @@ pub data End : Type 0 where
   fault : ReadError → End
 
 -- the fault of the record of this number
-abbrev pub fault_of : ℕ → Slip → ReadError
-fault_of n slip.BadField = err.BadField n
-fault_of n slip.WrongCount = err.WrongCount n
-fault_of n slip.OutOfRange = err.OutOfRange n
-fault_of n slip.UnknownKind = err.UnknownKind n
-fault_of n slip.BatchTooLong = err.BatchTooLong n
+abbrev pub fault_of : ℕ → FaultKind → ReadError
+fault_of n fault_kind.BadField = err.BadField n
+fault_of n fault_kind.WrongCount = err.WrongCount n
+fault_of n fault_kind.OutOfRange = err.OutOfRange n
+fault_of n fault_kind.UnknownKind = err.UnknownKind n
+fault_of n fault_kind.BatchTooLong = err.BatchTooLong n
 
 -- the batches, then the end
 abbrev pub Reading : Type 0
@@ -44,12 +44,12 @@ abbrev pub settled : BatchHead → List Request → (Place → Reading) → Read
 settled head requests rest = if length requests == head.count then with_front (batch_of head requests) (rest between) else rest (within head requests)
 
 -- the record of this number begins a batch
-abbrev pub begun : ℕ → Result BatchHead Slip → (Place → Reading) → Reading
+abbrev pub begun : ℕ → Result BatchHead FaultKind → (Place → Reading) → Reading
 begun n (Ok head) rest = settled head [] rest
 begun n (Err e) rest = ([], fault (fault_of n e))
 
 -- the record of this number is the batch's next request
-abbrev pub continued : ℕ → BatchHead → List Request → Result Request Slip → (Place → Reading) → Reading
+abbrev pub continued : ℕ → BatchHead → List Request → Result Request FaultKind → (Place → Reading) → Reading
 continued n head requests (Ok request) rest = settled head (requests ++ request ∷ []) rest
 continued n head requests (Err e) rest = ([], fault (fault_of n e))
 

@@ -3,8 +3,8 @@ use Rattle.std.specs.Prelude.{Bool, ◌==◌, ◌&&◌, ◌+◌, ◌-◌, ◌*�
 use Rattle.csv.specs.Records.{field_at}
 use Rattle.tpcc_rows.specs.Limits.{is_between}
 use Rattle.records.specs.Fields.{Fields, ◌>>=◌, is_text, number_at, text_at}
-use Rattle.records.specs.declared.fault.Slip.{Slip}
-use Rattle.records.specs.declared.fault.Slip.TheVariants as slip
+use Rattle.records.specs.declared.fault.FaultKind.{FaultKind}
+use Rattle.records.specs.declared.fault.FaultKind.TheVariants as fault_kind
 use Rattle.requests.specs.declared.request.CustomerChoice.{CustomerChoice}
 use Rattle.requests.specs.declared.request.CustomerChoice.TheVariants as choice
 use Rattle.requests.specs.declared.request.Delivery.{Delivery}
@@ -23,7 +23,7 @@ abbrev pub has_lines : Fields → Bool
 has_lines fields = is_between 5 15 (line_count fields) && length fields == 4 + 3 * line_count fields
 
 -- `item,supply,quantity` from this place on
-abbrev pub ordered_line_at : Fields → ℕ → Result OrderedLine Slip
+abbrev pub ordered_line_at : Fields → ℕ → Result OrderedLine FaultKind
 ordered_line_at fields i = do
   item ← number_at fields i 1 999999
   supply ← number_at fields (i + 1) 1 100
@@ -31,7 +31,7 @@ ordered_line_at fields i = do
   Ok (record { item = item; supply = supply; quantity = quantity })
 
 -- this number of lines from this place on
-unfoldable pub ordered_lines_at : Fields → ℕ → ℕ → Result (List OrderedLine) Slip
+unfoldable pub ordered_lines_at : Fields → ℕ → ℕ → Result (List OrderedLine) FaultKind
 ordered_lines_at fields i zero = Ok []
 ordered_lines_at fields i (suc n) = do
   line ← ordered_line_at fields i
@@ -39,7 +39,7 @@ ordered_lines_at fields i (suc n) = do
   Ok (line ∷ lines)
 
 -- `N,warehouse,district,customer` and the lines
-unfoldable pub new_order_fields : Fields → Result NewOrder Slip
+unfoldable pub new_order_fields : Fields → Result NewOrder FaultKind
 new_order_fields fields = do
   w ← number_at fields 1 1 100
   d ← number_at fields 2 1 10
@@ -48,14 +48,14 @@ new_order_fields fields = do
   Ok (record { warehouse = w; district = d; customer = c; lines = lines })
 
 -- `I,customer` or `L,last name`: the form, and then the customer
-abbrev pub choice_at : Fields → ℕ → Result CustomerChoice Slip
+abbrev pub choice_at : Fields → ℕ → Result CustomerChoice FaultKind
 choice_at fields i =
     if is_text (codes "I") (field_at fields i) then number_at fields (i + 1) 1 3000 >>= (λ c. Ok (choice.Number c))
     else if is_text (codes "L") (field_at fields i) then text_at fields (i + 1) 16 >>= (λ last. Ok (choice.LastName last))
-    else Err slip.BadField
+    else Err fault_kind.BadField
 
 -- `P,warehouse,district,customer's warehouse,customer's district,form,customer,amount`
-unfoldable pub payment_fields : Fields → Result Payment Slip
+unfoldable pub payment_fields : Fields → Result Payment FaultKind
 payment_fields fields = do
   w ← number_at fields 1 1 100
   d ← number_at fields 2 1 10
@@ -73,7 +73,7 @@ payment_fields fields = do
   })
 
 -- `O,warehouse,district,form,customer`
-unfoldable pub order_status_fields : Fields → Result OrderStatus Slip
+unfoldable pub order_status_fields : Fields → Result OrderStatus FaultKind
 order_status_fields fields = do
   w ← number_at fields 1 1 100
   d ← number_at fields 2 1 10
@@ -81,14 +81,14 @@ order_status_fields fields = do
   Ok (record { warehouse = w; district = d; customer = customer })
 
 -- `D,warehouse,carrier`
-unfoldable pub delivery_fields : Fields → Result Delivery Slip
+unfoldable pub delivery_fields : Fields → Result Delivery FaultKind
 delivery_fields fields = do
   w ← number_at fields 1 1 100
   carrier ← number_at fields 2 1 10
   Ok (record { warehouse = w; carrier = carrier })
 
 -- `S,warehouse,district,threshold`
-unfoldable pub stock_level_fields : Fields → Result StockLevel Slip
+unfoldable pub stock_level_fields : Fields → Result StockLevel FaultKind
 stock_level_fields fields = do
   w ← number_at fields 1 1 100
   d ← number_at fields 2 1 10

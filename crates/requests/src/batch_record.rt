@@ -6,7 +6,7 @@ ghost use Rattle.requests.specs.BatchRecords.{head_at, head_fields, too_long, ve
 
 use crate::request::Verdict;
 use csv::ByteRecord;
-use records::fault::Slip;
+use records::fault::FaultKind;
 use records::fields::{has_text, moment, number_at};
 use tpcc_rows::number::Moment;
 
@@ -22,7 +22,7 @@ pub struct BatchHead {
     pub count: u64,
 }
 
-fn verdict(fields: &ByteRecord, i: usize) -> Result<Verdict, Slip>
+fn verdict(fields: &ByteRecord, i: usize) -> Result<Verdict, FaultKind>
     ensures { result ≡ verdict_of (field_at (fields_of fields.now) i) }
 {
     if has_text(fields, i, b"commit") {
@@ -31,21 +31,21 @@ fn verdict(fields: &ByteRecord, i: usize) -> Result<Verdict, Slip>
     if has_text(fields, i, b"rerun") {
         return Ok(Verdict::Rerun);
     }
-    Err(Slip::BadField)
+    Err(FaultKind::BadField)
 }
 
-fn request_count(fields: &ByteRecord, i: usize) -> Result<u64, Slip>
+fn request_count(fields: &ByteRecord, i: usize) -> Result<u64, FaultKind>
     ensures value { result ≡ too_long (number_at (fields_of fields.now) i 0 1024) }
     ensures range { IfOk result (λ n. n ≤ 1024) }
 {
     match number_at(fields, i, 0, MOST_REQUESTS) {
-        Err(Slip::OutOfRange) => Err(Slip::BatchTooLong),
+        Err(FaultKind::OutOfRange) => Err(FaultKind::BatchTooLong),
         count => count,
     }
 }
 
 #[tactic(auto, unfolding(crate::specs::BatchRecords::head_fields))]
-fn head_parts(fields: &ByteRecord) -> Result<BatchHead, Slip>
+fn head_parts(fields: &ByteRecord) -> Result<BatchHead, FaultKind>
     ensures value { result ≡ head_fields (fields_of fields.now) }
     ensures range { IfOk result (λ head. head.count ≤ 1024) }
 {
@@ -60,15 +60,15 @@ fn head_parts(fields: &ByteRecord) -> Result<BatchHead, Slip>
 }
 
 /// Parses the first record of a batch.
-pub fn batch_head(fields: &ByteRecord) -> Result<BatchHead, Slip>
+pub fn batch_head(fields: &ByteRecord) -> Result<BatchHead, FaultKind>
     ensures value { result ≡ head_at (fields_of fields.now) }
     ensures range { IfOk result (λ head. head.count ≤ 1024) }
 {
     if !has_text(fields, 0, b"B") {
-        return Err(Slip::UnknownKind);
+        return Err(FaultKind::UnknownKind);
     }
     if fields.len() != 4 {
-        return Err(Slip::WrongCount);
+        return Err(FaultKind::WrongCount);
     }
     head_parts(fields)
 }

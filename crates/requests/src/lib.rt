@@ -16,7 +16,7 @@ pub mod request_record;
 pub use batch_reader::BatchReader;
 pub use number::{OrderedQuantity, PaymentAmount, Threshold};
 pub use records::fail_at::FailAt;
-pub use records::fault::{ReadError, Slip};
+pub use records::fault::{FaultKind, ReadError};
 pub use records::io::{Counting, Failed, Sink, Source};
 pub use records::memory_ends::{BytesSink, BytesSource};
 pub use records::slurp::{push_all, slurp};

@@ -10,20 +10,20 @@ use crate::batch_record::{BatchHead, batch_head};
 use crate::request::{Batch, Request, Requests};
 use crate::request_record::request;
 use csv::{ByteRecord, Reader};
-use records::fault::{ReadError, Slip};
+use records::fault::{FaultKind, ReadError};
 use records::reading::next_record;
 use std::alloc::Global;
 
 /// The fault of the record of this number.
-pub fn fault(number: u64, slip: Slip) -> ReadError
-    ensures { result ≡ fault_of number slip }
+pub fn fault(number: u64, kind: FaultKind) -> ReadError
+    ensures { result ≡ fault_of number kind }
 {
-    match slip {
-        Slip::BadField => ReadError::BadField(number),
-        Slip::WrongCount => ReadError::WrongCount(number),
-        Slip::OutOfRange => ReadError::OutOfRange(number),
-        Slip::UnknownKind => ReadError::UnknownKind(number),
-        Slip::BatchTooLong => ReadError::BatchTooLong(number),
+    match kind {
+        FaultKind::BadField => ReadError::BadField(number),
+        FaultKind::WrongCount => ReadError::WrongCount(number),
+        FaultKind::OutOfRange => ReadError::OutOfRange(number),
+        FaultKind::UnknownKind => ReadError::UnknownKind(number),
+        FaultKind::BatchTooLong => ReadError::BatchTooLong(number),
     }
 }
 
@@ -51,7 +51,7 @@ fn read_head(
             *number += 1;
             Ok(Some(head))
         }
-        Err(slip) => Err(fault(*number, slip)),
+        Err(kind) => Err(fault(*number, kind)),
     }
 }
 
@@ -79,7 +79,7 @@ fn read_request(
             *number += 1;
             Ok(request)
         }
-        Err(slip) => Err(fault(*number, slip)),
+        Err(kind) => Err(fault(*number, kind)),
     }
 }
 

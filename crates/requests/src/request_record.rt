@@ -12,7 +12,7 @@ use crate::request::{
 use crate::request_fields::{ordered_quantity, payment_amount, requested_item, threshold};
 use arrayvec::ArrayVec;
 use csv::ByteRecord;
-use records::fault::Slip;
+use records::fault::FaultKind;
 use records::fields::{carrier, customer, district, has_text, text, warehouse};
 
 /// The number of lines of a new order's record: three fields each, after the first four.
@@ -31,7 +31,7 @@ fn has_lines(fields: &ByteRecord) -> bool
 }
 
 /// Parses a line from this place on.
-fn ordered_line(fields: &ByteRecord, i: usize) -> Result<OrderedLine, Slip>
+fn ordered_line(fields: &ByteRecord, i: usize) -> Result<OrderedLine, FaultKind>
     requires { i + 2 < 2 ^ 64 }
     ensures { result ≡ ordered_line_at (fields_of fields.now) i }
 {
@@ -43,7 +43,7 @@ fn ordered_line(fields: &ByteRecord, i: usize) -> Result<OrderedLine, Slip>
 }
 
 /// Parses this number of lines.
-fn ordered_lines(fields: &ByteRecord, count: usize) -> Result<OrderedLines, Slip>
+fn ordered_lines(fields: &ByteRecord, count: usize) -> Result<OrderedLines, FaultKind>
     requires { IsBetween 5 15 count }
     ensures { result ≡ ordered_lines_at (fields_of fields.now) 4 count }
 {
@@ -51,11 +51,11 @@ fn ordered_lines(fields: &ByteRecord, count: usize) -> Result<OrderedLines, Slip
     for number in 0..count {
         lines.push(ordered_line(fields, 4 + 3 * number)?);
     }
-    OrderedLines::new(lines.as_slice()).ok_or(Slip::WrongCount)
+    OrderedLines::new(lines.as_slice()).ok_or(FaultKind::WrongCount)
 }
 
 #[tactic(auto, unfolding(crate::specs::RequestRecords::new_order_fields))]
-fn new_order(fields: &ByteRecord) -> Result<NewOrder, Slip>
+fn new_order(fields: &ByteRecord) -> Result<NewOrder, FaultKind>
     requires { IsBetween 5 15 (line_count (fields_of fields.now)) }
     ensures { result ≡ new_order_fields (fields_of fields.now) }
 {
@@ -68,7 +68,7 @@ fn new_order(fields: &ByteRecord) -> Result<NewOrder, Slip>
 }
 
 /// Parses the choice of a customer: its form, and in the next field the choice.
-fn customer_choice(fields: &ByteRecord, i: usize) -> Result<CustomerChoice, Slip>
+fn customer_choice(fields: &ByteRecord, i: usize) -> Result<CustomerChoice, FaultKind>
     requires { i + 1 < 2 ^ 64 }
     ensures { result ≡ choice_at (fields_of fields.now) i }
 {
@@ -78,11 +78,11 @@ fn customer_choice(fields: &ByteRecord, i: usize) -> Result<CustomerChoice, Slip
     if has_text(fields, i, b"L") {
         return Ok(CustomerChoice::LastName(text(fields, i + 1)?));
     }
-    Err(Slip::BadField)
+    Err(FaultKind::BadField)
 }
 
 #[tactic(auto, unfolding(crate::specs::RequestRecords::payment_fields))]
-fn payment(fields: &ByteRecord) -> Result<Payment, Slip>
+fn payment(fields: &ByteRecord) -> Result<Payment, FaultKind>
     ensures { result ≡ payment_fields (fields_of fields.now) }
 {
     Ok(Payment {
@@ -96,7 +96,7 @@ fn payment(fields: &ByteRecord) -> Result<Payment, Slip>
 }
 
 #[tactic(auto, unfolding(crate::specs::RequestRecords::order_status_fields))]
-fn order_status(fields: &ByteRecord) -> Result<OrderStatus, Slip>
+fn order_status(fields: &ByteRecord) -> Result<OrderStatus, FaultKind>
     ensures { result ≡ order_status_fields (fields_of fields.now) }
 {
     Ok(OrderStatus {
@@ -107,7 +107,7 @@ fn order_status(fields: &ByteRecord) -> Result<OrderStatus, Slip>
 }
 
 #[tactic(auto, unfolding(crate::specs::RequestRecords::delivery_fields))]
-fn delivery(fields: &ByteRecord) -> Result<Delivery, Slip>
+fn delivery(fields: &ByteRecord) -> Result<Delivery, FaultKind>
     ensures { result ≡ delivery_fields (fields_of fields.now) }
 {
     Ok(Delivery {
@@ -117,7 +117,7 @@ fn delivery(fields: &ByteRecord) -> Result<Delivery, Slip>
 }
 
 #[tactic(auto, unfolding(crate::specs::RequestRecords::stock_level_fields))]
-fn stock_level(fields: &ByteRecord) -> Result<StockLevel, Slip>
+fn stock_level(fields: &ByteRecord) -> Result<StockLevel, FaultKind>
     ensures { result ≡ stock_level_fields (fields_of fields.now) }
 {
     Ok(StockLevel {
@@ -128,38 +128,38 @@ fn stock_level(fields: &ByteRecord) -> Result<StockLevel, Slip>
 }
 
 /// Parses a record where a request is expected.
-pub fn request(fields: &ByteRecord) -> Result<Request, Slip>
+pub fn request(fields: &ByteRecord) -> Result<Request, FaultKind>
     ensures { result ≡ request_at (fields_of fields.now) }
 {
     if has_text(fields, 0, b"N") {
         if !has_lines(fields) {
-            return Err(Slip::WrongCount);
+            return Err(FaultKind::WrongCount);
         }
         return Ok(Request::NewOrder(new_order(fields)?));
     }
     if has_text(fields, 0, b"P") {
         if fields.len() != 8 {
-            return Err(Slip::WrongCount);
+            return Err(FaultKind::WrongCount);
         }
         return Ok(Request::Payment(payment(fields)?));
     }
     if has_text(fields, 0, b"O") {
         if fields.len() != 5 {
-            return Err(Slip::WrongCount);
+            return Err(FaultKind::WrongCount);
         }
         return Ok(Request::OrderStatus(order_status(fields)?));
     }
     if has_text(fields, 0, b"D") {
         if fields.len() != 3 {
-            return Err(Slip::WrongCount);
+            return Err(FaultKind::WrongCount);
         }
         return Ok(Request::Delivery(delivery(fields)?));
     }
     if has_text(fields, 0, b"S") {
         if fields.len() != 4 {
-            return Err(Slip::WrongCount);
+            return Err(FaultKind::WrongCount);
         }
         return Ok(Request::StockLevel(stock_level(fields)?));
     }
-    Err(Slip::UnknownKind)
+    Err(FaultKind::UnknownKind)
 }

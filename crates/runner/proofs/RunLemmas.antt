@@ -14,8 +14,8 @@ use Rattle.requests.specs.Batches.{End, Place, Reading, StopsBy, batches, begun,
 use Rattle.records.specs.Fields.{Fields}
 use Rattle.records.specs.Records.{records_in}
 use Rattle.records.specs.declared.fault.ReadError.{ReadError}
-use Rattle.records.specs.declared.fault.Slip.{Slip}
-use Rattle.records.specs.declared.fault.Slip.TheVariants as slip
+use Rattle.records.specs.declared.fault.FaultKind.{FaultKind}
+use Rattle.records.specs.declared.fault.FaultKind.TheVariants as fault_kind
 use Rattle.requests.specs.declared.request.Request.{Request}
 use Rattle.records.specs.Io.{AppendsFront}
 use Rattle.requests.specs.declared.request.Batch.{Batch}
@@ -187,20 +187,20 @@ settled-ends head requests rest h = elim (cases_Bool (length requests == head.co
   | inr more ↦ rw more (h (within head requests))
 ]
 
-slip-ends : (n : ℕ) (s : Slip) → IsOfRecords (fault_of n s)
-slip-ends n slip.BadField = tt
-slip-ends n slip.WrongCount = tt
-slip-ends n slip.OutOfRange = tt
-slip-ends n slip.UnknownKind = tt
-slip-ends n slip.BatchTooLong = tt
+fault_kind-ends : (n : ℕ) (s : FaultKind) → IsOfRecords (fault_of n s)
+fault_kind-ends n fault_kind.BadField = tt
+fault_kind-ends n fault_kind.WrongCount = tt
+fault_kind-ends n fault_kind.OutOfRange = tt
+fault_kind-ends n fault_kind.UnknownKind = tt
+fault_kind-ends n fault_kind.BatchTooLong = tt
 
 begun-ends : (n : ℕ) (r : _) (rest : Place → Reading) → ((p : Place) → EndsByRecords (rest p).1) → EndsByRecords (begun n r rest).1
 begun-ends n (Ok head) rest h = settled-ends head [] rest h
-begun-ends n (Err s) rest h = slip-ends n s
+begun-ends n (Err s) rest h = fault_kind-ends n s
 
-continued-ends : (n : ℕ) (head : _) (requests : List Request) (r : Result Request Slip) (rest : Place → Reading) → ((p : Place) → EndsByRecords (rest p).1) → EndsByRecords (continued n head requests r rest).1
+continued-ends : (n : ℕ) (head : _) (requests : List Request) (r : Result Request FaultKind) (rest : Place → Reading) → ((p : Place) → EndsByRecords (rest p).1) → EndsByRecords (continued n head requests r rest).1
 continued-ends n head requests (Ok request) rest h = settled-ends head (requests ++ request ∷ []) rest h
-continued-ends n head requests (Err s) rest h = slip-ends n s
+continued-ends n head requests (Err s) rest h = fault_kind-ends n s
 
 reading-ends : (rows : List Fields) (n : ℕ) (p : Place) → EndsByRecords (reading_from rows n p).1
 unfolding reading_from

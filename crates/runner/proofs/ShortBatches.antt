@@ -8,8 +8,8 @@ use Rattle.requests.specs.BatchRecords.{head_at, head_fields, request_at, too_lo
 use Rattle.requests.specs.Batches.{Place, Reading, batches, begun, between, continued, reading_from, settled, within}
 use Rattle.records.specs.Fields.{Fields, ◌>>=◌, in_range, is_numeral, is_text, number_at, number_in, said_by}
 use Rattle.records.specs.Records.{records_in}
-use Rattle.records.specs.declared.fault.Slip.{Slip}
-use Rattle.records.specs.declared.fault.Slip.TheVariants as slip
+use Rattle.records.specs.declared.fault.FaultKind.{FaultKind}
+use Rattle.records.specs.declared.fault.FaultKind.TheVariants as fault_kind
 use Rattle.requests.specs.declared.request.Batch.{Batch}
 use Rattle.requests.specs.declared.request.Request.{Request}
 
@@ -19,12 +19,12 @@ IsShortPlace between = Unit {0}
 IsShortPlace (within head requests) = head.count ≤ 1024
 
 -- ---- the record that begins a batch
-bind-ok : {A B : Type 0} (P : B → Type 0) (r : Result A Slip) (f : A → Result B Slip) → ((a : A) → IfOk (f a) P) → IfOk (r >>= f) P
+bind-ok : {A B : Type 0} (P : B → Type 0) (r : Result A FaultKind) (f : A → Result B FaultKind) → ((a : A) → IfOk (f a) P) → IfOk (r >>= f) P
 bind-ok P (Ok a) f h = h a
 bind-ok P (Err e) f h = tt
 
 -- the same, where something is known of what is bound
-bind-known : {A B : Type 0} (Q : A → Type 0) (P : B → Type 0) (r : Result A Slip) (f : A → Result B Slip) → IfOk r Q → ((a : A) → Q a → IfOk (f a) P) → IfOk (r >>= f) P
+bind-known : {A B : Type 0} (Q : A → Type 0) (P : B → Type 0) (r : Result A FaultKind) (f : A → Result B FaultKind) → IfOk r Q → ((a : A) → Q a → IfOk (f a) P) → IfOk (r >>= f) P
 bind-known Q P (Ok a) f known h = h a known
 bind-known Q P (Err e) f known h = tt
 
@@ -44,13 +44,13 @@ said-most : (low high : ℕ) (field : Option (List ℕ)) → IfOk (said_by (numb
 said-most low high None = tt
 said-most low high (Some bytes) = number_in-most low high bytes
 
-too_long-same : (P : ℕ → Type 0) (r : Result ℕ Slip) → IfOk r P → IfOk (too_long r) P
+too_long-same : (P : ℕ → Type 0) (r : Result ℕ FaultKind) → IfOk r P → IfOk (too_long r) P
 too_long-same P (Ok n) h = h
-too_long-same P (Err slip.OutOfRange) h = tt
-too_long-same P (Err slip.BadField) h = tt
-too_long-same P (Err slip.WrongCount) h = tt
-too_long-same P (Err slip.UnknownKind) h = tt
-too_long-same P (Err slip.BatchTooLong) h = tt
+too_long-same P (Err fault_kind.OutOfRange) h = tt
+too_long-same P (Err fault_kind.BadField) h = tt
+too_long-same P (Err fault_kind.WrongCount) h = tt
+too_long-same P (Err fault_kind.UnknownKind) h = tt
+too_long-same P (Err fault_kind.BatchTooLong) h = tt
 
 head_fields-short : (fields : Fields) → IfOk (head_fields fields) (λ head. IsShortPlace (within head []))
 unfolding head_fields
@@ -89,7 +89,7 @@ begun-short : (n : ℕ) (r : _) (rest : Place → Reading) → IfOk r (λ head. 
 begun-short n (Ok head) rest few h = settled-short head [] rest few h
 begun-short n (Err s) rest few h = tt
 
-continued-short : (n : ℕ) (head : _) (requests : List Request) (r : Result Request Slip) (rest : Place → Reading) → IsShortPlace (within head requests) → GivesShort rest → AreShort (continued n head requests r rest).0
+continued-short : (n : ℕ) (head : _) (requests : List Request) (r : Result Request FaultKind) (rest : Place → Reading) → IsShortPlace (within head requests) → GivesShort rest → AreShort (continued n head requests r rest).0
 continued-short n head requests (Ok request) rest few h = settled-short head (requests ++ request ∷ []) rest few h
 continued-short n head requests (Err s) rest few h = tt
 

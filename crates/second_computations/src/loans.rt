@@ -8,7 +8,7 @@ use tpcc_rows::encoding::encode_row;
 use tpcc_rows::footprint::Footprint;
 use tpcc_rows::granule::Granule;
 use tpcc_rows::row_buf::RowBuf;
-use transactions::{ExecError, execute};
+use transactions::{Stop, execute};
 use worker_rows::Loan;
 
 fn push_changes(delta: &Delta, bytes: &mut Vec<u8>) -> Option<()> {
@@ -46,7 +46,7 @@ fn on_loan(
     alloc: Global,
     scene: &Scene,
     footprint: &Footprint,
-) -> Option<Result<(Reply, Delta), ExecError>> {
+) -> Option<Result<(Reply, Delta), Stop>> {
     let Scene {
         database,
         batch,
@@ -95,7 +95,7 @@ fn needless(
     let mut count = 0u32;
     for granule in granules {
         let less = lessened(alloc, footprint, granule, are_read)?;
-        let strays = matches!(on_loan(alloc, scene, &less)?, Err(ExecError::Strayed));
+        let strays = matches!(on_loan(alloc, scene, &less)?, Err(Stop::Strayed));
         count = count.saturating_add(u32::from(!strays));
     }
     Some(count)

@@ -56,7 +56,7 @@ refused_text refusal = text_of_record (refused_fields refusal)
 
 -- `fault,CODE,Name,RECORD`: what is wrong with a record, and its number
 abbrev pub fault_fields : RecordFault → Fields
-fault_fields f = codes "fault" ∷ decimal (code_of (fault_of f.number f.slip)) ∷ name_of (fault_of f.number f.slip) ∷ decimal f.number ∷ []
+fault_fields f = codes "fault" ∷ decimal (code_of (fault_of f.number f.kind)) ∷ name_of (fault_of f.number f.kind) ∷ decimal f.number ∷ []
 
 abbrev pub fault_text : RecordFault → List ℕ
 fault_text f = text_of_record (fault_fields f)

@@ -132,7 +132,7 @@ fn push_fault(fields: &mut ByteRecord, found: RecordFault) -> Result<(), Memory>
     requires { partial_of fields.old ≡ [] }
     ensures { OnOk result (AddsFields fields.old fields.new (fault_fields found)) }
 {
-    let error = fault(found.number, found.slip);
+    let error = fault(found.number, found.kind);
     push(fields, b"fault")?;
     push_number(fields, u64::from(error.code()))?;
     push_fault_name(fields, error)?;

@@ -10,8 +10,8 @@ use Rattle.tpcc_model.specs.Touches.{Agree, touch}
 use Rattle.worker_rows.specs.Views.{View, covers}
 use Rattle.transactions.specs.Lending.{lent}
 use Rattle.transactions.specs.Outcomes.{Executes, IsOutcome}
-use Rattle.transactions.specs.declared.exec_error.ExecError.{ExecError}
-use Rattle.transactions.specs.declared.exec_error.ExecError.TheVariants as exec_error
+use Rattle.transactions.specs.declared.stop.Stop.{Stop}
+use Rattle.transactions.specs.declared.stop.Stop.TheVariants as stop
 use Rattle.transactions.proofs.Covering.{covered_reads}
 use Rattle.tpcc_laws.proofs.Framing.{step_frames}
 use Rattle.transactions.proofs.Lending.{lent_agree}
@@ -47,8 +47,8 @@ module _ (view : View) (cards : Cards) (q : Request) where
           let no : true ≡ false = sym e ∙ sym (ap (covers view) same) ∙ strays in no
 
   -- so what is executed on the rows that are lent is executed on all of them
-  pub executes_within : (number moment : ℕ) (result : Result (Reply × Changes) ExecError) → Executes (covers view (touch part q)) (step part q number moment) result → Executes (covers view (touch whole q)) (step whole q number moment) result
+  pub executes_within : (number moment : ℕ) (result : Result (Reply × Changes) Stop) → Executes (covers view (touch part q)) (step part q number moment) result → Executes (covers view (touch whole q)) (step whole q number moment) result
   executes_within number moment (Ok pair) (within, is) =
       (touch_within within, subst (λ (o : StepOutcome). IsOutcome o pair) (sym (step_within number moment within)) is)
-  executes_within number moment (Err exec_error.Strayed) strays = touch_strays strays
-  executes_within number moment (Err exec_error.Memory) refused = refused
+  executes_within number moment (Err stop.Strayed) strays = touch_strays strays
+  executes_within number moment (Err stop.Memory) refused = refused

@@ -12,7 +12,7 @@ use Rattle.worker_rows.specs.Views.{View, covers}
 use Rattle.transactions.specs.Faults.{AnswersWithin}
 use Rattle.transactions.specs.Lending.{lent}
 use Rattle.transactions.specs.Outcomes.{Executes}
-use Rattle.transactions.specs.declared.exec_error.ExecError.{ExecError}
+use Rattle.transactions.specs.declared.stop.Stop.{Stop}
 use Rattle.transactions.specs.declared.fault.Fault.{Fault}
 
 -- the database of these cards and of the rows that the view lends
@@ -25,5 +25,5 @@ AnswersOn made touch definition cards view result =
     AnswersWithin made (covers view (touch (lent_database cards view))) (definition (lent_database cards view)) result
 
 -- the step's outcome, where what is touched is within the view
-abbrev pub ExecutesOn : (Database → Footprint Granule) → (Database → StepOutcome) → Cards → View → Result (Reply × Changes) ExecError → Type 0
+abbrev pub ExecutesOn : (Database → Footprint Granule) → (Database → StepOutcome) → Cards → View → Result (Reply × Changes) Stop → Type 0
 ExecutesOn touch outcome cards view result = Executes (covers view (touch (lent_database cards view))) (outcome (lent_database cards view)) result

@@ -2,7 +2,6 @@
 #![tactic(auto)]
 
 mod delivery;
-pub mod exec_error;
 mod fault;
 pub mod laws;
 mod lent;
@@ -11,7 +10,8 @@ mod order_line;
 mod order_status;
 mod payment;
 mod stock_level;
+pub mod stop;
 mod transaction;
 
-pub use exec_error::ExecError;
+pub use stop::Stop;
 pub use transaction::execute;

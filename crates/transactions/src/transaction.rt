@@ -8,8 +8,8 @@ ghost use Rattle.transactions.specs.OnViews.{ExecutesOn};
 ghost use Rattle.transactions.specs.Outcomes.{Executes, concluded};
 ghost use Rattle.worker_rows.specs.Views.{covers};
 
-use crate::exec_error::ExecError;
 use crate::fault::Fault;
+use crate::stop::Stop;
 use crate::{delivery, new_order, order_status, payment, stock_level};
 use catalog::Catalog;
 use requests::reply::Reply;
@@ -47,14 +47,14 @@ fn concluded(
     alloc: Global,
     kind: RequestKind,
     answer: Result<(Reply, Delta), Fault>,
-) -> Result<(Reply, Delta), ExecError>
+) -> Result<(Reply, Delta), Stop>
     ensures { result ≡ concluded kind answer }
 {
     match answer {
         Ok(outcome) => Ok(outcome),
         Err(Fault::Refused(refusal)) => Ok((Reply::Refused { kind, refusal }, Delta::new(alloc))),
-        Err(Fault::Strayed) => Err(ExecError::Strayed),
-        Err(Fault::Memory) => Err(ExecError::Memory),
+        Err(Fault::Strayed) => Err(Stop::Strayed),
+        Err(Fault::Memory) => Err(Stop::Memory),
     }
 }
 
@@ -68,7 +68,7 @@ pub fn execute<V: RowView>(
     number: RequestNumber,
     moment: Moment,
     view: &V,
-) -> Result<(Reply, Delta), ExecError>
+) -> Result<(Reply, Delta), Stop>
     ensures { let db = database catalog.now (V.sees view.now).rows in
         Executes (covers (V.sees view.now) (touch db request.now)) (step db request.now number moment) result }
 {

@@ -7,7 +7,7 @@ use tpcc_rows::codes::leaf;
 use tpcc_rows::encoding::encode_row;
 use tpcc_rows::id::{CustomerId, DistrictId, WarehouseId};
 use tpcc_rows::key::RowKey;
-use tpcc_rows::plain::RowStore;
+use tpcc_rows::plain::RowMap;
 use tpcc_rows::row::{Row, fits};
 use tpcc_rows::row_buf::RowBuf;
 
@@ -124,7 +124,7 @@ fn show_changes(rt: &impl Print, alloc: Global, store: &mut PointedStore) -> Opt
     Some(())
 }
 
-fn put(store: &mut RowStore, pair: Pair) -> Option<()> {
+fn put(store: &mut RowMap, pair: Pair) -> Option<()> {
     let (key, row) = pair;
     if fits(&key, &row) {
         store.put(key, row).ok()?;
@@ -145,14 +145,14 @@ const ORDERS: [Columns; 8] = [
 ];
 
 /// Puts rows into a plain store.
-pub fn put_plain(alloc: Global, store: &mut RowStore, rows: &[Columns]) -> Option<()> {
+pub fn put_plain(alloc: Global, store: &mut RowMap, rows: &[Columns]) -> Option<()> {
     for columns in rows {
         put(store, columns.row(alloc)?)?;
     }
     Some(())
 }
 
-fn show_book(rt: &impl Print, store: &RowStore, number: u8) -> Option<()> {
+fn show_book(rt: &impl Print, store: &RowMap, number: u8) -> Option<()> {
     let (warehouse, district) = (WarehouseId::new(1)?, DistrictId::new(number)?);
     let (one, two) = (CustomerId::new(1)?, CustomerId::new(2)?);
     let oldest = number_of(store.oldest_new(warehouse, district));
@@ -162,7 +162,7 @@ fn show_book(rt: &impl Print, store: &RowStore, number: u8) -> Option<()> {
     Some(())
 }
 
-fn show_books(rt: &impl Print, alloc: Global, store: &mut RowStore) -> Option<()> {
+fn show_books(rt: &impl Print, alloc: Global, store: &mut RowMap) -> Option<()> {
     show_book(rt, store, 1)?;
     put_plain(alloc, store, &ORDERS)?;
     show_book(rt, store, 1)?;
@@ -176,5 +176,5 @@ pub fn show(rt: &impl Print, alloc: Global) -> Option<()> {
         alloc,
         &mut store_of(alloc, &[Columns::Warehouse(1, 5)])?,
     )?;
-    show_books(rt, alloc, &mut RowStore::new(alloc))
+    show_books(rt, alloc, &mut RowMap::new(alloc))
 }

@@ -65,7 +65,7 @@ fn put_all(alloc: Global, store: &mut RowStore, rows: &[Columns]) -> Option<()> 
     Some(())
 }
 
-fn show_moved(rt: &impl Print, alloc: Global, plain: plain::RowStore) -> Option<()> {
+fn show_moved(rt: &impl Print, alloc: Global, plain: plain::RowMap) -> Option<()> {
     let count = plain.len();
     let moved = RowStore::from_plain(alloc, plain).ok()?;
     let _ = println!(rt;
@@ -179,7 +179,7 @@ fn show_indexes(rt: &impl Print, alloc: Global, store: &mut RowStore) -> Option<
 }
 
 fn show_plain(rt: &impl Print, alloc: Global) -> Option<()> {
-    let mut plain = plain::RowStore::new(alloc);
+    let mut plain = plain::RowMap::new(alloc);
     put_plain(alloc, &mut plain, &ROWS)?;
     show_moved(rt, alloc, plain)
 }

@@ -55,10 +55,10 @@ returns-in-Err-clause-heard g c =
     (λ new. few-settled c.args.head c.loop.requests (following new c.loop.records.read c.loop.total) few) in
     let n = c.next_record.new.self.read in
     let f = fields_of c.next_record.new.self.fields in
-    let is : request_at f ≡ Err c.in-Err.slip = search rules in
+    let is : request_at f ≡ Err c.in-Err.kind = search rules in
     let row = rw c.in-Some.is at c.in_ok-total.ensures.record in
     let one = rw is at (row place) in
-    then-turns X (λ new. commands_of new c.loop.records.read c.loop.total place) b a d (λ new. with_front (fault_at n c.in-Err.slip) (following new n c.in-Some.total behind)) at one
+    then-turns X (λ new. commands_of new c.loop.records.read c.loop.total place) b a d (λ new. with_front (fault_at n c.in-Err.kind) (following new n c.in-Some.total behind)) at one
 
 pub loop-preserved : goal.loop-preserved
 loop-preserved g c =

@@ -5,14 +5,14 @@ use Rattle.tpcc_rows.specs.RowMap.{Rows}
 use Rattle.tpcc_rows.specs.declared.granule.Granule.{Granule}
 use Rattle.tpcc_model.specs.Touches.{touch}
 use Rattle.transactions.specs.Outcomes.{IsErrorWithin}
-use Rattle.transactions.specs.declared.exec_error.ExecError.{ExecError}
-use Rattle.transactions.specs.declared.exec_error.ExecError.TheVariants as exec_error
+use Rattle.transactions.specs.declared.stop.Stop.{Stop}
+use Rattle.transactions.specs.declared.stop.Stop.TheVariants as stop
 use Rattle.worker_rows.specs.Views.{View, covers}
 use Rattle.worker_rows.proofs.AllCovered.{covers_whole}
 use Rattle.executor.proofs.sequential.executed.Goals as goal
 
 -- on all rows nothing strays
-none_strays : (rows : Rows) (touch : Footprint Granule) (e : ExecError) → e ≡ exec_error.Strayed → IsErrorWithin (let view : View = record { rows = rows; bounds = None } in covers view touch) e → ⊥
+none_strays : (rows : Rows) (touch : Footprint Granule) (e : Stop) → e ≡ stop.Strayed → IsErrorWithin (let view : View = record { rows = rows; bounds = None } in covers view touch) e → ⊥
 none_strays rows touch e is error =
     let view : View = record { rows = rows; bounds = None } in
     let no : true ≡ false = sym (covers_whole rows touch) ∙ subst (IsErrorWithin (covers view touch)) is error in
