@@ -32,6 +32,6 @@ pub fn on_pages(alloc: Global, rows: RowMap) -> Result<PointedStore, Memory>
     ensures clean { IfOk result (λ store. AreClean store.dirty) }
 {
     let list = listed(alloc, rows)?;
-    let store = pages::RowMap::from_rows(alloc, list)?;
+    let store = pages::RowStore::from_rows(alloc, list)?;
     Ok(PointedStore::new(alloc, store))
 }
