@@ -1,6 +1,8 @@
 //! Why execution stops.
 ghost use Rattle.std.specs.Prelude.{◌≡◌};
+ghost use Rattle.transactions.specs.declared.stop.Stop.TheVariants as stop;
 
+use std::alloc::{AllocError, AllocFailed};
 use thiserror::Error;
 use tpcc_rows::memory::Memory;
 
@@ -16,11 +18,25 @@ pub enum Stop {
 }
 
 impl From<Memory> for Stop {
-    ghost use Rattle.transactions.specs.declared.stop.Stop.TheVariants as stop;
-
     ghost from_gives = { λ _ e. e ≡ stop.Memory };
 
     fn from(_: Memory) -> Stop {
+        Stop::Memory
+    }
+}
+
+impl From<AllocError> for Stop {
+    ghost from_gives = { λ _ e. e ≡ stop.Memory };
+
+    fn from(_: AllocError) -> Stop {
+        Stop::Memory
+    }
+}
+
+impl<T: Drop> From<AllocFailed<T>> for Stop {
+    ghost from_gives = { λ _ e. e ≡ stop.Memory };
+
+    fn from(_: AllocFailed<T>) -> Stop {
         Stop::Memory
     }
 }
