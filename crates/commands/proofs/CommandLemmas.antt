@@ -4,7 +4,7 @@ use Rattle.std.specs.Prelude.{◌==◌, nat_lt, option_map}
 use Rattle.std.specs.Io.KnownBytes.{Keeps}
 use Rattle.commands.proofs.RowLemmas.{by-keeps}
 use Rattle.commands.specs.CommandRecords.{names_command, opening_at}
-use Rattle.commands.specs.Commands.{Hearing, Place, StopsBy, begun, between, commands_from, commands_of, ended, settled, told, with_front, within}
+use Rattle.commands.specs.Commands.{Hearing, Progress, StopsBy, begun, between, commands_from, commands_of, ended, settled, told, with_front, within}
 use Rattle.commands.specs.Reader.{Turns, WhereKnown, following, gap, hearing_of}
 use Rattle.commands.specs.Rows.{EndsWithin, IsLonger, Rows, with_row}
 use Rattle.commands.specs.declared.command.Command.TheVariants as command
@@ -18,10 +18,10 @@ use Rattle.requests.specs.declared.batch_record.BatchHead.{BatchHead}
 use Rattle.requests.specs.declared.request.Request.{Request}
 
 -- ---- one record
-module _ (n spent : ℕ) (place : Place) where
+module _ (n spent : ℕ) (progress : Progress) where
   -- it is within its limits
   pub is-told : (old new : Option Rows) (f : Fields) (size total : ℕ) → Turns old new (λ o w. o ≡ with_row (f, size) w) → spent + size ≡ total → total ≤ MOST_BYTES → n + 1 ≤ LAST_RECORD
-      → Turns old new (λ o w. commands_of o n spent place ≡ told (n + 1) place f (following w (n + 1) total))
+      → Turns old new (λ o w. commands_of o n spent progress ≡ told (n + 1) progress f (following w (n + 1) total))
   unfolding commands_from
   is-told None new f size total t sum room early = tt
   is-told (Some o) None f size total t sum room early = absurd t
@@ -32,7 +32,7 @@ module _ (n spent : ℕ) (place : Place) where
 
   -- a session has no number for it
   pub is-late : (old new : Option Rows) (f : Fields) (size total : ℕ) → Turns old new (λ o w. o ≡ with_row (f, size) w) → spent + size ≡ total → total ≤ MOST_BYTES → n ≡ LAST_RECORD
-      → StopsBy err.InputTooLong (hearing_of old n spent place)
+      → StopsBy err.InputTooLong (hearing_of old n spent progress)
   unfolding commands_from
   is-late None new f size total t sum room late = tt
   is-late (Some o) None f size total t sum room late = absurd t
@@ -42,7 +42,7 @@ module _ (n spent : ℕ) (place : Place) where
       inr (inr (rw (t, sum, short, high) refl))
 
   -- there is none
-  pub is-ended : (old : Option Rows) → spent ≤ MOST_BYTES → WhereKnown old (EndsWithin (MOST_BYTES - spent)) → WhereKnown old (λ o. commands_of o n spent place ≡ ended n place)
+  pub is-ended : (old : Option Rows) → spent ≤ MOST_BYTES → WhereKnown old (EndsWithin (MOST_BYTES - spent)) → WhereKnown old (λ o. commands_of o n spent progress ≡ ended n progress)
   unfolding commands_from
   is-ended None room h = tt
   is-ended (Some ([], rest)) room h =
@@ -51,7 +51,7 @@ module _ (n spent : ℕ) (place : Place) where
   is-ended (Some (row ∷ rows, rest)) room h = absurd h
 
   -- it is too long
-  pub is-longer : (old : Option Rows) → spent ≤ MOST_BYTES → WhereKnown old (IsLonger (MOST_BYTES - spent)) → StopsBy err.InputTooLong (hearing_of old n spent place)
+  pub is-longer : (old : Option Rows) → spent ≤ MOST_BYTES → WhereKnown old (IsLonger (MOST_BYTES - spent)) → StopsBy err.InputTooLong (hearing_of old n spent progress)
   unfolding commands_from
   is-longer None room h = tt
   is-longer (Some ([], rest)) room h =
@@ -118,23 +118,23 @@ ended-gap n false = refl
 
 -- ---- the requests of a batch
 module _ (head : BatchHead) (qs : List Request) where
-  pub few-settled : (rest : Place → Hearing) → length qs < head.count → settled head qs rest ≡ rest (within head qs)
+  pub few-settled : (rest : Progress → Hearing) → length qs < head.count → settled head qs rest ≡ rest (within head qs)
   few-settled rest few =
       let more : (length qs == head.count) ≡ false = grind arith in
       rw more refl
 
-  pub all-settled : (rest : Place → Hearing) → length qs ≡ head.count → settled head qs rest ≡ with_front (heard.Command (command.Batch (batch_of head qs))) (rest between)
+  pub all-settled : (rest : Progress → Hearing) → length qs ≡ head.count → settled head qs rest ≡ with_front (heard.Command (command.Batch (batch_of head qs))) (rest between)
   all-settled rest all =
       let whole : (length qs == head.count) ≡ true = grind arith in
       rw whole refl
 
 -- ---- records that are passed over
 module _ (n : ℕ) (f : Fields) where
-  pub told-between : (is_behind : Bool) (rest : Place → Hearing) → is_behind ≡ false → told n (gap is_behind) f rest ≡ begun n (opening_at f) rest
+  pub told-between : (is_behind : Bool) (rest : Progress → Hearing) → is_behind ≡ false → told n (gap is_behind) f rest ≡ begun n (opening_at f) rest
   told-between true rest plain = cc plain
   told-between false rest plain = refl
 
-  pub told-named : (is_behind : Bool) (rest : Place → Hearing) → names_command f ≡ true → told n (gap is_behind) f rest ≡ begun n (opening_at f) rest
+  pub told-named : (is_behind : Bool) (rest : Progress → Hearing) → names_command f ≡ true → told n (gap is_behind) f rest ≡ begun n (opening_at f) rest
   told-named true rest named = rw named refl
   told-named false rest named = refl
 
@@ -143,24 +143,24 @@ module _ (n : ℕ) (f : Fields) where
   told-passed false rows m total passing other = cc passing
 
 -- ---- what ends a reading of records
-module _ (X : List ℕ → Rows) (a b : Option (List ℕ)) (keeps : Keeps a b) (n spent : ℕ) (room : spent ≤ MOST_BYTES) (place : Place) where
+module _ (X : List ℕ → Rows) (a b : Option (List ℕ)) (keeps : Keeps a b) (n spent : ℕ) (room : spent ≤ MOST_BYTES) (progress : Progress) where
   pub stops-scan : (e : ReadError) → (e ≡ err.Memory) ⊎ (e ≡ err.Read) ⊎ ((e ≡ err.InputTooLong) × WhereKnown (option_map X b) (IsLonger (MOST_BYTES - spent)))
-      → StopsBy e (hearing_of (option_map X a) n spent place)
-  stops-scan e (inl memory) = by-ends e (hearing_of (option_map X a) n spent place) (inl memory)
-  stops-scan e (inr (inl read)) = by-ends e (hearing_of (option_map X a) n spent place) (inr read)
+      → StopsBy e (hearing_of (option_map X a) n spent progress)
+  stops-scan e (inl memory) = by-ends e (hearing_of (option_map X a) n spent progress) (inl memory)
+  stops-scan e (inr (inl read)) = by-ends e (hearing_of (option_map X a) n spent progress) (inr read)
   stops-scan e (inr (inr (late, longer))) =
-      rw late (by-keeps X (λ r. StopsBy err.InputTooLong (hearing_of r n spent place)) a b tt keeps (is-longer n spent place (option_map X b) room longer))
+      rw late (by-keeps X (λ r. StopsBy err.InputTooLong (hearing_of r n spent progress)) a b tt keeps (is-longer n spent progress (option_map X b) room longer))
 
-  pub ends-scan : WhereKnown (option_map X b) (EndsWithin (MOST_BYTES - spent)) → WhereKnown (option_map X a) (λ o. commands_of o n spent place ≡ ended n place)
-  ends-scan h = by-keeps X (λ r. WhereKnown r (λ o. commands_of o n spent place ≡ ended n place)) a b tt keeps (is-ended n spent place (option_map X b) room h)
+  pub ends-scan : WhereKnown (option_map X b) (EndsWithin (MOST_BYTES - spent)) → WhereKnown (option_map X a) (λ o. commands_of o n spent progress ≡ ended n progress)
+  ends-scan h = by-keeps X (λ r. WhereKnown r (λ o. commands_of o n spent progress ≡ ended n progress)) a b tt keeps (is-ended n spent progress (option_map X b) room h)
 
   module _ (new : Option Rows) (f : Fields) (total : ℕ) (t : Turns (option_map X b) new (λ o w. o ≡ with_row (f, total - spent) w)) (few : spent ≤ total) (most : total ≤ MOST_BYTES) where
-    pub told-scan : n + 1 ≤ LAST_RECORD → Turns (option_map X a) new (λ o w. commands_of o n spent place ≡ told (n + 1) place f (following w (n + 1) total))
+    pub told-scan : n + 1 ≤ LAST_RECORD → Turns (option_map X a) new (λ o w. commands_of o n spent progress ≡ told (n + 1) progress f (following w (n + 1) total))
     told-scan early =
-        by-keeps X (λ r. Turns r new (λ o w. commands_of o n spent place ≡ told (n + 1) place f (following w (n + 1) total))) a b tt keeps
-        (is-told n spent place (option_map X b) new f (total - spent) total t (omega (arith, few)) most early)
+        by-keeps X (λ r. Turns r new (λ o w. commands_of o n spent progress ≡ told (n + 1) progress f (following w (n + 1) total))) a b tt keeps
+        (is-told n spent progress (option_map X b) new f (total - spent) total t (omega (arith, few)) most early)
 
-    pub late-scan : n ≡ LAST_RECORD → StopsBy err.InputTooLong (hearing_of (option_map X a) n spent place)
+    pub late-scan : n ≡ LAST_RECORD → StopsBy err.InputTooLong (hearing_of (option_map X a) n spent progress)
     late-scan late =
-        by-keeps X (λ r. StopsBy err.InputTooLong (hearing_of r n spent place)) a b tt keeps
-        (is-late n spent place (option_map X b) new f (total - spent) total t (omega (arith, few)) most late)
+        by-keeps X (λ r. StopsBy err.InputTooLong (hearing_of r n spent progress)) a b tt keeps
+        (is-late n spent progress (option_map X b) new f (total - spent) total t (omega (arith, few)) most late)

@@ -9,7 +9,7 @@ use Rattle.csv.specs.Reading.{default_config, records_next, strip_bom}
 use Rattle.csv.specs.declared.parser.State.{State}
 use Rattle.csv.specs.declared.parser.State.TheVariants as at
 use Rattle.commands.specs.CommandRecords.{alone_at, opening_at, rollback_at}
-use Rattle.commands.specs.Commands.{Hearing, Place, behind, begun, between, commands, commands_from, continued, counted, fault_at, measured, numbered, settled, with_front, within}
+use Rattle.commands.specs.Commands.{Hearing, Progress, behind, begun, between, commands, commands_from, continued, counted, fault_at, measured, numbered, settled, with_front, within}
 use Rattle.commands.specs.Laws.{BatchesAreHeard, HearsAlike, RowsAreRecords, as_heard}
 use Rattle.commands.specs.Rows.{Row, rows_from, rows_in}
 use Rattle.commands.specs.declared.command.Control.{Control}
@@ -105,8 +105,8 @@ head-of-other r other = rw other refl
 abbrev Alike : Reading → Hearing → Type 0
 Alike reading hearing = (hearing.1 ≡ fault err.InputTooLong) ⊎ HearsAlike reading hearing
 
--- the place of a run, as one of a session
-abbrev mine : Run.Place → Place
+-- the progress of a run, as one of a session
+abbrev mine : Run.Progress → Progress
 mine Run.between = between
 mine (Run.within head requests) = within head requests
 
@@ -122,7 +122,7 @@ front b reading hearing (inl late) = inl late
 front b (read, clean) hearing (inr is) = inr (ap (λ (h : Hearing). with_front (as_heard b) h) is)
 front b (read, fault e) hearing (inr (rest, is, begins)) = inr (rest, ap (λ (hs : List Heard). as_heard b ∷ hs) is, begins)
 
-module _ (readings : Run.Place → Reading) (hearings : Place → Hearing) (more : (p : Run.Place) → Alike (readings p) (hearings (mine p))) where
+module _ (readings : Run.Progress → Reading) (hearings : Progress → Hearing) (more : (p : Run.Progress) → Alike (readings p) (hearings (mine p))) where
   settled-alike : (head : BatchHead) (qs : List Request) → Alike (Run.settled head qs readings) (settled head qs hearings)
   settled-alike head qs = elim (cases_Bool (length qs == head.count)) [
     | inl whole ↦ rw whole (front (batch_of head qs) (readings Run.between) (hearings between) (more Run.between))
@@ -149,17 +149,17 @@ module _ (readings : Run.Place → Reading) (hearings : Place → Hearing) (more
     | inr other ↦ subst (λ (x : Result BatchHead FaultKind). Alike (Run.begun n x readings) (begun n (opening_at r) hearings)) (sym (head-of-other r other)) (other-alike n (opening_at r) (not-batch r other))
   ]
 
-alike : (rows : List Row) (rest n spent : ℕ) (p : Run.Place) → Alike (reading_from (map (λ row. row.0) rows) (n + 1) p) (commands_from rows rest n spent (mine p))
+alike : (rows : List Row) (rest n spent : ℕ) (p : Run.Progress) → Alike (reading_from (map (λ row. row.0) rows) (n + 1) p) (commands_from rows rest n spent (mine p))
 unfolding commands_from reading_from
 alike [] rest n spent Run.between = measured-alike (spent + rest) ([], clean) ([], clean) (inr refl)
 alike [] rest n spent (Run.within head qs) = measured-alike (spent + rest) ([], fault (err.WrongCount (n + 1))) ([], fault (err.WrongCount (n + 1))) (inr ([], refl, refl))
 alike (row ∷ rows) rest n spent Run.between =
     measured-alike (spent + row.1) _ _ (numbered-alike (n + 1) _ _
-    (begun-alike (reading_from (map (λ row. row.0) rows) (n + 1 + 1)) (λ place. commands_from rows rest (n + 1) (counted (spent + row.1) place) place)
+    (begun-alike (reading_from (map (λ row. row.0) rows) (n + 1 + 1)) (λ progress. commands_from rows rest (n + 1) (counted (spent + row.1) progress) progress)
     (λ p. alike rows rest (n + 1) (counted (spent + row.1) (mine p)) p) (n + 1) row.0))
 alike (row ∷ rows) rest n spent (Run.within head qs) =
     measured-alike (spent + row.1) _ _ (numbered-alike (n + 1) _ _
-    (continued-alike (reading_from (map (λ row. row.0) rows) (n + 1 + 1)) (λ place. commands_from rows rest (n + 1) (counted (spent + row.1) place) place)
+    (continued-alike (reading_from (map (λ row. row.0) rows) (n + 1 + 1)) (λ progress. commands_from rows rest (n + 1) (counted (spent + row.1) progress) progress)
     (λ p. alike rows rest (n + 1) (counted (spent + row.1) (mine p)) p) (n + 1) head qs (request_at row.0)))
 
 pub batches_are_heard : BatchesAreHeard

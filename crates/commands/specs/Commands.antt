@@ -27,44 +27,44 @@ with_front h hearing = (h ∷ hearing.0, hearing.1)
 
 -- between commands, within a batch after these requests, or behind a fault, where records are skipped up to the next that names a
 -- command
-pub data Place : Type 0 where
-  between : Place
-  within : BatchHead → List Request → Place
-  behind : Place
+pub data Progress : Type 0 where
+  between : Progress
+  within : BatchHead → List Request → Progress
+  behind : Progress
 
 -- the fault of the record of this number
 abbrev pub fault_at : ℕ → FaultKind → Heard
 fault_at n fault_kind = heard.Fault (record { number = n; kind = fault_kind })
 
 -- a batch with all its requests is complete, and reading continues behind it
-abbrev pub settled : BatchHead → List Request → (Place → Hearing) → Hearing
+abbrev pub settled : BatchHead → List Request → (Progress → Hearing) → Hearing
 settled head requests rest =
     if length requests == head.count then with_front (heard.Command (command.Batch (batch_of head requests))) (rest between)
     else rest (within head requests)
 
 -- a record that begins or is a command
-abbrev pub opened : Opening → (Place → Hearing) → Hearing
+abbrev pub opened : Opening → (Progress → Hearing) → Hearing
 opened (opening.Batch head) rest = settled head [] rest
 opened (opening.Control c) rest = with_front (heard.Command (command.Control c)) (rest between)
 
 -- the record of this number begins a command, or is faulty
-abbrev pub begun : ℕ → Result Opening FaultKind → (Place → Hearing) → Hearing
+abbrev pub begun : ℕ → Result Opening FaultKind → (Progress → Hearing) → Hearing
 begun n (Ok first) rest = opened first rest
 begun n (Err fault_kind) rest = with_front (fault_at n fault_kind) (rest behind)
 
 -- the record of this number is the batch's next request, or faulty: then the batch is dropped
-abbrev pub continued : ℕ → BatchHead → List Request → Result Request FaultKind → (Place → Hearing) → Hearing
+abbrev pub continued : ℕ → BatchHead → List Request → Result Request FaultKind → (Progress → Hearing) → Hearing
 continued n head requests (Ok request) rest = settled head (requests ++ request ∷ []) rest
 continued n head requests (Err fault_kind) rest = with_front (fault_at n fault_kind) (rest behind)
 
--- the meaning of the record of this number, by place
-abbrev pub told : ℕ → Place → Fields → (Place → Hearing) → Hearing
+-- the meaning of the record of this number, by progress
+abbrev pub told : ℕ → Progress → Fields → (Progress → Hearing) → Hearing
 told n between r rest = begun n (opening_at r) rest
 told n (within head requests) r rest = continued n head requests (request_at r) rest
 told n behind r rest = if names_command r then begun n (opening_at r) rest else rest behind
 
 -- no record follows the one of this number
-abbrev pub ended : ℕ → Place → Hearing
+abbrev pub ended : ℕ → Progress → Hearing
 ended n between = ([], clean)
 ended n (within head requests) = ([], fault (err.WrongCount (n + 1)))
 ended n behind = ([], clean)
@@ -77,21 +77,21 @@ measured size hearing = if nat_lt MOST_BYTES size then ([], fault err.InputTooLo
 abbrev pub numbered : ℕ → Hearing → Hearing
 numbered n hearing = if nat_lt LAST_RECORD n then ([], fault err.InputTooLong) else hearing
 
--- the bytes that count at a place: those of an incomplete batch
-abbrev pub counted : ℕ → Place → ℕ
+-- the bytes that count at a progress: those of an incomplete batch
+abbrev pub counted : ℕ → Progress → ℕ
 counted size between = 0
 counted size (within head requests) = size
 counted size behind = 0
 
 -- the commands of these records, behind the one of this number and this many bytes of a command; this many bytes follow the last record
-unfoldable pub commands_from : List Row → ℕ → ℕ → ℕ → Place → Hearing
-commands_from [] rest n spent place = measured (spent + rest) (ended n place)
-commands_from (row ∷ rows) rest n spent place =
-    measured (spent + row.1) (numbered (n + 1) (told (n + 1) place row.0 (λ next. commands_from rows rest (n + 1) (counted (spent + row.1) next) next)))
+unfoldable pub commands_from : List Row → ℕ → ℕ → ℕ → Progress → Hearing
+commands_from [] rest n spent progress = measured (spent + rest) (ended n progress)
+commands_from (row ∷ rows) rest n spent progress =
+    measured (spent + row.1) (numbered (n + 1) (told (n + 1) progress row.0 (λ next. commands_from rows rest (n + 1) (counted (spent + row.1) next) next)))
 
 -- the same for records with the bytes behind them
-abbrev pub commands_of : Rows → ℕ → ℕ → Place → Hearing
-commands_of rows n spent place = commands_from rows.0 rows.1 n spent place
+abbrev pub commands_of : Rows → ℕ → ℕ → Progress → Hearing
+commands_of rows n spent progress = commands_from rows.0 rows.1 n spent progress
 
 -- the commands of a text, whose records are numbered from 1
 abbrev pub commands : List ℕ → Hearing

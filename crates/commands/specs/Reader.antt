@@ -1,7 +1,7 @@
 -- What a reader of commands has yet to give.
 use Rattle.std.specs.Io.KnownBytes.{prepend_known}
 use Rattle.std.specs.Prelude.{◌≤◌, ℕ, Bool, true, false, List, [], Option, Some, None, drop, take, option_map, if◌then◌else◌}
-use Rattle.commands.specs.Commands.{CommandsLeft, Hearing, Place, behind, between, commands_of, counted}
+use Rattle.commands.specs.Commands.{CommandsLeft, Hearing, Progress, behind, between, commands_of, counted}
 use Rattle.commands.specs.Rows.{Rows, rows_from}
 use Rattle.commands.specs.Machine.{state_of}
 use Rattle.commands.specs.declared.chunk.Chunk.{Chunk}
@@ -55,20 +55,20 @@ WhereKnown (Some a) P = P a
 
 -- ---- commands
 -- the commands of these records
-abbrev pub hearing_of : Option Rows → ℕ → ℕ → Place → Option Hearing
-hearing_of rows n spent place = option_map (λ rs. commands_of rs n spent place) rows
+abbrev pub hearing_of : Option Rows → ℕ → ℕ → Progress → Option Hearing
+hearing_of rows n spent progress = option_map (λ rs. commands_of rs n spent progress) rows
 
 -- the commands of these records, behind the one of this number, which ends this many bytes of a command
-abbrev pub following : Rows → ℕ → ℕ → Place → Hearing
-following rows n spent place = commands_of rows n (counted spent place) place
+abbrev pub following : Rows → ℕ → ℕ → Progress → Hearing
+following rows n spent progress = commands_of rows n (counted spent progress) progress
 
--- the place of a reader between commands
-abbrev pub gap : Bool → Place
+-- the progress of a reader between commands
+abbrev pub gap : Bool → Progress
 gap true = behind
 gap false = between
 
 -- the same after what was heard
-abbrev pub gap_after : Heard → Place
+abbrev pub gap_after : Heard → Progress
 gap_after (heard.Command c) = between
 gap_after (heard.Fault f) = behind
 

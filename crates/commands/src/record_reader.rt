@@ -1,7 +1,7 @@
 //! Reads the records of a text, as its bytes come.
 ghost use Rattle.std.specs.Prelude.{◌≡◌, ◌⊎◌, ◌+◌, ◌-◌, ◌<◌, ◌≤◌, ◌^◌, ◌++◌, ◌∷◌, [], ℕ, List, Option, true, IfErr, IfNone, IfOk, IfSome, OnOk, OnSome, if◌then◌else◌, is_ok, option_map};
 ghost use Rattle.std.specs.Io.KnownBytes.{Keeps};
-ghost use Rattle.commands.specs.Commands.{Place, StopsBy, commands_of, ended, is_read, told};
+ghost use Rattle.commands.specs.Commands.{Progress, StopsBy, commands_of, ended, is_read, told};
 ghost use Rattle.commands.specs.Machine.{state_of};
 ghost use Rattle.commands.specs.Reader.{Turns, WhereKnown, bytes_left, following, hearing_of, pulled, rows_left, rows_pulled};
 ghost use Rattle.commands.specs.Rows.{EndsWithin, IsLonger, rows_in, with_row};
@@ -184,18 +184,18 @@ impl RecordReader {
         requires numbers { self.old.read ≤ LAST_RECORD }
         requires room { spent ≤ MOST_BYTES }
         requires count { S.failed source.old < 2 ^ 63 }
-        ensures record { IfOk result (λ o. IfSome o (λ total. (place : Place)
+        ensures record { IfOk result (λ o. IfSome o (λ total. (progress : Progress)
             → Turns (rows_left self.old (S.left source.old)) (rows_left self.new (S.left source.new))
-            (λ old new. commands_of old self.old.read spent place
-            ≡ told self.new.read place (fields_of self.new.fields) (following new self.new.read total)))) }
+            (λ old new. commands_of old self.old.read spent progress
+            ≡ told self.new.read progress (fields_of self.new.fields) (following new self.new.read total)))) }
         ensures room { IfOk result (λ o. IfSome o (λ total. total ≤ MOST_BYTES)) }
         ensures further { IfOk result (λ o. OnSome o (self.new.read ≡ self.old.read + 1)) }
         ensures numbers { self.new.read ≤ LAST_RECORD }
-        ensures end { IfOk result (λ o. IfNone o ((place : Place)
-            → WhereKnown (rows_left self.old (S.left source.old)) (λ old. commands_of old self.old.read spent place ≡ ended self.old.read place))) }
+        ensures end { IfOk result (λ o. IfNone o ((progress : Progress)
+            → WhereKnown (rows_left self.old (S.left source.old)) (λ old. commands_of old self.old.read spent progress ≡ ended self.old.read progress))) }
         ensures none { IfOk result (λ o. IfNone o (self.new.read ≡ self.old.read)) }
-        ensures err { IfErr result (λ e. (place : Place)
-            → StopsBy e (hearing_of (rows_left self.old (S.left source.old)) self.old.read spent place)) }
+        ensures err { IfErr result (λ e. (progress : Progress)
+            → StopsBy e (hearing_of (rows_left self.old (S.left source.old)) self.old.read spent progress)) }
         ensures failures { S.failed source.new ≡ S.failed source.old + (if is_read result then 1 else 0) }
     {
         if self.begin(source).is_err() {

@@ -31,30 +31,30 @@ Reading = List Batch × End
 abbrev pub with_front : Batch → Reading → Reading
 with_front batch reading = (batch ∷ reading.0, reading.1)
 
--- between batches, or within one after these requests
-pub data Place : Type 0 where
-  between : Place
-  within : BatchHead → List Request → Place
+-- how far reading is: between batches, or within one, after these requests
+pub data Progress : Type 0 where
+  between : Progress
+  within : BatchHead → List Request → Progress
 
 abbrev pub batch_of : BatchHead → List Request → Batch
 batch_of head requests = record { moment = head.moment; verdict = head.verdict; requests = requests }
 
 -- a batch with all its requests is complete, and reading continues behind it
-abbrev pub settled : BatchHead → List Request → (Place → Reading) → Reading
+abbrev pub settled : BatchHead → List Request → (Progress → Reading) → Reading
 settled head requests rest = if length requests == head.count then with_front (batch_of head requests) (rest between) else rest (within head requests)
 
 -- the record of this number begins a batch
-abbrev pub begun : ℕ → Result BatchHead FaultKind → (Place → Reading) → Reading
+abbrev pub begun : ℕ → Result BatchHead FaultKind → (Progress → Reading) → Reading
 begun n (Ok head) rest = settled head [] rest
 begun n (Err e) rest = ([], fault (fault_of n e))
 
 -- the record of this number is the batch's next request
-abbrev pub continued : ℕ → BatchHead → List Request → Result Request FaultKind → (Place → Reading) → Reading
+abbrev pub continued : ℕ → BatchHead → List Request → Result Request FaultKind → (Progress → Reading) → Reading
 continued n head requests (Ok request) rest = settled head (requests ++ request ∷ []) rest
 continued n head requests (Err e) rest = ([], fault (fault_of n e))
 
 -- the batches of these records, numbered from this one on
-unfoldable pub reading_from : List Fields → ℕ → Place → Reading
+unfoldable pub reading_from : List Fields → ℕ → Progress → Reading
 reading_from [] n between = ([], clean)
 reading_from [] n (within head requests) = ([], fault (err.WrongCount n))
 reading_from (r ∷ rs) n between = begun n (head_at r) (reading_from rs (n + 1))

@@ -2,7 +2,7 @@
 use Rattle.std.specs.Prelude.{◌+◌, ◌<◌, ◌^◌, ℕ, List, [], length, Option, Some, None}
 use Rattle.std.specs.Borrow.{Bor}
 use Rattle.csv.specs.declared.reader.Reader.{Reader}
-use Rattle.requests.specs.Batches.{BatchesLeft, Place, Reading, between, clean, fault, reading_from}
+use Rattle.requests.specs.Batches.{BatchesLeft, Progress, Reading, between, clean, fault, reading_from}
 use Rattle.records.specs.Records.{IsGoing, records_left}
 use Rattle.records.specs.declared.fault.ReadError.{ReadError}
 use Rattle.requests.specs.declared.batch_reader.Standing.{Standing}
@@ -10,7 +10,7 @@ use Rattle.requests.specs.declared.batch_reader.Standing.TheVariants as standing
 use Rattle.requests.specs.declared.batch_reader.BatchReader.TheInside.{Inside}
 
 -- the batches of the remaining records, numbered from this one on
-abbrev pub left_at : Reader (Bor (List ℕ)) → ℕ → Place → Reading
+abbrev pub left_at : Reader (Bor (List ℕ)) → ℕ → Progress → Reading
 left_at reader number = reading_from (records_left reader) number
 
 abbrev pub left_by : Standing → Reading → Reading

@@ -22,7 +22,7 @@ line_count fields = (length fields - 4) / 3
 abbrev pub has_lines : Fields → Bool
 has_lines fields = is_between 5 15 (line_count fields) && length fields == 4 + 3 * line_count fields
 
--- `item,supply,quantity` from this place on
+-- `item,supply,quantity` from this field on
 abbrev pub ordered_line_at : Fields → ℕ → Result OrderedLine FaultKind
 ordered_line_at fields i = do
   item ← number_at fields i 1 999999
@@ -30,7 +30,7 @@ ordered_line_at fields i = do
   quantity ← number_at fields (i + 2) 1 10
   Ok (record { item = item; supply = supply; quantity = quantity })
 
--- this number of lines from this place on
+-- this number of lines from this field on
 unfoldable pub ordered_lines_at : Fields → ℕ → ℕ → Result (List OrderedLine) FaultKind
 ordered_lines_at fields i zero = Ok []
 ordered_lines_at fields i (suc n) = do

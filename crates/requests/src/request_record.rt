@@ -30,7 +30,7 @@ fn has_lines(fields: &ByteRecord) -> bool
     5 <= count && count <= 15 && fields.len() == 4 + 3 * count
 }
 
-/// Parses a line from this place on.
+/// Parses a line from this field on.
 fn ordered_line(fields: &ByteRecord, i: usize) -> Result<OrderedLine, FaultKind>
     requires { i + 2 < 2 ^ 64 }
     ensures { result ≡ ordered_line_at (fields_of fields.now) i }

@@ -10,7 +10,7 @@ use Rattle.executor.specs.Lines.{Line, committed, extended}
 use Rattle.executor.specs.States.{IsSoundState}
 use Rattle.executor.specs.declared.refusal.Refusal.TheVariants as refusal
 use Rattle.requests.specs.BatchRecords.{head_at, request_at}
-use Rattle.requests.specs.Batches.{End, Place, Reading, StopsBy, batches, begun, between, clean, continued, fault, fault_of, reading_from, settled, with_front, within}
+use Rattle.requests.specs.Batches.{End, Progress, Reading, StopsBy, batches, begun, between, clean, continued, fault, fault_of, reading_from, settled, with_front, within}
 use Rattle.records.specs.Fields.{Fields}
 use Rattle.records.specs.Records.{records_in}
 use Rattle.records.specs.declared.fault.ReadError.{ReadError}
@@ -181,7 +181,7 @@ abbrev pub EndsByRecords : End → Type 0
 EndsByRecords clean = Unit {0}
 EndsByRecords (fault e) = IsOfRecords e
 
-settled-ends : (head : _) (requests : List Request) (rest : Place → Reading) → ((p : Place) → EndsByRecords (rest p).1) → EndsByRecords (settled head requests rest).1
+settled-ends : (head : _) (requests : List Request) (rest : Progress → Reading) → ((p : Progress) → EndsByRecords (rest p).1) → EndsByRecords (settled head requests rest).1
 settled-ends head requests rest h = elim (cases_Bool (length requests == head.count)) [
   | inl whole ↦ rw whole (h between)
   | inr more ↦ rw more (h (within head requests))
@@ -194,15 +194,15 @@ fault_kind-ends n fault_kind.OutOfRange = tt
 fault_kind-ends n fault_kind.UnknownKind = tt
 fault_kind-ends n fault_kind.BatchTooLong = tt
 
-begun-ends : (n : ℕ) (r : _) (rest : Place → Reading) → ((p : Place) → EndsByRecords (rest p).1) → EndsByRecords (begun n r rest).1
+begun-ends : (n : ℕ) (r : _) (rest : Progress → Reading) → ((p : Progress) → EndsByRecords (rest p).1) → EndsByRecords (begun n r rest).1
 begun-ends n (Ok head) rest h = settled-ends head [] rest h
 begun-ends n (Err s) rest h = fault_kind-ends n s
 
-continued-ends : (n : ℕ) (head : _) (requests : List Request) (r : Result Request FaultKind) (rest : Place → Reading) → ((p : Place) → EndsByRecords (rest p).1) → EndsByRecords (continued n head requests r rest).1
+continued-ends : (n : ℕ) (head : _) (requests : List Request) (r : Result Request FaultKind) (rest : Progress → Reading) → ((p : Progress) → EndsByRecords (rest p).1) → EndsByRecords (continued n head requests r rest).1
 continued-ends n head requests (Ok request) rest h = settled-ends head (requests ++ request ∷ []) rest h
 continued-ends n head requests (Err s) rest h = fault_kind-ends n s
 
-reading-ends : (rows : List Fields) (n : ℕ) (p : Place) → EndsByRecords (reading_from rows n p).1
+reading-ends : (rows : List Fields) (n : ℕ) (p : Progress) → EndsByRecords (reading_from rows n p).1
 unfolding reading_from
 reading-ends [] n between = tt
 reading-ends [] n (within head requests) = tt

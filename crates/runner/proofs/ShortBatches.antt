@@ -5,7 +5,7 @@ use Rattle.std.proofs.lemmas.Bool.{cases_Bool}
 use Rattle.std.specs.Str.Parse.{digits_value}
 use Rattle.csv.specs.Records.{field_at}
 use Rattle.requests.specs.BatchRecords.{head_at, head_fields, request_at, too_long, verdict_of}
-use Rattle.requests.specs.Batches.{Place, Reading, batches, begun, between, continued, reading_from, settled, within}
+use Rattle.requests.specs.Batches.{Progress, Reading, batches, begun, between, continued, reading_from, settled, within}
 use Rattle.records.specs.Fields.{Fields, ◌>>=◌, in_range, is_numeral, is_text, number_at, number_in, said_by}
 use Rattle.records.specs.Records.{records_in}
 use Rattle.records.specs.declared.fault.FaultKind.{FaultKind}
@@ -14,9 +14,9 @@ use Rattle.requests.specs.declared.request.Batch.{Batch}
 use Rattle.requests.specs.declared.request.Request.{Request}
 
 -- where a batch is being read, its head's count is within the limit
-abbrev IsShortPlace : Place → Type 0
-IsShortPlace between = Unit {0}
-IsShortPlace (within head requests) = head.count ≤ 1024
+abbrev IsShortProgress : Progress → Type 0
+IsShortProgress between = Unit {0}
+IsShortProgress (within head requests) = head.count ≤ 1024
 
 -- ---- the record that begins a batch
 bind-ok : {A B : Type 0} (P : B → Type 0) (r : Result A FaultKind) (f : A → Result B FaultKind) → ((a : A) → IfOk (f a) P) → IfOk (r >>= f) P
@@ -52,14 +52,14 @@ too_long-same P (Err fault_kind.WrongCount) h = tt
 too_long-same P (Err fault_kind.UnknownKind) h = tt
 too_long-same P (Err fault_kind.BatchTooLong) h = tt
 
-head_fields-short : (fields : Fields) → IfOk (head_fields fields) (λ head. IsShortPlace (within head []))
+head_fields-short : (fields : Fields) → IfOk (head_fields fields) (λ head. IsShortProgress (within head []))
 unfolding head_fields
 head_fields-short fields =
     bind-ok _ (number_at fields 1 0 999999999999) _ (λ moment.
     bind-ok _ (verdict_of (field_at fields 2)) _ (λ verdict.
     bind-known (λ n. n ≤ 1024) _ (too_long (number_at fields 3 0 1024)) _ (too_long-same (λ n. n ≤ 1024) (number_at fields 3 0 1024) (said-most 0 1024 (field_at fields 3))) (λ count most. most)))
 
-head-short : (fields : Fields) → IfOk (head_at fields) (λ head. IsShortPlace (within head []))
+head-short : (fields : Fields) → IfOk (head_at fields) (λ head. IsShortProgress (within head []))
 head-short fields = elim (cases_Bool (is_text (codes "B") (field_at fields 0))) [
   | inl begins ↦ rw begins (elim (cases_Bool (length fields == 4)) [
     | inl whole ↦ rw whole (head_fields-short fields)
@@ -76,24 +76,24 @@ abbrev pub AreShort : List Batch → Type 0
 AreShort [] = Unit {0}
 AreShort (batch ∷ batches) = IsShort batch × AreShort batches
 
-abbrev GivesShort : (Place → Reading) → Type 0
-GivesShort rest = (p : Place) → IsShortPlace p → AreShort (rest p).0
+abbrev GivesShort : (Progress → Reading) → Type 0
+GivesShort rest = (p : Progress) → IsShortProgress p → AreShort (rest p).0
 
-settled-short : (head : _) (requests : List Request) (rest : Place → Reading) → IsShortPlace (within head requests) → GivesShort rest → AreShort (settled head requests rest).0
+settled-short : (head : _) (requests : List Request) (rest : Progress → Reading) → IsShortProgress (within head requests) → GivesShort rest → AreShort (settled head requests rest).0
 settled-short head requests rest few h = elim (cases_Bool (length requests == head.count)) [
   | inl whole ↦ let short : length requests ≤ 1024 = grind arith in rw whole (short, h between tt)
   | inr more ↦ rw more (h (within head requests) few)
 ]
 
-begun-short : (n : ℕ) (r : _) (rest : Place → Reading) → IfOk r (λ head. IsShortPlace (within head [])) → GivesShort rest → AreShort (begun n r rest).0
+begun-short : (n : ℕ) (r : _) (rest : Progress → Reading) → IfOk r (λ head. IsShortProgress (within head [])) → GivesShort rest → AreShort (begun n r rest).0
 begun-short n (Ok head) rest few h = settled-short head [] rest few h
 begun-short n (Err s) rest few h = tt
 
-continued-short : (n : ℕ) (head : _) (requests : List Request) (r : Result Request FaultKind) (rest : Place → Reading) → IsShortPlace (within head requests) → GivesShort rest → AreShort (continued n head requests r rest).0
+continued-short : (n : ℕ) (head : _) (requests : List Request) (r : Result Request FaultKind) (rest : Progress → Reading) → IsShortProgress (within head requests) → GivesShort rest → AreShort (continued n head requests r rest).0
 continued-short n head requests (Ok request) rest few h = settled-short head (requests ++ request ∷ []) rest few h
 continued-short n head requests (Err s) rest few h = tt
 
-reading-short : (rows : List Fields) (n : ℕ) (p : Place) → IsShortPlace p → AreShort (reading_from rows n p).0
+reading-short : (rows : List Fields) (n : ℕ) (p : Progress) → IsShortProgress p → AreShort (reading_from rows n p).0
 unfolding reading_from
 reading-short [] n between few = tt
 reading-short [] n (within head requests) few = tt
