@@ -42,7 +42,7 @@ unfolding texts_at
 texts_end so_far fields i count none = rw none (ap Ok (append-nil so_far))
 
 -- a record's fault, as the code hands it on
-pub read_fault : {A : Type 0} (definition : Result A FaultKind) (result : Result A RecordFault) (e : FaultKind) → definition ≡ Err e → IsErrAnd result (λ fault. fault ≡ record_fault.FaultKind e) → Reads definition result
+pub read_fault : {A : Type 0} (definition : Result A FaultKind) (result : Result A RecordFault) (e : FaultKind) → definition ≡ Err e → IsErrAnd result (λ fault. fault ≡ record_fault.OfKind e) → Reads definition result
 read_fault definition (Ok x) e is by = absurd by
 read_fault definition (Err fault) e is by = subst (IsFaultOf definition) (sym by) is
 

@@ -51,7 +51,7 @@ fault_of n fault_kind.BatchTooLong = err.BadRecord n
 
 -- a record's fault is the definition's; memory may be refused at any time
 abbrev pub IsFaultOf : {A : Type 0} → Result A FaultKind → RecordFault → Type 0
-IsFaultOf definition (record_fault.FaultKind e) = definition ≡ Err e
+IsFaultOf definition (record_fault.OfKind e) = definition ≡ Err e
 IsFaultOf definition record_fault.Memory = Unit {0}
 
 -- what is read of a record is what the definition says, where memory isn't refused
