@@ -1,4 +1,4 @@
--- Districts that pass the tests are consistent.
+-- Districts that pass the checks are consistent.
 use Rattle.std.proofs.Common.{◌≡◌, inl, inr, ℕ, ◌+◌, ◌-◌, ℤ, pos, cond, Bool, true, false, ◌==◌, ◌&&◌, List, [], ◌∷◌, Option, Some, None, unwrap_or, refl, sym, ap, ap₂, ◌∙◌, arith}
 use Rattle.std.specs.Option.{option_map_or}
 use Rattle.std.specs.FinMap.{get}
@@ -27,7 +27,7 @@ some-least : (xs : List ℕ) (x : ℕ) → Has xs x → (n : ℕ) × (least xs �
 some-least [] x has = absurd has
 some-least (y ∷ ys) x has = (lesser y (least ys), refl)
 
--- the list has these numbers and no others
+-- the list holds exactly these numbers
 pub record AreNumbers (xs : List ℕ) (P : ℕ → Type 0) : Type 0 where
   pub all : (n : ℕ) → P n → Has xs n
   pub only : (n : ℕ) → Has xs n → P n
@@ -110,7 +110,7 @@ module _ (rows : Rows) (w d : ℕ) where
       (Decides-int_eq (pos (high - low + 1)) count).0
       (sym (ap₂ (λ l h. are_without_gap l h count) (of-least new_orders low lowest) (of-greatest new_orders high highest)) ∙ test)
 
--- rows that pass the tests are consistent, whatever else they have
+-- rows that pass the checks are consistent
 pub consistent : (rows : Rows) → next_orders_agree rows ≡ true → spans_agree rows ≡ true → line_counts_agree rows ≡ true
     → (w d : ℕ) (r : DistrictNextRow) → get rows (key.DistrictNext w d) ≡ Some (row.DistrictNext r) → IsConsistent rows w d r.next_order
 unfolding next_orders_agree spans_agree line_counts_agree

@@ -1,4 +1,4 @@
--- The sums of the districts of each warehouse, as they are added up.
+-- The sums of each warehouse's districts, row by row.
 use Rattle.std.proofs.Common.{◌≡◌, ℕ, zero, suc, add-one, ◌*◌, ◌+◌, ◌-◌, ◌<◌, ◌^◌, ℤ, pos, ◌+ℤ◌, ◌-ℤ◌, ◌≤ℤ◌, cond, true, false, ◌==◌, List, [], ◌∷◌, length, get_or, refl, sym, ap, ◌∙◌, arith}
 use Rattle.std.proofs.lemmas.Int.{ints}
 use Rattle.std.proofs.Math.ListN.{replicate}
@@ -17,7 +17,7 @@ near_share v w z h = elim (v == w) as (λ b. IsCents (cond b z (pos 0))) [
   | false ↦ (omega (arith, ints), omega (arith, ints))
 ]
 
--- one amount more keeps a sum near
+-- one more amount keeps a sum within limits
 nearer : (m n : ℕ) (old new z : ℤ) → n ≡ m + 1 → IsCents z → new ≡ old +ℤ z → (pos 0 -ℤ pos (m * 1000000000000000)) ≤ℤ old → old ≤ℤ pos (m * 1000000000000000)
     → ((pos 0 -ℤ pos (n * 1000000000000000)) ≤ℤ new) × (new ≤ℤ pos (n * 1000000000000000))
 nearer m n old new z e h is low high =
@@ -36,7 +36,7 @@ zeros = replicate 101 (pos 0)
 pub zeros_within : (n : ℕ) → AreWithin n zeros
 zeros_within n w below = rw (get_or-zeros 101 w) (omega (arith, ints), omega (arith, ints))
 
--- before the first row, all of them are left
+-- at the start all rows are left
 pub none_added : (left : List (RowKey × Row)) (rows : Rows) → left ≡ entries rows → AreSumsBefore left zeros rows
 unfolding total
 none_added left rows e w below = rw (get_or-zeros 101 w, e) (omega (arith, ints))
@@ -56,6 +56,6 @@ still_within sums new e rest left is room add near within w below =
     nearer (2 ^ 63 - length left) (2 ^ 63 - length rest) (get_or sums w (pos 0)) (get_or new w (pos 0)) (district_share w e.0 e.1)
     (omega (arith, room, fewer)) (near w below) (add w below) (within w below).0 (within w below).1
 
--- after the last row, the sums are whole
+-- no row is left, so the sums are those of all rows
 pub all_added : (sums : List ℤ) (left : List (RowKey × Row)) (rows : Rows) → left ≡ [] → AreSumsBefore left sums rows → AreSums sums rows
 all_added sums left rows none so_far w below = let whole = rw none at (so_far w below) in omega (arith, ints, whole)

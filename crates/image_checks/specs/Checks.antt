@@ -1,4 +1,4 @@
--- Tests of parents and of the consistency condition of each warehouse (TPC-C clause 3.3.2.1), and all tests in their order.
+-- Checks of parents, of each warehouse's consistency condition (TPC-C clause 3.3.2.1), and all checks in order.
 use Rattle.std.specs.Prelude.{◌≡◌, ◌==◌, ◌<◌, ◌*◌, ◌+ℤ◌, slice_index_or, nat_le, ◌&&◌, Bool, true, false, not, ℕ, ℤ, pos, List, Option, Some, None, Result, Ok, Err, if◌then◌else◌}
 use Rattle.std.specs.Ordering.{int_eq}
 use Rattle.std.specs.List.{list_all}
@@ -23,7 +23,7 @@ use Rattle.image_records.specs.Databases.{has_card, has_row}
 use Rattle.image_records.specs.declared.fault.LoadError.{LoadError}
 use Rattle.image_records.specs.declared.fault.LoadError.TheVariants as err
 
--- a district's card has both its rows; those of other cards come with them
+-- a district's card has both its rows; other cards have no such rows
 abbrev pub has_own_rows : Rows → CardKey → Bool
 has_own_rows rows (card_key.District w d) = has_row rows (key.DistrictYtd w d) && has_row rows (key.DistrictNext w d)
 has_own_rows rows _ = true
@@ -39,13 +39,13 @@ card_has_parents db (card_key.Stock w i, _) =
     has_card db.cards (card_key.Warehouse w) && has_card db.cards (card_key.Item i)
 card_has_parents db (card_key.Item i, _) = true
 
--- an order that is there, and has at least so many lines
+-- there is an order, of at least `number` lines
 abbrev pub has_line : ℕ → Option OrderRow → Bool
 has_line number None = false
 has_line number (Some order) = nat_le number order.line_count
 
--- an order has its district and its customer, a new order its order, an order line an order of at least so many lines
--- and its stock, a row of HISTORY its customer and its district, and each row of a district its district
+-- an order has its district and its customer, a new order its order, an order line its order, with a count of lines no
+-- less than its number, and its stock, a row of HISTORY its customer and its district, and a district's rows the district
 abbrev pub row_has_parents : Database → RowKey × Row → Bool
 row_has_parents db (key.Order w d o, row.Order r) =
     has_card db.cards (card_key.District w d) && has_card db.cards (card_key.Customer w d r.customer)
@@ -72,7 +72,7 @@ ytd_agrees rows (_, _) = true
 unfoldable pub ytds_agree : Rows → Bool
 ytds_agree rows = list_all (ytd_agrees rows) (map.entries rows)
 
--- the database, or the first fault of its parents and its conditions
+-- the database, or the first failed check
 abbrev pub checked : Database → Result Database LoadError
 checked db =
     if not (parents_there db) then Err err.MissingParent
@@ -82,20 +82,20 @@ checked db =
     else if not (line_counts_agree db.rows) then Err (err.Inconsistent 4)
     else Ok db
 
--- ---- sums of the warehouses, while they are added up
+-- ---- sums of the warehouses, row by row
 abbrev pub sum_at : List ℤ → ℕ → ℤ
 sum_at sums w = slice_index_or sums w (pos 0)
 
--- the sum of each warehouse, and what the rows that are left add to it, are the whole sum
+-- the sum of each warehouse so far and what the rows left add to it are the whole sum
 abbrev pub AreSumsBefore : List (RowKey × Row) → List ℤ → Rows → Type 0
 AreSumsBefore left sums rows =
     (w : ℕ) → w < 101 → (sum_at sums w +ℤ sum_entries (district_share w) left) ≡ total (district_share w) rows
 
--- this is what the row adds to the sum of its warehouse, and it adds nothing to those of the others
+-- what a row adds to the sum of its warehouse; it adds nothing to those of others
 abbrev pub IsShare : RowKey → Row → ℕ × ℤ → Type 0
 IsShare k x share = (w : ℕ) → district_share w k x ≡ (if share.0 == w then share.1 else pos 0)
 
--- each is within so many times the greatest amount
+-- each sum is within `n` times the greatest amount
 abbrev pub AreWithin : ℕ → List ℤ → Type 0
 AreWithin n sums = (w : ℕ) → w < 101 → IsWithin (n * most_cents) (sum_at sums w)
 

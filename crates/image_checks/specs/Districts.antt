@@ -1,4 +1,4 @@
--- Tests of the consistency conditions of each district's orders (TPC-C clauses 3.3.2.2 to 3.3.2.4).
+-- The consistency conditions of each district's orders (TPC-C clauses 3.3.2.2 to 3.3.2.4).
 use Rattle.std.specs.Prelude.{◌+◌, ◌-◌, ◌==◌, ◌&&◌, unwrap_or, Bool, true, ℕ, ℤ, pos, List, Option, Some, None, if◌then◌else◌}
 use Rattle.std.specs.Option.{option_map_or}
 use Rattle.std.specs.Ordering.{int_eq}
@@ -25,23 +25,23 @@ order_numbers rows w d = picked (district_order_pick w d) rows
 abbrev pub new_order_numbers : Rows → ℕ → ℕ → List ℕ
 new_order_numbers rows w d = picked (new_pick w d) rows
 
--- this number follows on the greatest O_ID, 0 where there is none, and on the greatest NO_O_ID where there is one
+-- one more than the greatest O_ID (or 0 without one), and than the greatest NO_O_ID if there is one
 abbrev pub follows_on : ℕ → Option ℕ → Option ℕ → Bool
 follows_on next last_order last_new_order =
     unwrap_or last_order 0 == next - 1 && option_map_or (λ o. o == next - 1) last_new_order true
 
--- condition 2: D_NEXT_O_ID - 1 is the greatest O_ID, 0 where there is none, and the greatest NO_O_ID where there is one
+-- condition 2: D_NEXT_O_ID - 1 is the greatest O_ID (or 0 without one), and the greatest NO_O_ID if there is one
 abbrev pub next_order_agrees : Rows → RowKey × Row → Bool
 next_order_agrees rows (key.DistrictNext w d, row.DistrictNext r) =
     follows_on r.next_order (greatest (order_numbers rows w d)) (greatest (new_order_numbers rows w d))
 next_order_agrees rows (_, _) = true
 
--- the greatest number less the least, and one, is how many there are
+-- there are as many as the least and the greatest span
 abbrev pub are_without_gap : Option ℕ → Option ℕ → ℤ → Bool
 are_without_gap (Some low) (Some high) count = int_eq (pos (high - low + 1)) count
 are_without_gap _ _ count = true
 
--- condition 3: the numbers of the new orders are without a gap
+-- condition 3: the numbers of the new orders have no gap
 abbrev pub span_agrees : Rows → RowKey × Row → Bool
 span_agrees rows (key.DistrictNext w d, row.DistrictNext r) =
     are_without_gap (least (new_order_numbers rows w d)) (greatest (new_order_numbers rows w d)) (total (new_order_share w d) rows)

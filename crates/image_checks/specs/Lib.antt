@@ -1,4 +1,4 @@
-pub mod Books
+pub mod Totals
 pub mod Districts
 pub mod Orders
 pub mod Checks

@@ -14,8 +14,8 @@ ghost use Rattle.image_records.specs.Faults.{IsOfText, StopsBy};
 ghost use Rattle.image_records.specs.Databases.{has_card, has_row};
 ghost use Rattle.tpcc_model.specs.Database.{database};
 
-use crate::books::books_of;
 use crate::districts::{line_counts_agree, next_orders_agree, spans_agree};
+use crate::totals::totals_of;
 use catalog::Catalog;
 use catalog::card::{Card, CardKey};
 use image_records::fault::LoadError;
@@ -130,7 +130,7 @@ pub(crate) fn order_key(key: &RowKey) -> Option<RowKey>
     }
 }
 
-/// Whether there is an order, with at least `number` lines.
+/// Whether there is an order, of at least `number` lines.
 fn has_line(order: Option<&Row>, number: LineNumber) -> bool
     ensures { result ≡ has_line number (option_and_then as_order (option_copied order.entry)) }
 {
@@ -351,14 +351,14 @@ pub fn check(alloc: Global, catalog: &Catalog, rows: &RowMap) -> Result<(), Load
     if !ytds_agree(rows) {
         return Err(LoadError::Inconsistent(1));
     }
-    let books = books_of(alloc, rows)?;
-    if !next_orders_agree(&books, rows) {
+    let totals = totals_of(alloc, rows)?;
+    if !next_orders_agree(&totals, rows) {
         return Err(LoadError::Inconsistent(2));
     }
-    if !spans_agree(&books, rows) {
+    if !spans_agree(&totals, rows) {
         return Err(LoadError::Inconsistent(3));
     }
-    if !line_counts_agree(&books, rows) {
+    if !line_counts_agree(&totals, rows) {
         return Err(LoadError::Inconsistent(4));
     }
     Ok(())

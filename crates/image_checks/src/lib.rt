@@ -1,10 +1,10 @@
 //! Checks of a loaded database: every parent is there, and the consistency conditions hold (TPC-C clause 3.3.2).
 #![tactic(auto)]
 
-mod books;
 mod checks;
 mod districts;
 mod sorted;
+mod totals;
 
 pub use checks::check;
 pub use sorted::check_sorted;

@@ -4,7 +4,7 @@ ghost use Rattle.std.specs.FinMap as map;
 ghost use Rattle.std.specs.List.{list_all};
 ghost use Rattle.tpcc_rows.specs.Places.{IsPlaceOf, are_in_order};
 ghost use Rattle.tpcc_rows.specs.RowMap.{row_key_cmp};
-ghost use Rattle.image_checks.specs.Books.{AreBooks};
+ghost use Rattle.image_checks.specs.Totals.{AreTotals};
 ghost use Rattle.image_checks.specs.Checks.{AreSums, card_has_parents, checked, has_own_rows, parents_there, row_has_parents, ytds_agree};
 ghost use Rattle.image_checks.specs.Districts.{line_counts_agree, next_orders_agree, spans_agree};
 ghost use Rattle.image_checks.specs.Orders.{order_of};
@@ -13,9 +13,9 @@ ghost use Rattle.image_records.specs.Databases.{has_row};
 ghost use Rattle.image_records.specs.Faults.{IsOfText, StopsBy};
 ghost use Rattle.tpcc_model.specs.Database.{database};
 
-use crate::books::{Books, enter};
 use crate::checks::{Sums, add_share, card_has_parents, order_key, row_has_parents, ytd_agrees};
 use crate::districts::{line_count_agrees, next_order_agrees, span_agrees};
+use crate::totals::{DistrictTotals, add_row};
 use catalog::Catalog;
 use catalog::card::CardKey;
 use image_records::fault::LoadError;
@@ -24,18 +24,18 @@ use tpcc_rows::key::RowKey;
 use tpcc_rows::memory::Memory;
 use tpcc_rows::row::Row;
 
-/// Whether the key's row is at index `place`.
-fn is_at(rows: &[(RowKey, Row)], key: &RowKey, place: usize) -> bool
-    ensures { IsTrue result → IsPlaceOf row_key_cmp key.now rows.now (Ok place) }
+/// Whether the key's row is at index `index`.
+fn is_at(rows: &[(RowKey, Row)], key: &RowKey, index: usize) -> bool
+    ensures { IsTrue result → IsPlaceOf row_key_cmp key.now rows.now (Ok index) }
 {
-    match rows.get(place) {
+    match rows.get(index) {
         Some((other, _)) => *other == *key,
         None => false,
     }
 }
 
 /// The index of the key's row, or where it would be inserted. Index `guess` and the next one are tried first.
-fn place_of(rows: &[(RowKey, Row)], key: &RowKey, guess: usize) -> Result<usize, usize>
+fn index_of(rows: &[(RowKey, Row)], key: &RowKey, guess: usize) -> Result<usize, usize>
     requires { are_in_order row_key_cmp rows.now ≡ true }
     ensures { IsPlaceOf row_key_cmp key.now rows.now result }
 {
@@ -54,10 +54,10 @@ fn found<'a>(rows: &'a [(RowKey, Row)], key: &RowKey, guess: &mut usize) -> Opti
     requires { are_in_order row_key_cmp rows.now ≡ true }
     ensures { option_copied result ≡ map.get (rows_in rows.now) key.now }
 {
-    match place_of(rows, key, *guess) {
-        Ok(place) => {
-            *guess = place;
-            Some(&rows[place].1)
+    match index_of(rows, key, *guess) {
+        Ok(index) => {
+            *guess = index;
+            Some(&rows[index].1)
         }
         Err(_) => None,
     }
@@ -164,44 +164,44 @@ fn ytds_agree(rows: &[(RowKey, Row)]) -> bool
 }
 
 /// The totals of all districts.
-fn books_of(alloc: Global, rows: &[(RowKey, Row)]) -> Result<Books, Memory>
+fn totals_of(alloc: Global, rows: &[(RowKey, Row)]) -> Result<DistrictTotals, Memory>
     requires { are_in_order row_key_cmp rows.now ≡ true }
-    ensures { IfOk result (λ books. AreBooks books.places.items (rows_in rows.now)) }
+    ensures { IfOk result (λ totals. AreTotals totals.districts.items (rows_in rows.now)) }
 {
-    let mut books = Books::new(alloc)?;
+    let mut totals = DistrictTotals::new(alloc)?;
     for (key, row) in rows {
-        enter(&mut books, key, row);
+        add_row(&mut totals, key, row);
     }
-    Ok(books)
+    Ok(totals)
 }
 
 /// Whether each district's D_NEXT_O_ID - 1 is its maximum O_ID, and its maximum NO_O_ID if it has new orders.
-fn next_orders_agree(books: &Books, rows: &[(RowKey, Row)]) -> bool
+fn next_orders_agree(totals: &DistrictTotals, rows: &[(RowKey, Row)]) -> bool
     requires order { are_in_order row_key_cmp rows.now ≡ true }
-    requires books { AreBooks books.now.places.items (rows_in rows.now) }
+    requires totals { AreTotals totals.now.districts.items (rows_in rows.now) }
     ensures { result ≡ next_orders_agree (rows_in rows.now) }
 {
     rows.iter()
-        .all(|(key, row)| next_order_agrees(books, key, row))
+        .all(|(key, row)| next_order_agrees(totals, key, row))
 }
 
 /// Whether the numbers of each district's new orders have no gap.
-fn spans_agree(books: &Books, rows: &[(RowKey, Row)]) -> bool
+fn spans_agree(totals: &DistrictTotals, rows: &[(RowKey, Row)]) -> bool
     requires order { are_in_order row_key_cmp rows.now ≡ true }
-    requires books { AreBooks books.now.places.items (rows_in rows.now) }
+    requires totals { AreTotals totals.now.districts.items (rows_in rows.now) }
     ensures { result ≡ spans_agree (rows_in rows.now) }
 {
-    rows.iter().all(|(key, row)| span_agrees(books, key, row))
+    rows.iter().all(|(key, row)| span_agrees(totals, key, row))
 }
 
 /// Whether each district has as many order lines as its orders' O_OL_CNT add up to.
-fn line_counts_agree(books: &Books, rows: &[(RowKey, Row)]) -> bool
+fn line_counts_agree(totals: &DistrictTotals, rows: &[(RowKey, Row)]) -> bool
     requires order { are_in_order row_key_cmp rows.now ≡ true }
-    requires books { AreBooks books.now.places.items (rows_in rows.now) }
+    requires totals { AreTotals totals.now.districts.items (rows_in rows.now) }
     ensures { result ≡ line_counts_agree (rows_in rows.now) }
 {
     rows.iter()
-        .all(|(key, row)| line_count_agrees(books, key, row))
+        .all(|(key, row)| line_count_agrees(totals, key, row))
 }
 
 /// Checks that tables, whose values are within their limits, are sound: `check` for rows in key order.
@@ -221,14 +221,14 @@ pub fn check_sorted(
     if !ytds_agree(rows) {
         return Err(LoadError::Inconsistent(1));
     }
-    let books = books_of(alloc, rows)?;
-    if !next_orders_agree(&books, rows) {
+    let totals = totals_of(alloc, rows)?;
+    if !next_orders_agree(&totals, rows) {
         return Err(LoadError::Inconsistent(2));
     }
-    if !spans_agree(&books, rows) {
+    if !spans_agree(&totals, rows) {
         return Err(LoadError::Inconsistent(3));
     }
-    if !line_counts_agree(&books, rows) {
+    if !line_counts_agree(&totals, rows) {
         return Err(LoadError::Inconsistent(4));
     }
     Ok(())

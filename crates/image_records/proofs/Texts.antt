@@ -1,4 +1,4 @@
--- The texts of several fields, read one after the other.
+-- The texts of several fields, read one by one.
 use Rattle.std.proofs.Common.{◌≡◌, ◌+◌, ℕ, suc, List, [], ◌∷◌, ◌++◌, Bool, true, false, Option, Some, None, Result, Ok, Err, refl, ap, sym, subst, append-nil, append_assoc, arith, length, length-append}
 use Rattle.std.specs.Prelude.{if◌then◌else◌}
 use Rattle.std.specs.Result.{IsErrAnd}
@@ -9,7 +9,7 @@ use Rattle.image_records.specs.Faults.{IsFaultOf, Reads}
 use Rattle.image_records.specs.declared.record_fault.RecordFault.{RecordFault}
 use Rattle.image_records.specs.declared.record_fault.RecordFault.TheVariants as record_fault
 
--- the texts that are read, and then those of so many fields from this place on
+-- the texts so far, then those of `count` fields from index `i` on
 abbrev pub texts_after : List (List ℕ) → Fields → ℕ → ℕ → Result (List (List ℕ)) FaultKind
 texts_after so_far fields i count = texts_at fields i count 24 >>= λ texts. Ok (so_far ++ texts)
 
@@ -29,7 +29,7 @@ pub text_refused : (so_far : List (List ℕ)) (fields : Fields) (i count rest : 
 unfolding texts_at
 text_refused so_far fields i count rest e more is = rw (more, is) refl
 
--- before the first, and after the last
+-- before the first and after the last
 pub texts_begin : (fields : Fields) (i count : ℕ) → texts_at fields i count 24 ≡ texts_after [] fields i count
 texts_begin fields i count = rest-of (texts_at fields i count 24)
   where
@@ -41,12 +41,12 @@ pub texts_end : (so_far : List (List ℕ)) (fields : Fields) (i count : ℕ) →
 unfolding texts_at
 texts_end so_far fields i count none = rw none (ap Ok (append-nil so_far))
 
--- a record's fault, as the code hands it on
+-- a record's fault, as the code returns it
 pub read_fault : {A : Type 0} (definition : Result A FaultKind) (result : Result A RecordFault) (e : FaultKind) → definition ≡ Err e → IsErrAnd result (λ fault. fault ≡ record_fault.OfKind e) → Reads definition result
 read_fault definition (Ok x) e is by = absurd by
 read_fault definition (Err fault) e is by = subst (IsFaultOf definition) (sym by) is
 
--- what a test lets through
+-- what passes a test
 pub some-of : {A : Type 0} (test : Bool) (x y : A) (o : Option A) → o ≡ (if test then Some x else None) → o ≡ Some y → x ≡ y
 some-of true x y o is some = cc
 some-of false x y o is some = cc

@@ -1,4 +1,4 @@
--- What the columns of an image say, besides numbers and texts.
+-- Columns of an image other than numbers and texts.
 use Rattle.std.specs.Prelude.{◌+◌, List, [], ◌∷◌, ℕ, zero, suc, codes, Option, Result, Ok, Err, if◌then◌else◌}
 use Rattle.catalog.specs.declared.card.Credit.{Credit}
 use Rattle.catalog.specs.declared.card.Credit.TheVariants as credit
@@ -13,7 +13,7 @@ credit_of field =
     else if is_text (codes "BC") field then Ok credit.Bad
     else Err fault_kind.BadField
 
--- the texts in so many fields, the first at this place
+-- the texts in `count` fields from index `i` on
 unfoldable pub texts_at : Fields → ℕ → ℕ → ℕ → Result (List (List ℕ)) FaultKind
 texts_at fields i zero most = Ok []
 texts_at fields i (suc count) most = do

@@ -1,4 +1,4 @@
--- What a database has.
+-- Look-ups in a database.
 use Rattle.std.specs.Prelude.{Bool, is_some}
 use Rattle.std.specs.FinMap as map
 use Rattle.catalog.specs.CardMap.{Cards}

@@ -29,7 +29,7 @@ name_of err.Read = codes "Read"
 name_of err.Truncated = codes "Truncated"
 name_of err.InputTooLong = codes "InputTooLong"
 
--- the record at fault
+-- the number of the bad record
 abbrev pub place_of : LoadError → Option ℕ
 place_of (err.BadRecord n) = Some n
 place_of (err.Duplicate n) = Some n
@@ -41,7 +41,7 @@ place_of err.Read = None
 place_of err.Truncated = None
 place_of err.InputTooLong = None
 
--- the fault of the record of this number: only a number outside its limits is told from what is no such field
+-- the fault of the record with this number; only a number outside its limits is told apart
 abbrev pub fault_of : ℕ → FaultKind → LoadError
 fault_of n fault_kind.OutOfRange = err.LimitReached n
 fault_of n fault_kind.BadField = err.BadRecord n
@@ -49,16 +49,16 @@ fault_of n fault_kind.WrongCount = err.BadRecord n
 fault_of n fault_kind.UnknownKind = err.BadRecord n
 fault_of n fault_kind.BatchTooLong = err.BadRecord n
 
--- a record's fault is the definition's; memory may be refused at any time
+-- a record's fault is the definition's, or memory is refused
 abbrev pub IsFaultOf : {A : Type 0} → Result A FaultKind → RecordFault → Type 0
 IsFaultOf definition (record_fault.OfKind e) = definition ≡ Err e
 IsFaultOf definition record_fault.Memory = Unit {0}
 
--- what is read of a record is what the definition says, where memory isn't refused
+-- a record is read as defined, or memory is refused
 abbrev pub Reads : {A : Type 0} → Result A FaultKind → Result A RecordFault → Type 0
 Reads definition result = MatchResult result (λ x. definition ≡ Ok x) (IsFaultOf definition)
 
--- the reasons for which the bytes aren't had, or no memory for what they say
+-- the source couldn't be read, was too long, or memory was refused
 abbrev pub IsOfReading : LoadError → Type 0
 IsOfReading err.Memory = Unit {0}
 IsOfReading err.Read = Unit {0}
@@ -70,11 +70,11 @@ IsOfReading (err.Inconsistent k) = ⊥
 IsOfReading (err.LimitReached n) = ⊥
 IsOfReading err.Truncated = ⊥
 
--- this fault, or want of memory
+-- this fault, or refused memory
 abbrev pub StopsBy : {A : Type 0} → LoadError → Result A LoadError → Type 0
 StopsBy e said = (e ≡ err.Memory) ⊎ (said ≡ Err e)
 
--- the faults of a text that is had, and want of memory
+-- the faults of a text, and refused memory
 abbrev pub IsOfText : LoadError → Type 0
 IsOfText err.Read = ⊥
 IsOfText err.InputTooLong = ⊥

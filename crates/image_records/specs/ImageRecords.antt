@@ -1,4 +1,4 @@
--- What a record of an image says.
+-- The meaning of an image's records.
 use Rattle.std.specs.Prelude.{Bool, true, false, ◌==◌, ℕ, List, Result, Ok, Err, codes, if◌then◌else◌}
 use Rattle.csv.specs.Records.{field_at}
 use Rattle.records.specs.Fields.{Fields, ◌>>=◌, is_text, number_at, number_or_null_at, of_count, signed_at, text_at}
@@ -187,11 +187,11 @@ history_fields fields = do
     «data» = text;
   }))
 
--- whether a record is of the kind with this first field, whose records have so many fields
+-- whether a record is of this kind; if so, it must have `count` fields
 abbrev pub is_kind : List ℕ → ℕ → Fields → Result Bool FaultKind
 is_kind kind count fields = if is_text kind (field_at fields 0) then of_count count fields (Ok true) else Ok false
 
--- in version 1 the record of a district has all its columns, in version 2 those of its card
+-- a district's record has all its columns in version 1, those of its card in version 2
 abbrev pub district_count : Version → ℕ
 district_count version.One = 7
 district_count version.Two = 5
@@ -200,7 +200,7 @@ abbrev pub district_record_at : Version → Fields → Result ImageRecord FaultK
 district_record_at version.One fields = whole_district_fields fields
 district_record_at version.Two fields = district_fields fields
 
--- what a record says of a district's row, which has a record of its own in version 2 alone
+-- the record of a district's row, which only version 2 has
 abbrev pub district_row_at : Version → Fields → Result ImageRecord FaultKind
 district_row_at version.One fields = Err fault_kind.UnknownKind
 district_row_at version.Two fields =
@@ -208,7 +208,7 @@ district_row_at version.Two fields =
     else if is_text (codes "X") (field_at fields 0) then of_count 4 fields (district_next_fields fields)
     else Err fault_kind.UnknownKind
 
--- what a record says of a row without a card
+-- the record of a row without a card
 abbrev pub row_record_at : Version → Fields → Result ImageRecord FaultKind
 row_record_at version fields =
     if is_text (codes "O") (field_at fields 0) then of_count 9 fields (order_fields fields)
@@ -217,7 +217,7 @@ row_record_at version fields =
     else if is_text (codes "H") (field_at fields 0) then of_count 10 fields (history_fields fields)
     else district_row_at version fields
 
--- what a record says: its kind is told by its first field, and each kind has its number of fields
+-- the meaning of a record, by its first field and its number of fields
 abbrev pub record_at : Version → Fields → Result ImageRecord FaultKind
 record_at version fields =
     if is_text (codes "W") (field_at fields 0) then of_count 5 fields (warehouse_fields fields)

@@ -1,4 +1,4 @@
--- The first record of an image tells the version of its format.
+-- The version that an image's first record names.
 use Rattle.std.specs.Prelude.{◌==◌, ◌&&◌, List, length, ℕ, codes, Option, Some, None, if◌then◌else◌}
 use Rattle.csv.specs.Records.{field_at}
 use Rattle.records.specs.Fields.{Fields, is_text}

@@ -5,6 +5,6 @@ use Rattle.image_checks.specs.Checks.{row_has_parents}
 use Rattle.tpcc_model.specs.Database.{database}
 use Rattle.image_checks.proofs.checks.rows_have_parents.Given as goal
 
--- what is left decides
+-- the rest decides
 abbrev pub invariant-loop-key : goal.invariant-loop-key
 invariant-loop-key l = list_all (row_has_parents (database l.catalog l.rows)) l.key-iterator ≡ list_all (row_has_parents (database l.catalog l.rows)) (map.entries l.rows)

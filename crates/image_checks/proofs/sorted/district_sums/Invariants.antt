@@ -3,7 +3,7 @@ use Rattle.image_checks.specs.Checks.{AreSumsBefore, AreWithin}
 use Rattle.image_checks.specs.Sorted.{rows_in}
 use Rattle.image_checks.proofs.sorted.district_sums.Given as goal
 
--- the room of a sum is for the rows that are left
+-- each sum has room for the rows left
 abbrev pub invariant-loop-key : goal.invariant-loop-key
 invariant-loop-key l = (length (drop l.key-index l.rows) < 2 ^ 63)
     × AreWithin (2 ^ 63 - length (drop l.key-index l.rows)) l.sums

@@ -5,7 +5,7 @@ use Rattle.image_checks.specs.Sorted.{rows_in}
 use Rattle.tpcc_model.specs.Database.{database}
 use Rattle.image_checks.proofs.sorted.rows_have_parents.Given as goal
 
--- what is left decides
+-- the rest decides
 abbrev pub invariant-loop-key : goal.invariant-loop-key
 invariant-loop-key l = list_all (row_has_parents (database l.catalog (rows_in l.rows))) (drop l.key-index l.rows)
     ≡ list_all (row_has_parents (database l.catalog (rows_in l.rows))) l.rows

@@ -1,4 +1,4 @@
--- A book for each district: what its orders, new orders and order lines come to.
+-- Totals of each district's orders, new orders and order lines.
 use Rattle.std.specs.Prelude.{◌≡◌, ◌==◌, ◌&&◌, ◌+◌, ◌*◌, ◌+ℤ◌, max, min, slice_index_or, ℕ, pos, List, Option, Some, None, if◌then◌else◌}
 use Rattle.records.specs.Fields.{IsWithin}
 use Rattle.tpcc_model.specs.Conditions.{line_share, new_order_share, promised_share}
@@ -9,16 +9,16 @@ use Rattle.tpcc_rows.specs.Totals.{total}
 use Rattle.tpcc_rows.specs.declared.key.RowKey.{RowKey}
 use Rattle.tpcc_rows.specs.declared.row.Row.{Row}
 use Rattle.image_checks.specs.Districts.{district_order_pick, new_order_numbers, order_numbers}
-use Rattle.image_checks.specs.declared.books.Book.{Book}
+use Rattle.image_checks.specs.declared.totals.Totals.{Totals}
 
--- one of two numbers, where there are two
+-- one of two numbers, or the only one
 abbrev pub one_of : (ℕ → ℕ → ℕ) → Option ℕ → Option ℕ → Option ℕ
 one_of choice m None = m
 one_of choice None (Some n) = Some n
 one_of choice (Some m) (Some n) = Some (choice m n)
 
-abbrev pub empty_book : Book
-empty_book = record {
+abbrev pub empty_totals : Totals
+empty_totals = record {
   last_order = None;
   first_new_order = None;
   last_new_order = None;
@@ -27,9 +27,9 @@ empty_book = record {
   lines = pos 0;
 }
 
--- what a row enters into the book of the district
-abbrev pub book_of_row : ℕ → ℕ → RowKey × Row → Book
-book_of_row w d e = record {
+-- what a row adds to the totals of the district
+abbrev pub row_totals : ℕ → ℕ → RowKey × Row → Totals
+row_totals w d e = record {
   last_order = district_order_pick w d e.0 e.1;
   first_new_order = new_pick w d e.0 e.1;
   last_new_order = new_pick w d e.0 e.1;
@@ -38,12 +38,12 @@ book_of_row w d e = record {
   lines = line_share w d e.0 e.1;
 }
 
--- this is the book of the row in its district, and the row enters nothing into those of the others
-abbrev pub IsEntry : RowKey × Row → ℕ × ℕ × Book → Type 0
-IsEntry e entry = (w d : ℕ) → book_of_row w d e ≡ (if entry.0 == w && entry.1 == d then entry.2 else empty_book)
+-- what a row adds to the totals of its district; it adds nothing to those of others
+abbrev pub AreTotalsOf : RowKey × Row → ℕ × ℕ × Totals → Type 0
+AreTotalsOf e entry = (w d : ℕ) → row_totals w d e ≡ (if entry.0 == w && entry.1 == d then entry.2 else empty_totals)
 
--- what two books come to
-abbrev pub both : Book → Book → Book
+-- the sum of two totals
+abbrev pub both : Totals → Totals → Totals
 both a b = record {
   last_order = one_of max a.last_order b.last_order;
   first_new_order = one_of min a.first_new_order b.first_new_order;
@@ -53,9 +53,9 @@ both a b = record {
   lines = a.lines +ℤ b.lines;
 }
 
--- the book of the district
-abbrev pub book_of : ℕ → ℕ → Rows → Book
-book_of w d rows = record {
+-- the totals of the district
+abbrev pub district_totals : ℕ → ℕ → Rows → Totals
+district_totals w d rows = record {
   last_order = greatest (order_numbers rows w d);
   first_new_order = least (new_order_numbers rows w d);
   last_new_order = greatest (new_order_numbers rows w d);
@@ -64,22 +64,22 @@ book_of w d rows = record {
   lines = total (line_share w d) rows;
 }
 
-abbrev pub book_at : List Book → ℕ → ℕ → Book
-book_at books w d = slice_index_or books (w * 10 + d) empty_book
+abbrev pub totals_at : List Totals → ℕ → ℕ → Totals
+totals_at totals w d = slice_index_or totals (w * 10 + d) empty_totals
 
--- the row is entered into the book of its district
-abbrev pub IsEntered : List Book → RowKey × Row → List Book → Type 0
-IsEntered old e new =
-    (w d : ℕ) → IsBetween 1 100 w → IsBetween 1 10 d → book_at new w d ≡ both (book_at old w d) (book_of_row w d e)
+-- the row is added to the totals of its district
+abbrev pub IsAdded : List Totals → RowKey × Row → List Totals → Type 0
+IsAdded old e new =
+    (w d : ℕ) → IsBetween 1 100 w → IsBetween 1 10 d → totals_at new w d ≡ both (totals_at old w d) (row_totals w d e)
 
-abbrev pub AreBooks : List Book → Rows → Type 0
-AreBooks books rows = (w d : ℕ) → IsBetween 1 100 w → IsBetween 1 10 d → book_at books w d ≡ book_of w d rows
+abbrev pub AreTotals : List Totals → Rows → Type 0
+AreTotals totals rows = (w d : ℕ) → IsBetween 1 100 w → IsBetween 1 10 d → totals_at totals w d ≡ district_totals w d rows
 
--- each sum is of so many rows, of which none adds more than 15
-pub record IsOfRows (n : ℕ) (book : Book) : Type 0 where
-  pub new_orders : IsWithin (n * 15) book.new_orders
-  pub promised_lines : IsWithin (n * 15) book.promised_lines
-  pub lines : IsWithin (n * 15) book.lines
+-- sums over `n` rows, each of which adds at most 15
+pub record IsOfRows (n : ℕ) (totals : Totals) : Type 0 where
+  pub new_orders : IsWithin (n * 15) totals.new_orders
+  pub promised_lines : IsWithin (n * 15) totals.promised_lines
+  pub lines : IsWithin (n * 15) totals.lines
 
-abbrev pub AreOfRows : ℕ → List Book → Type 0
-AreOfRows n books = (w d : ℕ) → IsBetween 1 100 w → IsBetween 1 10 d → IsOfRows n (book_at books w d)
+abbrev pub AreOfRows : ℕ → List Totals → Type 0
+AreOfRows n totals = (w d : ℕ) → IsBetween 1 100 w → IsBetween 1 10 d → IsOfRows n (totals_at totals w d)

@@ -3,9 +3,9 @@ ghost use Rattle.std.specs.Prelude.{◌≡◌, ◌<◌, ◌+◌, ◌*◌, ◌^�
 ghost use Rattle.std.specs.Ordering.{int_eq};
 ghost use Rattle.records.specs.Fields.{IsWithin};
 ghost use Rattle.tpcc_rows.specs.RowMap.{Rows};
-ghost use Rattle.image_checks.specs.Books.{AreBooks, AreOfRows, IsEntered, IsEntry, IsOfRows, book_of, book_of_row, both, empty_book, one_of};
+ghost use Rattle.image_checks.specs.Totals.{AreOfRows, AreTotals, AreTotalsOf, IsAdded, IsOfRows, both, district_totals, empty_totals, one_of, row_totals};
 ghost use Rattle.image_checks.specs.Districts.{are_without_gap, follows_on};
-ghost use Rattle.image_checks.specs.declared.books.TheConstants.{PLACES};
+ghost use Rattle.image_checks.specs.declared.totals.TheConstants.{INDEXES};
 
 use std::alloc::Global;
 use tpcc_rows::id::{DistrictId, LineNumber, OrderId, WarehouseId};
@@ -16,7 +16,7 @@ use tpcc_rows::row::Row;
 
 /// Totals of a district's orders, new orders and order lines.
 #[derive(Clone, Copy)]
-pub(crate) struct Book {
+pub(crate) struct Totals {
     /// Maximum O_ID.
     last_order: Option<OrderId>,
     /// Minimum NO_O_ID.
@@ -29,30 +29,30 @@ pub(crate) struct Book {
     lines: i128,
 }
 
-/// Indexes for the districts of all warehouses.
-pub const PLACES: usize = 1_011;
+/// Number of district indexes.
+pub const INDEXES: usize = 1_011;
 
 /// The totals of each district, at its index.
 #[derive(Drop)]
-pub(crate) struct Books {
-    places: Vec<Book>,
-    ghost whole: { length places.items ≡ PLACES },
+pub(crate) struct DistrictTotals {
+    districts: Vec<Totals>,
+    ghost whole: { length districts.items ≡ INDEXES },
 }
 
-impl Books {
+impl DistrictTotals {
     /// Totals over no rows, for each district.
-    pub(crate) fn new(alloc: Global) -> Result<Books, Memory>
-        ensures { IfOk result (λ books. books.places.items ≡ replicate PLACES empty_book) }
+    pub(crate) fn new(alloc: Global) -> Result<DistrictTotals, Memory>
+        ensures { IfOk result (λ totals. totals.districts.items ≡ replicate INDEXES empty_totals) }
     {
-        let places = vec![in alloc; Book::EMPTY; PLACES]?;
-        Ok(Books { places })
+        let districts = vec![in alloc; Totals::EMPTY; INDEXES]?;
+        Ok(DistrictTotals { districts })
     }
 }
 
 /// The index of a district.
-fn place(warehouse: WarehouseId, district: DistrictId) -> usize
+fn index(warehouse: WarehouseId, district: DistrictId) -> usize
     ensures value { result ≡ warehouse * 10 + district }
-    ensures range { result < PLACES }
+    ensures range { result < INDEXES }
 {
     usize::from(warehouse.number()) * 10 + usize::from(district.number())
 }
@@ -87,8 +87,8 @@ fn plus(one: i128, other: i128) -> i128
     one + other
 }
 
-impl Book {
-    const EMPTY: Book = Book {
+impl Totals {
+    const EMPTY: Totals = Totals {
         last_order: None,
         first_new_order: None,
         last_new_order: None,
@@ -98,46 +98,46 @@ impl Book {
     };
 
     /// The totals of one order, of `lines` lines.
-    fn of_order(order: OrderId, lines: LineNumber) -> Book
-        ensures value { result ≡ record empty_book { last_order = Some order; promised_lines = pos lines } }
+    fn of_order(order: OrderId, lines: LineNumber) -> Totals
+        ensures value { result ≡ record empty_totals { last_order = Some order; promised_lines = pos lines } }
         ensures small { IsOfRows 1 result }
     {
-        Book {
+        Totals {
             last_order: Some(order),
             promised_lines: i128::from(lines.number()),
-            ..Book::EMPTY
+            ..Totals::EMPTY
         }
     }
 
     /// The totals of one new order.
-    fn of_new_order(order: OrderId) -> Book
-        ensures { result ≡ record empty_book { first_new_order = Some order; last_new_order = Some order; new_orders = pos 1 } }
+    fn of_new_order(order: OrderId) -> Totals
+        ensures { result ≡ record empty_totals { first_new_order = Some order; last_new_order = Some order; new_orders = pos 1 } }
     {
-        Book {
+        Totals {
             first_new_order: Some(order),
             last_new_order: Some(order),
             new_orders: 1,
-            ..Book::EMPTY
+            ..Totals::EMPTY
         }
     }
 
     /// The totals of one order line.
-    fn of_line() -> Book
-        ensures { result ≡ record empty_book { lines = pos 1 } }
+    fn of_line() -> Totals
+        ensures { result ≡ record empty_totals { lines = pos 1 } }
     {
-        Book {
+        Totals {
             lines: 1,
-            ..Book::EMPTY
+            ..Totals::EMPTY
         }
     }
 
     /// The sum of two totals.
-    fn and(self, other: Book) -> Book
+    fn and(self, other: Totals) -> Totals
         requires one { IsOfRows (2 ^ 63) self }
         requires other { IsOfRows (2 ^ 63) other }
         ensures { result ≡ both self other }
     {
-        Book {
+        Totals {
             last_order: later(self.last_order, other.last_order),
             first_new_order: earlier(self.first_new_order, other.first_new_order),
             last_new_order: later(self.last_new_order, other.last_new_order),
@@ -181,10 +181,10 @@ impl Book {
 }
 
 /// The district of an order, a new order or an order line, and the totals of that row.
-fn entry(key: &RowKey, row: &Row) -> Option<(WarehouseId, DistrictId, Book)>
-    ensures none { IfNone result ((w d : ℕ) → book_of_row w d (key.now, row.now) ≡ empty_book) }
-    ensures some { IfSome result (IsEntry (key.now, row.now)) }
-    ensures small { IfSome result (λ entry. IsOfRows 1 entry.2) }
+fn row_totals(key: &RowKey, row: &Row) -> Option<(WarehouseId, DistrictId, Totals)>
+    ensures none { IfNone result ((w d : ℕ) → row_totals w d (key.now, row.now) ≡ empty_totals) }
+    ensures some { IfSome result (AreTotalsOf (key.now, row.now)) }
+    ensures small { IfSome result (λ found. IsOfRows 1 found.2) }
 {
     match (key, row) {
         (
@@ -195,8 +195,8 @@ fn entry(key: &RowKey, row: &Row) -> Option<(WarehouseId, DistrictId, Book)>
             },
             Row::Order(row),
         ) => {
-            let book = Book::of_order(*order, row.line_count);
-            Some((*warehouse, *district, book))
+            let totals = Totals::of_order(*order, row.line_count);
+            Some((*warehouse, *district, totals))
         }
         (
             RowKey::NewOrder {
@@ -205,7 +205,7 @@ fn entry(key: &RowKey, row: &Row) -> Option<(WarehouseId, DistrictId, Book)>
                 order,
             },
             Row::NewOrder,
-        ) => { Some((*warehouse, *district, Book::of_new_order(*order))) }
+        ) => { Some((*warehouse, *district, Totals::of_new_order(*order))) }
         (
             RowKey::OrderLine {
                 warehouse,
@@ -213,38 +213,42 @@ fn entry(key: &RowKey, row: &Row) -> Option<(WarehouseId, DistrictId, Book)>
                 ..
             },
             Row::OrderLine(_),
-        ) => { Some((*warehouse, *district, Book::of_line())) }
+        ) => { Some((*warehouse, *district, Totals::of_line())) }
         _ => None,
     }
 }
 
 /// Adds a row to the totals of its district.
-pub(crate) fn enter(books: &mut Books, key: &RowKey, row: &Row)
-    requires { AreOfRows (2 ^ 63) books.old.places.items }
-    ensures books { IsEntered books.old.places.items (key.now, row.now) books.new.places.items }
-    ensures small { (w d : ℕ) → IsOfRows 1 (book_of_row w d (key.now, row.now)) }
+pub(crate) fn add_row(totals: &mut DistrictTotals, key: &RowKey, row: &Row)
+    requires { AreOfRows (2 ^ 63) totals.old.districts.items }
+    ensures totals { IsAdded totals.old.districts.items (key.now, row.now) totals.new.districts.items }
+    ensures small { (w d : ℕ) → IsOfRows 1 (row_totals w d (key.now, row.now)) }
 {
-    if let Some((warehouse, district, book)) = entry(key, row) {
-        let i = place(warehouse, district);
-        books.places[i] = books.places[i].and(book);
+    if let Some((warehouse, district, more)) = row_totals(key, row) {
+        let i = index(warehouse, district);
+        totals.districts[i] = totals.districts[i].and(more);
     }
 }
 
 /// The totals of all districts.
-pub(crate) fn books_of(alloc: Global, rows: &RowMap) -> Result<Books, Memory>
-    ensures { IfOk result (λ books. AreBooks books.places.items rows.now) }
+pub(crate) fn totals_of(alloc: Global, rows: &RowMap) -> Result<DistrictTotals, Memory>
+    ensures { IfOk result (λ totals. AreTotals totals.districts.items rows.now) }
 {
-    let mut books = Books::new(alloc)?;
+    let mut totals = DistrictTotals::new(alloc)?;
     let _count = rows.len();
     for (key, row) in rows.iter() {
-        enter(&mut books, key, row);
+        add_row(&mut totals, key, row);
     }
-    Ok(books)
+    Ok(totals)
 }
 
 /// The totals of a district.
-pub(crate) fn book_of(books: &Books, warehouse: WarehouseId, district: DistrictId) -> Book
-    ensures { (rows : Rows) → AreBooks books.now.places.items rows → result ≡ book_of warehouse district rows }
+pub(crate) fn totals_at(
+    totals: &DistrictTotals,
+    warehouse: WarehouseId,
+    district: DistrictId,
+) -> Totals
+    ensures { (rows : Rows) → AreTotals totals.now.districts.items rows → result ≡ district_totals warehouse district rows }
 {
-    books.places[place(warehouse, district)]
+    totals.districts[index(warehouse, district)]
 }

@@ -3,7 +3,7 @@ use Rattle.std.proofs.lemmas.Fn.{always_returns_same}
 use Rattle.tpcc_rows.specs.RowMap.{row_key_cmp}
 use Rattle.tpcc_rows.proofs.Keys.{row_key_cmp_total, exact_keys}
 use Rattle.tpcc_rows.proofs.Places.{placed}
-use Rattle.image_checks.proofs.sorted.place_of.Goals as goal
+use Rattle.image_checks.proofs.sorted.index_of.Goals as goal
 
 pub returns : goal.returns
 returns c =
