@@ -1,7 +1,7 @@
 #!/usr/bin/env python3
-"""frames.py PROGRAM [MOST]: the stack frames of a built program, largest first, of which none may pass MOST bytes (65,536).
+"""frames.py PROGRAM [MOST]: the stack frames of a built program, largest first, none of which may exceed MOST bytes (65,536).
 
-A frame is what the function takes from the stack pointer as it begins: in one step, or page by page down to an address."""
+A frame is what a function takes from the stack pointer at its start: in one step, or page by page down to an address."""
 import re
 import subprocess
 import sys

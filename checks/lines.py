@@ -1,9 +1,9 @@
 #!/usr/bin/env python3
-"""lines.py PROGRAM IMAGE BATCHES: runs a built eve-tpcc with memory refused, and looks for the line of each fault.
+"""lines.py PROGRAM IMAGE BATCHES: runs a built eve-tpcc with allocations failing, and checks the message of each fault.
 
-Of `check`, and of `run` by one worker and by two, each growth is refused in turn, and all growths from each on. Each must end with
-status 0 and the whole text; or with status 1, a beginning of the text, and one line of a fault on standard error; or with status 2,
-no text and some line, where the words themselves can't be read. Ends with status 1 where any does anything else."""
+For `check`, and for `run` with one worker and with two, each allocation fails in turn, and all from each on. Each run must end with status 0
+and the whole text; or with status 1, a prefix of the text, and one line of a fault on standard error; or with status 2, no text and a line
+on standard error, if the words of the command line can't be read. Ends with status 1 if any run does anything else."""
 import re
 import sys
 import tempfile

@@ -1,14 +1,13 @@
 #!/usr/bin/env python3
-"""refusals.py PROGRAM [STRIDE]: refuses memory to a built eve-tpcc while it opens an image of many cards, and compares the lines.
+"""refusals.py PROGRAM [STRIDE]: lets allocations of a built eve-tpcc fail while it opens an image of many cards, and checks the messages.
 
-PROGRAM is what `rt run` built, as crates/eve_tpcc/out/eve_tpcc. It runs no batch on the image of `make 1 20 4100`, whose catalog
-has more than 8,192 cards, so that with several processors a thread makes its digest while the rows go to their pages and their
-tree is built. Growths, as refused.py has them, are refused one at a time, first on one processor, then on all: the first hundred,
-one of each STRIDE (97 where none is given) while the image is read and checked, and each from there on. In their order they must
-end with the line of words that can't be read; then with that of an image that gives no database; then with that of a run; and
-anywhere whole, where the program does without the growth. Prints how many ended how, with the first and the last of each
-kind. Ends with status 1 where one ends otherwise or out of this order, or none with the line of an image, or none with that of a
-run. Takes some minutes."""
+PROGRAM is what `rt run` built, such as crates/eve_tpcc/out/eve_tpcc. It runs no batch on the image of `make 1 20 4100`, whose catalog has
+more than 8,192 cards, so that with several processors a thread computes its digest beside the pages and the tree. Allocations fail one at a
+time (as in refused.py), first on one processor, then on all: the first hundred, one of each STRIDE (97 by default) while the image is read
+and checked, and each from there on. In this order the runs must end with the message of words that can't be read, then with that of an
+image, then with that of a run; and anywhere with the whole text, if the program does without the allocation. Prints how many ended how, with
+the first and the last of each kind. Ends with status 1 if one ends otherwise or out of this order, or none with the message of an image or
+of a run. Takes some minutes."""
 import concurrent.futures
 import os
 import subprocess

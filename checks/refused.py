@@ -1,13 +1,11 @@
 #!/usr/bin/env python3
-"""refused.py PROGRAM WANTED [FIRST [LAST]] [-- WORD ..]: runs a built program with each of its growths refused in turn.
+"""refused.py PROGRAM WANTED [FIRST [LAST]] [-- WORD ..]: runs a built program with each of its allocations failing in turn.
 
-PROGRAM is what `rt run` built, as crates/test_execution/out/test_execution, and WANTED the text that it prints with ample memory,
-as crates/test_execution/stdout. A growth is a call of malloc, calloc or realloc; FIRST and LAST are the numbers of the first and of
-the last one to be refused, without which all are. The program is run with the WORDs; where there are any, what it prints with
-ample memory is a part of WANTED, lines that stand there one behind the other. With one growth refused it must end with status 0
-and the whole of that text, where it does without the growth, or with status 1 and some lines of the text in their order; and it says
-nothing on standard error. The library that refuses is compiled by `cc` (Linux with glibc alone). Ends with status 1 where any run
-does anything else."""
+PROGRAM is what `rt run` built, such as crates/test_execution/out/test_execution, and WANTED the text that it prints with enough memory, such
+as crates/test_execution/stdout. An allocation is a call of malloc, calloc or realloc; FIRST and LAST are the numbers of the first and last to
+fail, by default all. With WORDs, which are passed to the program, its text is consecutive lines of WANTED. With an allocation failing it
+must end with status 0 and the whole text, or with status 1 and some lines of the text in order, and print nothing on standard error. The
+library that lets allocations fail is compiled by `cc` (Linux with glibc only). Ends with status 1 if any run does anything else."""
 import os
 import subprocess
 import sys
@@ -42,7 +40,7 @@ void *calloc(size_t count, size_t size) { return is_refused() ? 0 : __libc_callo
 void *realloc(void *old, size_t size) { return is_refused() ? 0 : __libc_realloc(old, size); }
 """
 
-# Every so many runs a line tells how far it is.
+# Runs between two lines of progress.
 RUNS_A_LINE = 1000
 
 

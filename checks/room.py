@@ -1,9 +1,8 @@
 #!/usr/bin/env python3
-"""room.py PROGRAM: how much memory the built eve-tpcc takes at most for inputs of several sizes, sound ones and damaged ones.
+"""room.py PROGRAM: the peak memory of a built eve-tpcc for inputs of many shapes and sizes, sound and damaged.
 
-PROGRAM is what `rt run` built, as crates/eve_tpcc/out/eve_tpcc. A line for each input has the bytes of the image and of the
-batches, the peak of the program's resident memory, and how many times the bytes that is, less what the least input takes. Each
-input is run with one worker; by `/usr/bin/time` of Linux."""
+PROGRAM is what `rt run` built, such as crates/eve_tpcc/out/eve_tpcc. Prints for each input the bytes of image and batches, the peak of
+resident memory, and that above the least input's peak, per byte of input. Each input is run with one worker, under Linux's `/usr/bin/time`."""
 import os
 import subprocess
 import sys
@@ -43,7 +42,7 @@ def customers(count):
 
 
 def orders(districts, count, lines, are_new):
-    """Records of so many orders in each of the first districts, of so many lines each."""
+    """Records of a number of orders in each of the first districts, with a number of lines each."""
     each = [(d, o) for d in range(1, districts + 1) for o in range(1, count + 1)]
     carrier, delivery = ('-', '-') if are_new else (1, 0)
     made = [f'O,1,{d},{o},1,0,{carrier},{lines},1' for d, o in each]
@@ -52,7 +51,7 @@ def orders(districts, count, lines, are_new):
 
 
 def with_orders(image, districts, count, records):
-    """The image, in which no district has an order, with records of so many orders in each of the first districts."""
+    """The image, which has no orders, with a number of orders in each of the first districts."""
     lines = image.splitlines()
     for place, line in enumerate(lines):
         if line.startswith('X,1,') and int(line.split(',')[2]) <= districts:
@@ -71,7 +70,7 @@ def batches(request, a_batch, count):
 
 
 def orders_of_all(count):
-    """A batch of so many new orders of 15 items each, no item twice."""
+    """A batch of new orders of 15 items each, no item twice."""
     items = [range(1 + 15 * place, 16 + 15 * place) for place in range(count)]
     lines = ['N,1,1,1' + ''.join(f',{item},1,1' for item in some) for some in items]
     return '\n'.join([f'B,0,commit,{count}', *lines, ''])

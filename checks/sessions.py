@@ -1,11 +1,11 @@
 #!/usr/bin/env python3
-"""sessions.py PROGRAM: runs the sessions that README.md, docs/, examples/ and the helps show, and compares what they print line by line.
+"""sessions.py PROGRAM: runs the sessions of README.md, docs/, examples/ and the helps, and compares what they print line by line.
 
-PROGRAM is the built eve-tpcc. A session is a block indented by four spaces, in a help by two, that begins with `$ `; each such line is a
-command, and the lines up to the next one are what it prints. The sessions of a document share a folder, in which `examples` and `crates` are the
-repository's, `requests.csv` is that of the examples, and `eve-tpcc` is the program. `cat` of a file that isn't there makes it of the lines
-shown. A command has a minute. Then each `old:` line of every wrong body must stand once in its file, as the prover's tool asks of it. A line tells what failed; the
-last one is `N passed, M failed`. Ends with status 1 where anything failed."""
+PROGRAM is the built eve-tpcc. A session is a block indented by four spaces (in a help by two) that begins with `$ `; each such line is a
+command, and the lines up to the next one are what it prints. The sessions of a document share a folder, in which `examples` and `crates`
+are the repository's, `requests.csv` is that of the examples, and `eve-tpcc` is the program. `cat` of a missing file creates it with the lines
+shown. A command has a minute. Then each `old:` line of every wrong body must occur once in its file, as `rt must-fail` requires. Prints
+what failed, then `N passed, M failed`. Ends with status 1 if anything failed."""
 import glob
 import os
 import re
@@ -66,7 +66,7 @@ def printed_by(command, wanted, folder):
 
 
 def sessions(document, program):
-    """Runs the sessions of a document, or of the helps where there is none; for each command, what is wrong with it, or nothing."""
+    """Runs the sessions of a document, or of the helps if none is given; for each command, what is wrong with it, or nothing."""
     with tempfile.TemporaryDirectory() as folder:
         make_room(folder, program)
         if document:

@@ -1,10 +1,10 @@
 #!/usr/bin/env python3
-"""spoilt.py: spoils images and batches a thousand times, from one seed, and says what each spoilt text must answer.
+"""spoilt.py: spoils images and batches a thousand times, from one seed, and computes the expected results.
 
-The images are of one database, in either version. Run at the repository's root, it writes crates/worked_cases/data/spoilt, the cases,
-and prints what they must show, which stands in crates/worked_cases/stdout. The answers come from the reader below, which shares no code with the program: it is written from
-docs/FORMATS.md. An image that is still one answers the line of its check, with the token; batches that are still some answer how
-many there are."""
+The images are of one database, in both versions. Run at the repository's root, it writes the cases, crates/worked_cases/data/spoilt, and
+prints what they must show, which is in crates/worked_cases/stdout. The results come from the reader below, written from docs/FORMATS.md,
+which shares no code with the program. An image that is still one gives the line of `check`, with the token; batches that still are give their
+number."""
 import hashlib
 import random
 

@@ -1,12 +1,11 @@
 #!/usr/bin/env python3
-"""convert.py FOLDER: writes an image of the TPC-C database that another kit left in FOLDER as CSV, a file for each table.
+"""convert.py FOLDER: converts another kit's TPC-C database to an image. FOLDER has a CSV file for each table.
 
-The files are WAREHOUSE.csv, DISTRICT.csv and so on; the name of orders may be OORDER or ORDERS, and small letters do. Where the first
-record of a file names the columns, as an export with a header from the database that BenchBase filled does, they may come in any order;
-else they come as py-tpcc's csv driver writes them. A null is empty, or one of NULL, None and \\N. Amounts have at most two decimals, rates
-four, and a moment is a count of seconds, or a date and a time, of which what is less than a second is dropped. Columns that an image
-doesn't have, such as addresses, are left out. The records of the history are numbered in their order. `eve-tpcc check` says whether
-the image is sound."""
+The files are WAREHOUSE.csv, DISTRICT.csv and so on, in capital or small letters; orders are in OORDER or ORDERS. If the first record of a
+file names the columns, as in BenchBase's tables exported with a header, they may come in any order, else they come as py-tpcc's csv driver
+writes them. A null is empty, NULL, None or \\N. Amounts have at most two decimals, rates four; a moment is a number of seconds, or a date
+and time, whose fraction of a second is dropped. Columns that an image doesn't have, such as addresses, are left out. History records are
+numbered in their order. `eve-tpcc check` tells whether the image is sound."""
 import csv
 import datetime
 import decimal
@@ -33,7 +32,7 @@ EPOCH = datetime.datetime(1970, 1, 1)
 
 
 def whole(text, of=1):
-    """How many parts of one a number has, of which there are so many; it has no smaller ones."""
+    """A number in units of 1 / of, which must be whole."""
     parts = decimal.Decimal(text) * of
     if parts != int(parts):
         sys.exit(f'convert: {text} has more decimals than an image')
@@ -60,11 +59,11 @@ def nullable(number):
 
 
 def known(text):
-    """A text, where a null is the empty one."""
+    """A text; a null is the empty one."""
     return '' if text in NULLS[1:] else text
 
 
-# The kinds of an image: the letter, the table, and what each field is made of; one that has no column is the record's number.
+# An image's kinds of records: letter, table, columns, and the conversion of each; # is the record's number.
 KINDS = [
     ('W', 'warehouse', 'w_id w_name w_tax w_ytd', [whole, known, rate, cents]),
     ('D', 'district', 'd_w_id d_id d_name d_tax', [whole, whole, known, rate]),
@@ -85,7 +84,7 @@ KINDS = [
 
 
 def rows(folder, table):
-    """The rows of a table, each by the names of its columns."""
+    """The rows of a table, by column name."""
     names = {name.lower(): name for name in os.listdir(folder)}
     name = names.get(f'{table}.csv') or names.get('oorder.csv' if table == 'orders' else '') or sys.exit(f'convert: no {table}.csv')
     with open(os.path.join(folder, name), encoding='ascii', newline='') as file:

@@ -1,12 +1,11 @@
 #!/usr/bin/env python3
 """workload.py W C I [--batches N] [--size S] [--seed K] [--mix N,P,O,D,S] [--remote PERCENT]
 
-Writes batches of requests in TPC-C's mix, for the image of `eve-tpcc make W C I`: W warehouses, C customers in each district, I items.
-Customers, last names and items are drawn by NURand (TPC-C clause 2.1.6), six payments of ten and six order statuses of ten name the
-customer by last name, and one new order in a hundred ends with an item that isn't there (clause 2.4.1.4). There are 10 batches of 1,000
-requests where it isn't said, of seed 1. --mix has the weights of New-Order, Payment, Order-Status, Delivery and Stock-Level, 45,43,4,4,4
-where it isn't given (clause 5.2.3); --remote is how many order lines in a hundred another warehouse supplies, 1 where it isn't given. The
-same words give the same bytes."""
+Writes batches in TPC-C's mix for the image of `eve-tpcc make W C I`: W warehouses, C customers a district, I items. Customers, last names
+and items are drawn by NURand (TPC-C clause 2.1.6); 60 per cent of payments and order statuses name the customer by last name, and one per
+cent of new orders end with an unused item (clause 2.4.1.4). The default is 10 batches of 1,000 requests and seed 1. --mix gives the weights
+of New-Order, Payment, Order-Status, Delivery and Stock-Level, by default 45,43,4,4,4 (clause 5.2.3); --remote the percentage of order lines
+that another warehouse supplies, by default 1. The same arguments give the same bytes."""
 import argparse
 import random
 
@@ -14,7 +13,7 @@ UNUSED_ITEM = 999_999
 
 
 class Draw:
-    """What requests are drawn from."""
+    """Draws the values of requests."""
 
     def __init__(self, size, seed):
         self.warehouses, self.customers, self.items = size
@@ -40,7 +39,7 @@ class Draw:
         return self.random.choice(others) if others else home
 
     def customer(self):
-        """How a request names its customer: by last name, of which a made database has ten at most, or by number."""
+        """The fields that name a customer: by last name, of which a generated database has at most ten, or by number."""
         if self.is_within(60):
             return f'L,NAME{self.skewed(255, 1, min(10, self.customers)) % 10}'
         return f'I,{self.skewed(1023, 1, self.customers)}'

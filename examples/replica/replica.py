@@ -1,14 +1,14 @@
 #!/usr/bin/env python3
-"""Two replicas that execute the same batches, and agree on each one before its replies go out.
+"""Two replicas that execute the same batches, and agree on each one before its replies are released.
 
 usage: replica.py PROGRAM IMAGE BATCHES [DAMAGED]
 
-PROGRAM is eve-tpcc. Two of its processes answer commands on the database of IMAGE, one with 1 worker and one with 8. Eight batches of
-BATCHES at a time are sent to both. Those on whose tokens they agree are committed, and only then do their replies go to standard output.
-Where tokens differ, both go back to the last committed batch, and execute the others again, one request after the other. Where they
-still differ, the memory of one is damaged, and nobody can tell whose: others start from the last checkpoint, an image that both told in
-the same bytes, as is done behind each eight batches. Before those of which one has the number DAMAGED, the second replica is started from
-an image with a fault, as if its memory were damaged. Standard error tells what happens; the status is 0 where all was agreed on."""
+PROGRAM is eve-tpcc. Two processes of it serve the database of IMAGE, one with 1 worker and one with 8. The batches of BATCHES are sent to
+both, eight at a time. Those on whose tokens they agree are committed, and only then are their replies written to standard output. If tokens
+differ, both roll back to the last committed batch and re-execute the others in order. If they still differ, the memory of one is damaged,
+and it is unknown whose: both are restarted from the last checkpoint, an image that both gave in the same bytes, taken after every eight
+batches. Before the eight that include batch DAMAGED, the second replica is restarted from a wrong image, as if its memory were damaged.
+Standard error tells what happens; the status is 0 if all batches were agreed on."""
 import contextlib
 import queue
 import re
@@ -23,16 +23,16 @@ WORKERS = (1, 8)
 
 
 class Replica:
-    """A process that answers commands on the database of an image, whose state stands where it is told."""
+    """A process that serves the database of an image, from a stamp if one is given."""
 
-    def __init__(self, program, workers, image, place=None):
-        words = [program, "serve", image, "--workers", str(workers)] + (["--from", place] if place else [])
+    def __init__(self, program, workers, image, stamp=None):
+        words = [program, "serve", image, "--workers", str(workers)] + (["--from", stamp] if stamp else [])
         self.process = subprocess.Popen(words, stdin=subprocess.PIPE, stdout=subprocess.PIPE)
         self.answers = queue.Queue()
         threading.Thread(target=self.read, daemon=True).start()
 
     def read(self):
-        """Queues each answer: its last record, and the replies before it, which begin with numbers, or the image behind it."""
+        """Queues each answer: its last record, and the replies before it, which begin with numbers, or the image after it."""
         output, replies = self.process.stdout, b""
         for line in output:
             if line[:1].isdigit():
@@ -51,10 +51,10 @@ class Replica:
 
 
 class Pair:
-    """Two replicas; how many batches they committed, and the token of each; the last checkpoint, an image and where its state stands."""
+    """Two replicas, the number of committed batches and their tokens, and the last checkpoint: an image and its stamp."""
 
     def __init__(self, program, image, folder):
-        self.program, self.image, self.place = program, Path(folder, "checkpoint.csv"), None
+        self.program, self.image, self.stamp = program, Path(folder, "checkpoint.csv"), None
         self.replicas, self.committed, self.tokens = [Replica(program, workers, image) for workers in WORKERS], 0, []
         self.take_checkpoint()
 
@@ -62,7 +62,7 @@ class Pair:
         return [replica.answers.get() or sys.exit("replica: a session ended") for replica in self.replicas]
 
     def ask(self, command, wanted):
-        """What both answer to a command. The program ends where they don't answer the same, or nothing that begins as is wanted."""
+        """The answer of both to a command. Ends the program if the answers differ, or don't begin as wanted."""
         for replica in self.replicas:
             replica.send(f"{command}\n")
         one, other = self.answers()
@@ -71,7 +71,7 @@ class Pair:
         return one
 
     def execute(self, batches):
-        """Has both execute batches, and commits the first of them, as many as they agree on."""
+        """Has both execute batches, and commits them up to the first on which they disagree."""
         for batch in batches:
             for replica in self.replicas:
                 replica.send(batch)
@@ -83,7 +83,7 @@ class Pair:
             self.release(one[0].split(",")[3], one[1])
 
     def release(self, token, replies):
-        """The replies of a batch go out at its first commit; where it was executed again its token is the same."""
+        """Releases the replies of a batch at its first commit; if it was re-executed, its token must be the same."""
         if self.committed > len(self.tokens):
             self.tokens.append(token)
             sys.stdout.buffer.write(replies)
@@ -91,33 +91,33 @@ class Pair:
             sys.exit(f"replica: batch {self.committed} has another token than before")
 
     def replace(self, which, image):
-        """Kills a replica, and starts another that stands where the checkpoint does."""
+        """Kills a replica, and starts another from the checkpoint."""
         self.replicas[which].process.kill()
         self.replicas[which].process.wait()
-        self.replicas[which] = Replica(self.program, WORKERS[which], image, self.place)
+        self.replicas[which] = Replica(self.program, WORKERS[which], image, self.stamp)
 
     def restart(self):
         self.replace(0, self.image)
         self.replace(1, self.image)
-        self.committed = int(self.place.split(",")[0])
-        self.ask("A", f"at,{self.place}")
+        self.committed = int(self.stamp.split(",")[0])
+        self.ask("A", f"at,{self.stamp}")
 
     def take_checkpoint(self):
-        """Stores the state of both. The file is replaced in one step, so that it is always whole."""
-        self.place = self.ask("A", f"at,{self.committed},")[0][len("at,") :]
+        """Stores the state of both. The file is replaced in one step, so it is always complete."""
+        self.stamp = self.ask("A", f"at,{self.committed},")[0][len("at,") :]
         new = self.image.with_name("new.csv")
         new.write_bytes(self.ask("I", f"image,{self.committed},")[1])
         new.replace(self.image)
 
     def damage(self):
-        """Has the second replica know a customer by another credit."""
+        """Restarts the second replica with another credit for one customer."""
         damaged = self.image.with_name("damaged.csv")
         damaged.write_bytes(self.image.read_bytes().replace(b",GC,", b",BC,", 1))
         self.replace(1, damaged)
 
 
 def complete(pair, batches):
-    """Has a pair at a checkpoint agree on batches, and takes the next checkpoint."""
+    """Gets a pair at a checkpoint to agree on batches, and takes the next checkpoint."""
     first, last = pair.committed + 1, pair.committed + len(batches)
     pair.execute(batches)
     if pair.committed < last:
