@@ -1,4 +1,4 @@
--- The faults that a text can have.
+-- The faults of a text.
 use Rattle.std.proofs.Common.{◌+◌, ℕ, List, [], ◌∷◌, Bool, true, false, cond, Option, Some, None, Result, Ok, Err, sym, subst, inl, inr}
 use Rattle.records.specs.Fields.{Fields}
 use Rattle.records.specs.Records.{records_in}
@@ -15,7 +15,7 @@ use Rattle.image_records.specs.declared.fault.LoadError.TheVariants as err
 use Rattle.image_records.specs.declared.image_record.ImageRecord.{ImageRecord}
 use Rattle.image_records.specs.declared.version.Version.{Version}
 
--- an answer whose error, if it is one, is of this kind
+-- a result whose error, if any, is of this kind
 abbrev Faults : Result Database LoadError → Type 0
 Faults (Ok db) = Unit {0}
 Faults (Err e) = IsOfText e
@@ -55,7 +55,7 @@ unfolding read_all
 read_all-faults [] = tt
 read_all-faults (r ∷ rs) = read_as-faults (version_of r) rs
 
--- what stops the records of a text is no fault of its source
+-- a fault of a text's records is none of its source
 pub stops-of_records : (e : LoadError) (bytes : List ℕ) → StopsBy e (read_all (records_in bytes)) → IsOfText e
 stops-of_records e bytes (inl memory) = subst IsOfText (sym memory) tt
 stops-of_records e bytes (inr fault) = subst Faults fault (read_all-faults (records_in bytes))

@@ -1,4 +1,4 @@
--- What is read from a field is within its limits.
+-- What is read from a field is within limits.
 use Rattle.std.proofs.Common.{◌≡◌, ◌≤◌, ◌+◌, ◌-ℤ◌, ℕ, zero, suc, ℤ, pos, List, [], ◌∷◌, ◌&&◌, Bool, true, false, cond, Option, Some, None, IfSome, Result, Ok, Err, refl, ap, arith, inl, inr}
 use Rattle.std.specs.Prelude.{IfOk, length, nat_le, ◌==◌, codes}
 use Rattle.std.specs.List.{AllByRecursion, list_all}
@@ -17,12 +17,12 @@ use Rattle.tpcc_rows.specs.Texts.{ArePrintable, IsPrintable, IsText, is_printabl
 use Rattle.image_records.specs.Columns.{texts_at}
 use Rattle.tpcc_rows.proofs.Singles.{and-left, and-right}
 
--- a field, and what is made of it
+-- a field and what is made of it
 pub then-gives : {A B : Type 0} (P : A → Type 0) (Q : B → Type 0) (r : Result A FaultKind) (f : A → Result B FaultKind) → IfOk r P → ((a : A) → P a → IfOk (f a) Q) → IfOk (r >>= f) Q
 then-gives P Q (Ok a) f h more = more a h
 then-gives P Q (Err e) f h more = tt
 
--- a field with no limits
+-- a field without limits
 pub any-gives : {A B : Type 0} (Q : B → Type 0) (r : Result A FaultKind) (f : A → Result B FaultKind) → ((a : A) → IfOk (f a) Q) → IfOk (r >>= f) Q
 any-gives Q (Ok a) f more = more a
 any-gives Q (Err e) f more = tt
@@ -38,7 +38,7 @@ number_in-within low high bytes = test-gives (IsBetween low high) (is_numeral by
     let below = and-right (nat_le low (digits_value 10 bytes)) (nat_le (digits_value 10 bytes) high) test in
     (grind (arith, nat_tests), grind (arith, nat_tests))))
 
--- the field at a place
+-- the field at an index
 said_by-within : {A : Type 0} (P : A → Type 0) (says : List ℕ → Result A FaultKind) → ((bytes : List ℕ) → IfOk (says bytes) P) → (field : Option (List ℕ)) → IfOk (said_by says field) P
 said_by-within P says all None = tt
 said_by-within P says all (Some bytes) = all bytes
@@ -46,7 +46,7 @@ said_by-within P says all (Some bytes) = all bytes
 pub number_at-within : (fields : Fields) (i low high : ℕ) → IfOk (number_at fields i low high) (IsBetween low high)
 number_at-within fields i low high = said_by-within (IsBetween low high) (number_in low high) (number_in-within low high) (field_at fields i)
 
--- a signed number, whose limits are these
+-- a signed number with these limits
 module _ (most : ℕ) (P : ℤ → Type 0) (above : (n : ℕ) → n ≤ most → P (pos n)) (below : (n : ℕ) → n ≤ most → P (pos 0 -ℤ pos n)) where
   below_zero-within : (digits : List ℕ) → IfOk (below_zero most digits) P
   below_zero-within digits = elim (cases_Bool (bytes_eq digits (codes "0"))) [
@@ -96,7 +96,7 @@ text_in-within most bytes = elim (cases_Bool (is_text most bytes)) [
 pub text_at-within : (fields : Fields) (i most : ℕ) → IfOk (text_at fields i most) (IsText most)
 text_at-within fields i most = said_by-within (IsText most) (text_in most) (text_in-within most) (field_at fields i)
 
--- texts, as many as are asked for
+-- as many texts as wanted
 pub texts_at-within : (fields : Fields) (i count most : ℕ) → IfOk (texts_at fields i count most) (λ ts. (length ts ≡ count) × AllByRecursion (IsText most) ts)
 unfolding texts_at
 texts_at-within fields i zero most = (refl, tt)

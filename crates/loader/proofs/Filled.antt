@@ -1,5 +1,5 @@
--- Tables as they are filled: each value is within its limits, and a row that comes in its card's record is there with it. The rows of
--- districts may come in records of their own.
+-- Filled tables: each value is within limits, and a row of its card's record is present with the card. The rows of districts
+-- may have records of their own.
 use Rattle.std.proofs.Common.{◌≡◌, ◌∙◌, ℕ, Option, Some, None, IsSome, IfSome, refl, sym, subst, inl, inr}
 use Rattle.std.specs.Cmp.{IsTotalOrder}
 use Rattle.std.specs.FinMap.{FinMap, IsAntisymmetric, get, get-empty, insert}
@@ -30,7 +30,7 @@ use Rattle.loader.specs.Tables.{no_tables, with_record}
 use Rattle.image_records.specs.declared.image_record.ImageRecord.{ImageRecord}
 use Rattle.image_records.specs.declared.image_record.ImageRecord.TheVariants as said
 
--- the key of the card whose record a row comes in
+-- the key of the card whose record has a row
 abbrev pub card_key_of : RowKey → Option CardKey
 card_key_of (key.Warehouse w) = Some (card_key.Warehouse w)
 card_key_of (key.Customer w d c) = Some (card_key.Customer w d c)
@@ -42,7 +42,7 @@ card_key_of (key.History n) = None
 card_key_of (key.DistrictYtd w d) = None
 card_key_of (key.DistrictNext w d) = None
 
--- the key of the row that comes in a card's record
+-- the key of the row in a card's record
 abbrev pub row_key_of : CardKey → Option RowKey
 row_key_of (card_key.Warehouse w) = Some (key.Warehouse w)
 row_key_of (card_key.District w d) = None
@@ -74,7 +74,7 @@ pub record IsLineRow (n : ℕ) (r : OrderLineRow) : Type 0 where
   pub amount : IsBetween 0 999999 r.amount
   pub district_info : IsText 24 r.district_info
 
--- the row is of its key's kind, and within its limits
+-- the row is of its key's kind and within limits
 abbrev pub IsLimited : RowKey → Row → Type 0
 IsLimited (key.Warehouse w) (row.Warehouse r) = IsCents r.ytd
 IsLimited (key.Customer w d c) (row.Customer r) = IsCustomerRow r
@@ -94,7 +94,7 @@ pub record IsFilled (db : Database) : Type 0 where
   pub owned : (k : RowKey) (q : CardKey) (x : Row) → card_key_of k ≡ Some q → get db.rows k ≡ Some x → IsSome (get db.cards q)
   pub entries : (k : RowKey) (x : Row) → get db.rows k ≡ Some x → IsLimited k x
 
--- what a record says is within its limits
+-- a record is within limits
 abbrev pub IsRead : ImageRecord → Type 0
 IsRead (said.Warehouse c r) = IsCard (card.Warehouse c) × IsCents r.ytd
 IsRead (said.District c) = IsCard (card.District c)
@@ -118,7 +118,7 @@ filled-none = record {
   entries = λ k x there. let no : None ≡ Some x = sym (get-empty row_key_cmp k) ∙ there in let bad : ⊥ = cc in absurd bad;
 }
 
--- one entry more
+-- one more entry
 module _ {K X : Type 0} {R : K → K → Ordering} (total : IsTotalOrder R) (exact : IsAntisymmetric R) (m : FinMap R X) (k : K) (x : X) where
   pub some-here : IsSome (get (insert m k x) k)
   some-here = subst IsSome (sym (here total exact m k x)) refl
@@ -129,7 +129,7 @@ module _ {K X : Type 0} {R : K → K → Ordering} (total : IsTotalOrder R) (exa
     | inr n ↦ subst IsSome (sym (apart total exact m k x q n)) some
   ]
 
--- a card more, which goes with no row
+-- one more card without a row
 module _ (db : Database) (q : CardKey) (c : Card) (filled : IsFilled db) where
   filled-card : row_key_of q ≡ None → own_key c ≡ q → IsCard c → IsFilled (database (insert db.cards q c) db.rows)
   filled-card alone own limited = record {
@@ -146,7 +146,7 @@ module _ (db : Database) (q : CardKey) (c : Card) (filled : IsFilled db) where
     entries = filled.entries;
   }
 
--- a card more, with its row
+-- one more card with its row
 module _ (db : Database) (q : CardKey) (c : Card) (k : RowKey) (x : Row) (filled : IsFilled db) where
   filled-both : row_key_of q ≡ Some k → card_key_of k ≡ Some q → own_key c ≡ q → IsCard c → IsLimited k x → IsFilled (database (insert db.cards q c) (insert db.rows k x))
   filled-both row_is card_is own limited row_limited = record {
@@ -174,7 +174,7 @@ module _ (db : Database) (q : CardKey) (c : Card) (k : RowKey) (x : Row) (filled
     ];
   }
 
--- a row more, which goes with no card
+-- one more row without a card
 module _ (db : Database) (k : RowKey) (x : Row) (filled : IsFilled db) where
   filled-row : card_key_of k ≡ None → IsLimited k x → IsFilled (database db.cards (insert db.rows k x))
   filled-row alone limited = record {
@@ -193,7 +193,7 @@ module _ (db : Database) (k : RowKey) (x : Row) (filled : IsFilled db) where
     ];
   }
 
--- the tables with what one more record says
+-- the tables with one more record
 pub filled-more : (db : Database) (record_said : ImageRecord) → IsRead record_said → IsFilled db → IsFilled (with_record db record_said)
 filled-more db (said.Warehouse c r) h filled = filled-both db (card_key.Warehouse c.warehouse) (card.Warehouse c) (key.Warehouse c.warehouse) (row.Warehouse r) filled refl refl refl h.0 h.1
 filled-more db (said.District c) h filled = filled-card db (card_key.District c.warehouse c.district) (card.District c) filled refl refl h

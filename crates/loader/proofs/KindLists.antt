@@ -1,4 +1,4 @@
--- Rows in a list for each kind: one more behind those of its kind.
+-- Rows in a list for each kind: one more after those of its kind.
 use Rattle.std.proofs.Common.{◌≡◌, ◌<◌, ◌+◌, ◌==◌, ℕ, zero, suc, Bool, true, false, ◌&&◌, cond, T, List, [], ◌∷◌, ◌++◌, length, get_or, set, Some, None, Result, Ok, Err, is_ok, is_some, refl, sym, ap, subst, ◌∙◌, append-nil, append_assoc, arith}
 use Rattle.std.proofs.lemmas.Bool.{eqb-true, eq-eqb}
 use Rattle.std.specs.Prelude.{⊤}
@@ -61,7 +61,7 @@ kinds_rise a b h = by_kinds a b ∙ ap (λ o. ordering_then o (row_key_cmp a b))
 greater : (a b : RowKey) → row_key_cmp a b ≡ Less → row_key_cmp b a ≡ Greater
 greater a b h = row_key_cmp_total.antisymm b a ∙ ap ordering_reverse h
 
--- ---- a key behind some rows, and before others
+-- ---- a key after some rows and before others
 abbrev pub Behind : RowKey → Entries → Type 0
 Behind k [] = ⊤
 Behind k (e ∷ es) = (row_key_cmp e.0 k ≡ Less) × Behind k es
@@ -172,8 +172,8 @@ all-more (es ∷ lists) = ap (λ rest. es ++ rest) (all-more lists)
 pub more-empty : (lists : List Entries) → AreEmptyLists lists → AreEmptyLists (lists ++ [] ∷ [])
 more-empty lists are = record { none = all-more lists ∙ are.none; by_kind = λ n. by_kind-more n lists (are.by_kind n) }
 
--- ---- one row more
--- one list replaced by one with a row of its kind more, behind all others
+-- ---- one more row
+-- one list extended by a row of its kind
 pub record IsPush (lists : List Entries) (i : ℕ) (old new : Entries) (k : RowKey) (x : Row) : Type 0 where
   pub place : i ≡ kind k
   pub small : i < length lists
@@ -282,13 +282,13 @@ module _ (lists : List Entries) (are : AreKindLists lists) (i : ℕ) (old new : 
   pub fresh-push : get (rows_in (all_kinds lists)) k ≡ None
   fresh-push = get-from_sorted row_key_cmp (all_kinds lists) k order ∙ find-kinds k x old new h.behind h.push 0 i lists are.by_kind from-zero h.small h.here
 
--- ---- one row more behind all others
+-- ---- one more row after all others
 pub order-push : (old : Entries) (k : RowKey) (x : Row) → are_in_order row_key_cmp old ≡ true → IsPlaceOf row_key_cmp k old (Err (length old)) → are_in_order row_key_cmp (old ++ (k, x) ∷ []) ≡ true
 order-push old k x order place =
     ap (are_in_order row_key_cmp) (sym (ap (put row_key_cmp k x) (sym (append-nil old)) ∙ put-behind k x old [] (behind-placed k old place.1)))
     ∙ in-order _ (is_sorted-put row_key_cmp row_key_cmp_total k x old (subst T (sym order) tt))
 
--- ---- rows in order, put one after the other
+-- ---- lists in order, joined
 pub with_each-sorted : (es : Entries) → are_in_order row_key_cmp es ≡ true → with_each es empty ≡ rows_in es
 with_each-sorted es order = ap (λ (xs : Entries). with_each xs empty) (sym (entries-map_of row_key_cmp es order)) ∙ with_each-entries (rows_in es)
 

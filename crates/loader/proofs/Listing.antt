@@ -1,4 +1,4 @@
--- A list of rows in any order, and the set of its keys.
+-- A list of rows in any order and the set of its keys.
 use Rattle.std.proofs.Common.{◌≡◌, ◌<◌, ◌+◌, ℕ, zero, suc, Bool, true, false, cond, List, [], ◌∷◌, ◌++◌, Option, Some, None, length, get_or, take, is_some, refl, sym, ap, ◌∙◌, arith}
 use Rattle.std.specs.BTreeSet.{BTreeSet, Updates, contains}
 use Rattle.std.specs.BTreeMap.{is_at}
@@ -16,7 +16,7 @@ use Rattle.tpcc_rows.proofs.Keys.{row_key_cmp_total}
 use Rattle.tpcc_rows.proofs.Puts.{with_each-push}
 use Rattle.tpcc_rows.proofs.Singles.{and-left, and-right}
 
--- the keys of the set are those that have a row
+-- the set's keys are those with a row
 abbrev pub AreKeys : BTreeSet RowKey → Rows → Type 0
 AreKeys keys rows = (k : RowKey) → contains row_key_cmp keys k ≡ is_some (get rows k)
 
@@ -27,7 +27,7 @@ some-cond : (b : Bool) (x : Row) (o : Option Row) → cond b true (is_some o) �
 some-cond true x o = refl
 some-cond false x o = refl
 
--- one row more, and its key
+-- one more row and its key
 more-keys : (rows : Rows) (k : RowKey) (x : Row) (old new : BTreeSet RowKey) → AreKeys old rows → Updates row_key_cmp old new k true → AreKeys new (insert rows k x)
 more-keys rows k x old new are more q =
     more.0 q ∙ ap (cond (eq_by_cmp row_key_cmp k q) true) (are q) ∙ some-cond (eq_by_cmp row_key_cmp k q) x (get rows q)

@@ -1,4 +1,4 @@
--- What a record says is within its limits.
+-- Records are within limits.
 use Rattle.std.proofs.Common.{◌≡◌, ℕ, ℤ, List, Bool, cond, Option, IfSome, Result, Err, true, false}
 use Rattle.std.specs.Prelude.{IfOk, ◌==◌, length, codes}
 use Rattle.std.specs.List.{AllByRecursion}

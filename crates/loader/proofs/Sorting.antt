@@ -1,4 +1,4 @@
--- Rows put in the order of their keys, those of a key in their own order.
+-- Rows sorted by key, stably.
 use Rattle.std.proofs.Common.{◌≡◌, Bool, true, false, ◌&&◌, ◌||◌, not, cond, List, [], ◌∷◌, Option, Some, None, inl, inr, refl, sym, ap, ◌∙◌}
 use Rattle.std.proofs.lemmas.Bool.{cases_Bool}
 use Rattle.std.proofs.lemmas.List.Sorted.{list_any-IsPermutation}
@@ -17,7 +17,7 @@ use Rattle.tpcc_rows.specs.declared.row.Row.{Row}
 use Rattle.tpcc_rows.specs.declared.row.Row.TheVariants as row
 use Rattle.tpcc_rows.proofs.Keys.{exact_keys, row_key_cmp_total}
 
--- the row of the last entry that has the key
+-- the row of the key's last entry
 abbrev last_of : RowKey → List (RowKey × Row) → Option Row → Option Row
 last_of q [] was = was
 last_of q (e ∷ es) was = last_of q es (cond (eq_by_cmp row_key_cmp q e.0) (Some e.1) was)
@@ -38,7 +38,7 @@ tie-equal Greater p h = ap (λ x. not (is_lt x)) h
 same-equal : (x e : RowKey × Row) → same_key x e ≡ eq_by_cmp row_key_cmp x.0 e.0
 same-equal x e = tie-equal (row_key_cmp x.0 e.0) (row_key_cmp e.0 x.0) (row_key_cmp_total.antisymm e.0 x.0)
 
--- entries of other keys leave it as it is
+-- entries of other keys don't change it
 last-filter : (x : RowKey × Row) (es : List (RowKey × Row)) (was : Option Row) → last_of x.0 (filter (same_key x) es) was ≡ last_of x.0 es was
 last-filter x [] was = refl
 last-filter x (e ∷ es) was =
@@ -59,7 +59,7 @@ listed-sorted old new stable = same_map row_key_cmp_total exact_keys _ _ (λ q.
     get-last new none q ∙ sym (last-filter x new (get none q)) ∙ ap (λ (es : List (RowKey × Row)). last_of q es (get none q)) (stable x)
     ∙ last-filter x old (get none q) ∙ sym (get-last old none q))
 
--- each row is of its key's kind, in whatever order
+-- each row is of its key's kind, in any order
 apart : (b x y : Bool) → x ≡ not y → (b && x) ≡ not (not b || y)
 apart true x y h = h
 apart false x y h = refl

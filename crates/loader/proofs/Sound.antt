@@ -1,4 +1,4 @@
--- Filled tables that pass the tests are sound.
+-- Filled tables that pass the checks are sound.
 use Rattle.std.proofs.Common.{◌≡◌, ◌∙◌, ◌+◌, ◌-◌, ◌<◌, ◌≤◌, ℕ, zero, suc, ◌&&◌, Bool, true, false, Option, Some, None, IsSome, IfSome, get_or, refl, sym, ap, inl, inr, arith}
 use Rattle.std.specs.List.{list_all}
 use Rattle.std.specs.Option.{option_and_then}
@@ -40,7 +40,7 @@ then-some : {A B : Type 0} (f : A → Option B) (o : Option A) → IsSome (optio
 then-some f None h = h
 then-some f (Some a) h = refl
 
--- what is there by its key is of the key's kind
+-- a card is of its key's kind
 then-kind : {B : Type 0} (f : Card → Option B) (cards : Cards) (q : CardKey) → AreKeyed cards → ((c : Card) → own_key c ≡ q → IsSome (f c)) → IsSome (get cards q) → IsSome (option_and_then f (get cards q))
 then-kind f cards q keyed kind some = at (get cards q) refl some
   where
@@ -108,7 +108,7 @@ module _ (db : Database) (filled : IsFilled db) (parents : parents_there db ≡ 
   unfolding parents_there
   rows-pass = and-right (list_all (card_has_parents db) (entries db.cards)) (list_all (row_has_parents db) (entries db.rows)) parents
 
-  -- a card that is there has its parents
+  -- a present card has its parents
   card-parents : (q : CardKey) → IsSome (get db.cards q) → (c : Card) × (card_has_parents db (q, c) ≡ true)
   card-parents q some =
       let (c, there) = value-of (get db.cards q) some in
@@ -136,13 +136,13 @@ module _ (db : Database) (filled : IsFilled db) (parents : parents_there db ≡ 
         then-kind as_item db.cards (card_key.Item i) filled.keyed (item-kind i) (and-right (has_card db.cards (card_key.Warehouse w)) (has_card db.cards (card_key.Item i)) pass);
   }
 
-  -- a district that is there has its rows
+  -- a present district has its rows
   own-rows : (w d : ℕ) → IsSome (district_card db.cards w d) → has_own_rows db.rows (card_key.District w d) ≡ true
   own-rows w d some =
       let (c, pass) = card-parents (card_key.District w d) (then-some as_district (get db.cards (card_key.District w d)) some) in
       and-right (has_card db.cards (card_key.Warehouse w)) (has_own_rows db.rows (card_key.District w d)) pass
 
-  -- where a card is, its row is
+  -- a present card has its row
   pub rows-there : (k : RowKey) → HasCard db.cards k → IsSome (get db.rows k)
   rows-there (key.Warehouse w) some = filled.there (key.Warehouse w) (card_key.Warehouse w) refl (then-some as_warehouse (get db.cards (card_key.Warehouse w)) some)
   rows-there (key.Customer w d n) some = filled.there (key.Customer w d n) (card_key.Customer w d n) refl (then-some as_customer (get db.cards (card_key.Customer w d n)) some)
@@ -154,7 +154,7 @@ module _ (db : Database) (filled : IsFilled db) (parents : parents_there db ≡ 
   rows-there (key.DistrictYtd w d) some = and-left (has_row db.rows (key.DistrictYtd w d)) (has_row db.rows (key.DistrictNext w d)) (own-rows w d some)
   rows-there (key.DistrictNext w d) some = and-right (has_row db.rows (key.DistrictYtd w d)) (has_row db.rows (key.DistrictNext w d)) (own-rows w d some)
 
-  -- a row that is there has its parents
+  -- a present row has its parents
   row-parents : (k : RowKey) (x : Row) → get db.rows k ≡ Some x → row_has_parents db (k, x) ≡ true
   row-parents k x there = passes row_key_cmp_total exact_keys (row_has_parents db) db.rows k x rows-pass there
 
@@ -164,7 +164,7 @@ module _ (db : Database) (filled : IsFilled db) (parents : parents_there db ≡ 
   customer-card : (w d c : ℕ) → has_card db.cards (card_key.Customer w d c) ≡ true → IsSome (customer_card db.cards w d c)
   customer-card w d c some = then-kind as_customer db.cards (card_key.Customer w d c) filled.keyed (customer-kind w d c) some
 
-  -- what is there by an order's key is an order
+  -- the row of an order's key is an order
   order-of : (w d o : ℕ) (x : Row) → get db.rows (key.Order w d o) ≡ Some x → HasOrder db.rows w d o
   order-of w d o x there = of-kind x there (filled.entries (key.Order w d o) x there)
     where
@@ -172,7 +172,7 @@ module _ (db : Database) (filled : IsFilled db) (parents : parents_there db ≡ 
       of-kind (row.Order r) there h = (r, there)
       of-kind _ there h = absurd h
 
-  -- an order that has at least so many lines
+  -- an order of at least this many lines
   line-order : (w d o n : ℕ) → has_line n (order_row db.rows w d o) ≡ true → (r : OrderRow) × (get db.rows (key.Order w d o) ≡ Some (row.Order r)) × (n ≤ r.line_count)
   line-order w d o n line = at (get db.rows (key.Order w d o)) refl line
     where
@@ -180,7 +180,7 @@ module _ (db : Database) (filled : IsFilled db) (parents : parents_there db ≡ 
       at (Some (row.Order r)) there line = (r, there, grind (arith, nat_tests))
       at _ there line = cc
 
-  -- each row is as it should be
+  -- each row is sound
   pub entry : (k : RowKey) (x : Row) → get db.rows k ≡ Some x → IsLimited k x → IsEntry db.cards db.rows k x
   entry (key.Warehouse w) (row.Warehouse r) there h = (then-kind as_warehouse db.cards (card_key.Warehouse w) filled.keyed (warehouse-kind w) (filled.owned (key.Warehouse w) (card_key.Warehouse w) (row.Warehouse r) refl there), h)
   entry (key.Customer w d n) (row.Customer r) there h = (then-kind as_customer db.cards (card_key.Customer w d n) filled.keyed (customer-kind w d n) (filled.owned (key.Customer w d n) (card_key.Customer w d n) (row.Customer r) refl there), h)
@@ -232,7 +232,7 @@ module _ (db : Database) (filled : IsFilled db) (parents : parents_there db ≡ 
   entry _ _ there h = absurd h
 
 -- ---- conditions
--- the test of condition 1, at a look-up
+-- the check of condition 1, at a look-up
 first-at : (rows : Rows) (w : ℕ) (o : Option Row) → ((r : Row) → o ≡ Some r → ytd_agrees rows (key.Warehouse w, r) ≡ true) → IfSome (option_and_then row_as_warehouse o) (λ r. r.ytd ≡ total (district_share w) rows)
 first-at rows w None pass = tt
 first-at rows w (Some (row.Warehouse r)) pass = (Decides-int_eq r.ytd (total (district_share w) rows)).0 (pass (row.Warehouse r) refl)

@@ -18,7 +18,7 @@ with_addition db (variant.Row k x) = record db { rows = map.insert db.rows k x }
 with_addition db (variant.Both c k x) = record { cards = map.insert db.cards (card_key c) c; rows = map.insert db.rows k x }
 with_addition db (variant.WholeDistrict c ytd next) = with_record db (said.WholeDistrict c ytd next)
 
--- the key of the card, or of the row that goes with no card, came before
+-- whether the key of the card, or of the row if it has no card, is taken
 abbrev pub has_addition : Database → Addition → Bool
 has_addition db (variant.Card c) = has_card db.cards (card_key c)
 has_addition db (variant.Row k x) = has_row db.rows k
@@ -32,7 +32,7 @@ AdditionFits (variant.Row k x) = fits k x ≡ true
 AdditionFits (variant.Both c k x) = fits k x ≡ true
 AdditionFits (variant.WholeDistrict c ytd next) = ⊤
 
--- this is what the record adds
+-- the record adds this
 pub record IsSaidBy (record_said : ImageRecord) (addition : Addition) : Type 0 where
   pub whole : (db : Database) → with_record db record_said ≡ with_addition db addition
   pub taken : (db : Database) → is_taken db record_said ≡ has_addition db addition

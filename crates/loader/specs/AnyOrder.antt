@@ -9,7 +9,7 @@ use Rattle.tpcc_rows.specs.RowMap.{Rows, row_key_cmp}
 use Rattle.tpcc_rows.specs.declared.key.RowKey.{RowKey}
 use Rattle.tpcc_rows.specs.declared.row.Row.{Row}
 
--- of a key the last row counts
+-- the last row of a key counts
 abbrev pub listed : List (RowKey × Row) → Rows
 listed rows = with_each rows map.empty
 

@@ -1,4 +1,4 @@
--- Cards and rows as they are gathered.
+-- Cards and rows gathered so far.
 use Rattle.tpcc_model.specs.Database.{Database, database}
 use Rattle.tpcc_rows.specs.RowMap.{Rows}
 use Rattle.loader.specs.declared.gathered.Gathered.{Gathered}
@@ -15,7 +15,7 @@ gathered (variant.AnyOrder rows) = rows
 abbrev pub gathered_database : GatheredTables → Database
 gathered_database tables = database tables.cards (gathered tables.rows)
 
--- the rows that are still to be put on pages
+-- the rows not yet on pages
 abbrev pub unpaged : Unpaged → Rows
 unpaged (way.Sorted rows) = rows
 unpaged (way.Mapped store) = store

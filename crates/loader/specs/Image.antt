@@ -1,4 +1,4 @@
--- The database of an image, or its one fault.
+-- The database of an image, or its fault.
 use Rattle.std.specs.Prelude.{◌≡◌, ◌⊎◌, ◌==◌, ◌&&◌, ◌+◌, ◌-◌, ◌<◌, ◌∷◌, [], Bool, ℕ, List, length, codes, decimal, Option, Some, None, Result, Ok, Err, if◌then◌else◌}
 use Rattle.csv.specs.Records.{field_at}
 use Rattle.records.specs.Fields.{Fields, is_text}
@@ -15,11 +15,11 @@ use Rattle.image_records.specs.declared.fault.LoadError.TheVariants as err
 use Rattle.image_records.specs.declared.image_record.ImageRecord.{ImageRecord}
 use Rattle.image_records.specs.declared.version.Version.{Version}
 
--- what a database leads to
+-- how the database so far continues
 abbrev pub Rest : Type 0
 Rest = Database → Result Database LoadError
 
--- what the record of this number says is taken in, unless its key came before, and what follows goes on from there
+-- adds the record with number n, unless its key is taken, and continues
 abbrev pub placed : ℕ → Database → Result ImageRecord FaultKind → Rest → Result Database LoadError
 placed n db (Err e) rest = Err (fault_of n e)
 placed n db (Ok said) rest = if is_taken db said then Err (err.Duplicate n) else rest (with_record db said)
@@ -27,23 +27,23 @@ placed n db (Ok said) rest = if is_taken db said then Err (err.Duplicate n) else
 abbrev pub is_end : Fields → Bool
 is_end fields = is_text (codes "E") (field_at fields 0)
 
--- `E,count`: the number of records between the first and this one, whose own number is n
+-- `E,count`, with the number of records between the first and this one, which is number n
 abbrev pub counts : ℕ → Fields → Bool
 counts n fields = (length fields == 2) && is_text (decimal (n - 2)) (field_at fields 1)
 
--- nothing comes after the end record
+-- nothing follows the end record
 abbrev pub ended : List Fields → ℕ → Database → Result Database LoadError
 ended [] n db = Ok db
 ended (r ∷ rs) n db = Err (err.BadRecord n)
 
--- the tables of these records, from the one of this number on, after what came before
+-- adds these records, the first of which is number n
 unfoldable pub read_from : Version → List Fields → ℕ → Database → Result Database LoadError
 read_from version [] n db = Err err.Truncated
 read_from version (r ∷ rs) n db =
     if is_end r then (if counts n r then ended rs (n + 1) db else Err (err.BadRecord n))
     else placed n db (record_at version r) (read_from version rs (n + 1))
 
--- the tables of the records behind the first, which tells the version
+-- the tables of the records after the first, which names the version
 abbrev pub read_as : Option Version → List Fields → Result Database LoadError
 read_as None rs = Err (err.BadRecord 1)
 read_as (Some version) rs = read_from version rs 2 no_tables
@@ -53,19 +53,19 @@ unfoldable pub read_all : List Fields → Result Database LoadError
 read_all [] = Err err.Truncated
 read_all (r ∷ rs) = read_as (version_of r) rs
 
--- the tests of parents and of conditions come after all records
+-- parents and conditions are checked after all records
 abbrev pub tested : Result Database LoadError → Result Database LoadError
 tested (Ok db) = checked db
 tested (Err e) = Err e
 
--- the most bytes of an image
+-- the maximum size of an image, in bytes
 abbrev pub most_bytes : ℕ
 most_bytes = 4294967295
 
--- the sound database of an image, or its fault
+-- the database of an image, which is sound, or its fault
 abbrev pub image : List ℕ → Result Database LoadError
 image bytes = tested (read_all (records_in bytes))
 
--- the bytes give no database, or they couldn't be read
+-- the bytes aren't an image, are too many, couldn't be read, or memory was refused
 abbrev pub IsUnread : LoadError → List ℕ → Type 0
 IsUnread e bytes = (e ≡ err.Memory) ⊎ (e ≡ err.Read) ⊎ ((e ≡ err.InputTooLong) × (most_bytes < length bytes)) ⊎ (image bytes ≡ Err e)

@@ -1,4 +1,4 @@
--- Rows by kind: a list for each kind, its rows in the order of their keys; and the rows of all kinds in one list.
+-- Rows by kind, a list each in key order, and all rows in one list.
 use Rattle.std.specs.Prelude.{◌≡◌, ◌==◌, ◌+◌, ◌++◌, ℕ, true, ⊤, List, [], ◌∷◌, length}
 use Rattle.std.specs.List.{list_all}
 use Rattle.tpcc_rows.specs.Places.{are_in_order}
@@ -21,13 +21,13 @@ kind (key.History number) = 6
 kind (key.DistrictYtd w d) = 7
 kind (key.DistrictNext w d) = 8
 
--- rows of this kind alone, in the order of their keys
+-- rows of only this kind, in key order
 pub record AreOfKind (n : ℕ) (rows : List (RowKey × Row)) : Type 0 where
   pub order : are_in_order row_key_cmp rows ≡ true
   pub kinds : list_all (λ row. kind row.0 == n) rows ≡ true
   pub fit : list_all (λ row. fits row.0 row.1) rows ≡ true
 
--- the lists are those of the kinds from this one on
+-- the lists of the kinds from n on
 abbrev pub AreByKind : ℕ → List (List (RowKey × Row)) → Type 0
 AreByKind n [] = ⊤
 AreByKind n (rows ∷ lists) = AreOfKind n rows × AreByKind (n + 1) lists
@@ -42,7 +42,7 @@ abbrev pub all_kinds : List (List (RowKey × Row)) → List (RowKey × Row)
 all_kinds [] = []
 all_kinds (rows ∷ lists) = rows ++ all_kinds lists
 
--- rows in the order of their keys
+-- rows in key order
 pub record AreSorted (rows : List (RowKey × Row)) : Type 0 where
   pub order : are_in_order row_key_cmp rows ≡ true
   pub fit : list_all (λ row. fits row.0 row.1) rows ≡ true

@@ -1,4 +1,4 @@
--- Cards and rows as they are filled.
+-- Cards and rows, filled record by record.
 use Rattle.std.specs.Prelude.{Bool}
 use Rattle.std.specs.FinMap as map
 use Rattle.catalog.specs.declared.card.Card.TheVariants as card
@@ -13,7 +13,7 @@ use Rattle.image_records.specs.declared.image_record.ImageRecord.TheVariants as 
 abbrev pub no_tables : Database
 no_tables = database map.empty map.empty
 
--- the key of what a record says came before
+-- whether the key of a record is taken
 abbrev pub is_taken : Database → ImageRecord → Bool
 is_taken db (said.Warehouse c r) = has_card db.cards (card_key.Warehouse c.warehouse)
 is_taken db (said.District c) = has_card db.cards (card_key.District c.warehouse c.district)
@@ -28,7 +28,7 @@ is_taken db (said.NewOrder w d o) = has_row db.rows (key.NewOrder w d o)
 is_taken db (said.OrderLine w d o number r) = has_row db.rows (key.OrderLine w d o number)
 is_taken db (said.History number r) = has_row db.rows (key.History number)
 
--- the database with what a record says
+-- the database with a record added
 abbrev pub with_record : Database → ImageRecord → Database
 with_record db (said.Warehouse c r) = record {
   cards = map.insert db.cards (card_key.Warehouse c.warehouse) (card.Warehouse c);

@@ -28,7 +28,7 @@ impl Gathered {
         Ok(Gathered::InOrder(KindLists::new(alloc)?))
     }
 
-    /// The same rows, open to rows in any order.
+    /// The rows, ready for further ones in any order.
     fn into_any_order(self, alloc: Global) -> Result<AnyOrderRows, Memory>
         ensures { IfOk result (λ rows. rows ≡ gathered self) }
     {
@@ -65,8 +65,7 @@ impl Gathered {
         }
     }
 
-    /// Puts a row that comes out of order under its key. From then on rows may come in any order. If an allocation fails, the
-    /// other rows are lost.
+    /// Puts a row that comes out of order under its key. If an allocation fails, the other rows are lost.
     pub(crate) fn insert(&mut self, alloc: Global, key: RowKey, row: Row) -> Result<(), Memory>
         requires { fits key row ≡ true }
         ensures { OnOk result (gathered self.new ≡ map.insert (gathered self.old) key row) }

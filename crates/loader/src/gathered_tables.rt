@@ -22,8 +22,8 @@ use tpcc_rows::key::RowKey;
 use tpcc_rows::memory::Memory;
 use tpcc_rows::row::{DistrictNextRow, DistrictYtdRow, Row};
 
-/// The cards and rows of the records read so far. Rows that come in key order within each kind, as a stored image's do,
-/// are kept in one list per kind; from the first one out of order on, all are in one list, beside the set of their keys.
+/// The cards and rows of the records read so far. While rows come in key order within each kind, as a stored image's do,
+/// they are kept in a list per kind; from the first one out of order on, in one list beside the set of their keys.
 #[derive(Drop)]
 pub struct GatheredTables {
     cards: CatalogBuilder,

@@ -39,7 +39,7 @@ fn read_text(alloc: Global, text: Vec<u8>) -> Result<(Catalog, UnpagedRows), Loa
     Ok((catalog, rows))
 }
 
-/// The cards and rows of the database that `load` returns. Fails as `load` does, except where allocating pages fails.
+/// The cards and rows of the image that a source has left, as in `load`, but not on pages.
 pub fn read_image<S: Source>(
     alloc: Global,
     source: &mut S,
@@ -51,7 +51,7 @@ pub fn read_image<S: Source>(
     ensures err { IfErr result (λ e.
         IsOfReading e ⊎ IfSome (S.left source.old) (λ bytes. image bytes ≡ Err e)) }
 
-    // Each fault is reported only if it is there, and no other failure is.
+    // Each fault is reported only if present, and no other failure is.
     ensures too_long { IsErrOf result LoadError.InputTooLong
         → IfSome (S.left source.old) (λ bytes. most_bytes < length bytes) }
     ensures read { IsErrOf result LoadError.Read → S.failed source.new ≡ S.failed source.old + 1 }
@@ -66,7 +66,7 @@ pub fn read_image<S: Source>(
     read_text(alloc, text)
 }
 
-/// The bytes that a source gives up to its end.
+/// The bytes of a source up to its end.
 fn text_of<S: TellingSource>(alloc: Global, source: &mut S) -> Result<Vec<u8>, LoadError>
     requires { S.failed source.old < 2 ^ 63 }
     ensures whole { IfOk result (λ v. OfSource (S.left source.old) (S.given source.old) (S.given source.new) (λ bytes. v.items ≡ bytes)) }
@@ -84,7 +84,7 @@ fn text_of<S: TellingSource>(alloc: Global, source: &mut S) -> Result<Vec<u8>, L
     }
 }
 
-/// What `read_image` gives, of the bytes that a source gives up to its end.
+/// The cards and rows of an image: the bytes of a source up to its end.
 pub fn read_told<S: TellingSource>(
     alloc: Global,
     source: &mut S,
@@ -97,7 +97,7 @@ pub fn read_told<S: TellingSource>(
     ensures sound { IfOk result (λ db. IsSound (database db.0 db.1)) }
     ensures err { IfErr result (λ e. OfSource (S.left source.old) (S.given source.old) (S.given source.new) (IsUnread e)) }
 
-    // No failure but the one that is answered.
+    // No failure but the reported one.
     ensures read { IsErrOf result LoadError.Read → S.failed source.new ≡ S.failed source.old + 1 }
     ensures no_read { (result ≢ Err LoadError.Read) → S.failed source.new ≡ S.failed source.old }
 {
@@ -108,8 +108,8 @@ pub fn read_told<S: TellingSource>(
     read_text(alloc, text)
 }
 
-/// The database of the image that a source has left, of at most 4,294,967,295 bytes. The first bad record is reported
-/// before a missing end record, that before a missing parent, and that before the lowest-numbered condition that fails.
+/// Loads the image that a source has left, of at most 4,294,967,295 bytes. Of several faults the first bad record is
+/// reported, else a missing end record, a missing parent, or the first condition that fails.
 pub fn load<S: Source>(alloc: Global, source: &mut S) -> Result<(Catalog, PointedStore), LoadError>
     requires { S.failed source.old < 2 ^ 63 }
     ensures ok { IfOk result (λ db. IfSome (S.left source.old) (λ bytes. image bytes ≡ Ok (loaded db))) }
@@ -120,7 +120,7 @@ pub fn load<S: Source>(alloc: Global, source: &mut S) -> Result<(Catalog, Pointe
     ensures err { IfErr result (λ e.
         IsOfReading e ⊎ IfSome (S.left source.old) (λ bytes. image bytes ≡ Err e)) }
 
-    // Each fault is reported only if it is there, and no other failure is.
+    // Each fault is reported only if present, and no other failure is.
     ensures too_long { IsErrOf result LoadError.InputTooLong
         → IfSome (S.left source.old) (λ bytes. most_bytes < length bytes) }
     ensures read { IsErrOf result LoadError.Read → S.failed source.new ≡ S.failed source.old + 1 }

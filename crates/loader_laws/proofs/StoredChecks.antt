@@ -1,4 +1,4 @@
--- A sound database passes the tests.
+-- A sound database passes the checks.
 use Rattle.std.proofs.Common.{◌≡◌, ◌&&◌, ℕ, Bool, true, Option, Some, None, IsSome, refl, ap, ap₂, arith}
 use Rattle.std.specs.Prelude.{is_some, nat_le, option_and_then}
 use Rattle.std.specs.List.{list_all}

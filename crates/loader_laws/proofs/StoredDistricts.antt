@@ -1,4 +1,4 @@
--- Consistent districts pass the tests.
+-- Consistent districts pass the checks.
 use Rattle.std.proofs.Common.{◌≡◌, ◌∙◌, ◌+◌, ◌-◌, ◌==◌, ◌&&◌, ℕ, pos, true, Option, Some, None, unwrap_or, inl, inr, refl, sym, ap₂, arith}
 use Rattle.std.specs.Option.{option_map_or}
 use Rattle.std.specs.FinMap.{get}

@@ -53,7 +53,7 @@ RowsApart = AreApart row_key_cmp_total exact_keys
 abbrev CardsFresh : Cards → List (CardKey × Card) → Type 0
 CardsFresh = AreFresh card_key_cmp_total exact_cards (λ q. Unit {0})
 
--- of the rows that are said by themselves in a part of an image
+-- rows with records of their own, in a part of an image
 abbrev RowsFresh : RowPart → Rows → List (RowKey × Row) → Type 0
 RowsFresh p = AreFresh row_key_cmp_total exact_keys (λ q. row_part_of q ≡ Some p)
 
@@ -110,7 +110,7 @@ all_rows-after : (ss : List ImageRecord) (db : Database) → AllByRecursion IsSt
 all_rows-after [] db stored = refl
 all_rows-after (s ∷ ss) db stored = all_rows-after ss (with_record db s) stored.1 ∙ ap (put_rows (map row_of ss)) (rows-after db s stored.0)
 
--- ---- records with keys that didn't come before
+-- ---- records with new keys
 abbrev AreNew : Database → List ImageRecord → Type 0
 AreNew db [] = Unit {0}
 AreNew db (s ∷ ss) = (is_taken db s ≡ false) × AreNew (with_record db s) ss
@@ -134,7 +134,7 @@ of_kind-other (said.NewOrder w d o) = refl
 of_kind-other (said.OrderLine w d o n r) = refl
 of_kind-other (said.History n r) = refl
 
--- the records are taken in, one after the other
+-- the records are added one by one
 read-records : (ss : List ImageRecord) (db : Database) (n : ℕ) (tail : List Fields) → AllByRecursion IsStored ss → AreNew db ss
     → read_from version.Two (map written_record ss ++ tail) n db ≡ read_from version.Two tail (n + length ss) (with_records ss db)
 unfolding read_from
@@ -144,7 +144,7 @@ read-records (s ∷ ss) db n tail stored new =
     let count : (n + 1) + length ss ≡ n + suc (length ss) = omega arith in
     rw (of_kind-other s, record_at-written s stored.0, new.0) (rest ∙ ap (λ (k : ℕ). read_from version.Two tail k (with_records (s ∷ ss) db)) count)
 
--- a card's record is taken where the card is, another one where the row is
+-- a card's record is taken if its card is, another if its row is
 card-new : (db : Database) (s : ImageRecord) (e : CardKey × Card) → card_of s ≡ Some e → get db.cards e.0 ≡ None → is_taken db s ≡ false
 card-new db (said.Warehouse c r) e is none = let at : card_key.Warehouse c.warehouse ≡ e.0 = cc in ap (has_card db.cards) at ∙ ap is_some none
 card-new db (said.District c) e is none = let at : card_key.District c.warehouse c.district ≡ e.0 = cc in ap (has_card db.cards) at ∙ ap is_some none
@@ -163,11 +163,11 @@ row-new db (said.OrderLine w d o n r) e apart is none = let at : key.OrderLine w
 row-new db (said.History n r) e apart is none = let at : key.History n ≡ e.0 = cc in ap (has_row db.rows) at ∙ ap is_some none
 row-new db _ e apart is none = cc
 
--- ---- the cards in the order of an image
+-- ---- the cards in image order
 abbrev part_of : CardPart → List (CardKey × Card) → List (CardKey × Card)
 part_of p es = where_key card_key_cmp (stands_in p) es
 
--- the warehouses and the districts, and the cards that stand behind the rows of the districts
+-- the warehouses and the districts, and the cards after the districts' rows
 abbrev first_cards : List (CardKey × Card) → List (CardKey × Card)
 first_cards es = part_of part.WarehousesAndDistricts es
 
@@ -183,7 +183,7 @@ in_part p es q is = found-where card_key_cmp_total exact_cards (stands_in p) es 
 no_part : (p : CardPart) (es : List (CardKey × Card)) (q : CardKey) → stands_in p q ≡ false → look q (part_of p es) ≡ None
 no_part p es q is = found-where card_key_cmp_total exact_cards (stands_in p) es q ∙ ap (λ b. cond b (look q es) None) is
 
--- a card in none of the parts behind the rows of the districts
+-- a card in none of the parts after the districts' rows
 no_other : (es : List (CardKey × Card)) (q : CardKey) → stands_in part.Customers q ≡ false → stands_in part.Items q ≡ false → stands_in part.Stocks q ≡ false → look q (other_cards es) ≡ None
 no_other es q customers items stocks =
     found-right card_key_cmp_total exact_cards (part_of part.Customers es ++ part_of part.Items es) (part_of part.Stocks es) q
@@ -191,7 +191,7 @@ no_other es q customers items stocks =
     ∙ no_part part.Items es q items)
     ∙ no_part part.Stocks es q stocks
 
--- each card is there that isn't among the first
+-- each card that isn't among the first
 other-found : (es : List (CardKey × Card)) (q : CardKey) → stands_in part.WarehousesAndDistricts q ≡ false → look q (other_cards es) ≡ look q es
 other-found es (card_key.Customer w d c) h =
     found-first card_key_cmp_total exact_cards (part_of part.Customers es ++ part_of part.Items es) (part_of part.Stocks es) (card_key.Customer w d c) (no_part part.Stocks es (card_key.Customer w d c) refl)
@@ -216,7 +216,7 @@ not-other es (card_key.Customer w d c) h = let bad : ⊥ = cc in absurd bad
 not-other es (card_key.Item i) h = let bad : ⊥ = cc in absurd bad
 not-other es (card_key.Stock w i) h = let bad : ⊥ = cc in absurd bad
 
--- what is found among the first cards, or among the others, is found among all
+-- a card found among the first or the others is found among all
 in-first : (es : List (CardKey × Card)) (q : CardKey) (c : Card) → look q (first_cards es) ≡ Some c → (stands_in part.WarehousesAndDistricts q ≡ true) × (look q es ≡ Some c)
 in-first es q c there = elim (cases_Bool (stands_in part.WarehousesAndDistricts q)) [
   | inl is ↦ (is, sym (in_part part.WarehousesAndDistricts es q is) ∙ there)
@@ -233,7 +233,7 @@ in-others es q c there = elim (cases_Bool (stands_in part.WarehousesAndDistricts
   | inr is ↦ (is, sym (other-found es q is) ∙ there)
 ]
 
--- and no card is there twice
+-- no card occurs twice
 items-apart : (es : List (CardKey × Card)) (q : CardKey) (x : Card) → look q (part_of part.Customers es) ≡ Some x → look q (part_of part.Items es) ≡ None
 items-apart es (card_key.Item i) x there = let none = no_part part.Customers es (card_key.Item i) refl in cc
 items-apart es q x there = no_part part.Items es q refl
@@ -259,7 +259,7 @@ others-apart es s =
 abbrev said_at : Database → CardKey × Card → Option ImageRecord
 said_at db e = card_said db.rows e.1
 
--- the record may be written, and what it adds is the database's
+-- the record may be written, and adds what the database has
 record IsOwn (db : Database) (s : ImageRecord) : Type 0 where
   stored : IsStored s
   card : IsOf card_key_cmp_total exact_cards db.cards (card_of s)
@@ -271,7 +271,7 @@ AreCardsOf db es = AllByRecursion (λ e. get db.cards e.0 ≡ Some e.1) es
 abbrev AreRowsOf : Database → List (RowKey × Row) → Type 0
 AreRowsOf db es = AllByRecursion (λ e. get db.rows e.0 ≡ Some e.1) es
 
--- what is said is what the option has
+-- the records are the option's
 same-said : (s t : ImageRecord) (o : Option ImageRecord) → o ≡ Some s → o ≡ Some t → s ≡ t
 same-said s t o a b = let both : Some s ≡ Some t = sym a ∙ b in cc
 
@@ -283,11 +283,11 @@ row-is db (Some y) h = h y refl
 abbrev IsOfFirst : ImageRecord → Type 0
 IsOfFirst s = (y : CardKey × Card) → card_of s ≡ Some y → stands_in part.WarehousesAndDistricts y.0 ≡ true
 
--- the row of the record isn't said by itself in this part of an image
+-- the record's row has no record of its own in this part of an image
 abbrev IsNotOf : RowPart → ImageRecord → Type 0
 IsNotOf p s = (y : RowKey × Row) → row_of s ≡ Some y → row_part_of y.0 ≡ Some p → ⊥
 
--- of cards that don't come before, and of rows
+-- records of further cards and of rows
 cards-fresh : (ss : List ImageRecord) (es : List (CardKey × Card)) → AllByRecursion IsOfFirst ss → CardsFresh (with_records ss no_tables).cards (other_cards es)
 cards-fresh ss es first q x kind there =
     let other = (in-others es q x there).0 in
@@ -332,7 +332,7 @@ module _ (db : Database) (sound : IsSound db) where
   own-rows : (p : RowPart) (es : List (RowKey × Row)) → AreRowsOf db es → AllByRecursion (IsOwn db) (rows_said p es)
   own-rows p es are = all-filter_map (IsOwn db) (row_said p) es (all-map (λ e. get db.rows e.0 ≡ Some e.1) (λ e. (s : ImageRecord) → row_said p e ≡ Some s → IsOwn db s) es are (λ e there. row-own p e.0 e.1 there))
 
-  -- ---- the keys of what is said
+  -- ---- the keys of the records
   first-of-first : (es : List (CardKey × Card)) → AllByRecursion (λ e. (stands_in part.WarehousesAndDistricts e.0 ≡ true) × (get db.cards e.0 ≡ Some e.1)) es → AllByRecursion IsOfFirst (filter_map (said_at db) es)
   first-of-first es are = all-filter_map IsOfFirst (said_at db) es
       (all-map (λ e. (stands_in part.WarehousesAndDistricts e.0 ≡ true) × (get db.cards e.0 ≡ Some e.1)) (λ e. (s : ImageRecord) → said_at db e ≡ Some s → IsOfFirst s) es are (λ e is_first s is y of.
@@ -350,7 +350,7 @@ module _ (db : Database) (sound : IsSound db) where
             let bad : ⊥ = cc in absurd bad
       ]))
 
-  -- the rows of the cards' records are said with the cards
+  -- the rows of the cards' records are written with the cards
   cards-not-of : (p : RowPart) (es : List (CardKey × Card)) → AreCardsOf db es → AllByRecursion (IsNotOf p) (filter_map (said_at db) es)
   cards-not-of p es are = all-filter_map (IsNotOf p) (said_at db) es
       (all-map (λ e. get db.cards e.0 ≡ Some e.1) (λ e. (s : ImageRecord) → said_at db e ≡ Some s → IsNotOf p s) es are (λ e there s is y of at.
@@ -371,7 +371,7 @@ module _ (db : Database) (sound : IsSound db) where
             let bad : ⊥ = cc in absurd bad
       ]))
 
-  -- ---- no key comes twice
+  -- ---- no key occurs twice
   new-cards : (es : List (CardKey × Card)) → CardsApart es → AreCardsOf db es → (m : Database) → CardsFresh m.cards es → AreNew m (filter_map (said_at db) es)
   new-cards [] alone are m fresh = tt
   new-cards (e ∷ es) alone are m fresh =
@@ -478,7 +478,7 @@ module _ (db : Database) (sound : IsSound db) where
 
   -- ---- nothing is left out
   module _ {L Y : Type 0} {Q : L → L → Ordering} (q_total : IsTotalOrder Q) (q_exact : IsAntisymmetric Q) (g : ImageRecord → Option (L × Y)) where
-    -- what is made of the record of a card
+    -- what the record of a card adds
     card-occurs : (k : CardKey) (c : Card) (s : ImageRecord) (y : L × Y) → get db.cards k ≡ Some c → card_said db.rows c ≡ Some s → g s ≡ Some y → Occurs q_total q_exact y.0 (map g all_said)
     card-occurs k c s y there is made =
         let found = sym (get-entries db.cards k) ∙ there in
@@ -491,7 +491,7 @@ module _ (db : Database) (sound : IsSound db) where
               (occurs-made card_key_cmp_total exact_cards q_total q_exact (said_at db) g (other_cards (entries db.cards)) k c s y (other-found (entries db.cards) k other ∙ found) is made)
         ])
 
-    -- what is made of the record of a row
+    -- what the record of a row adds
     row-occurs : (p : RowPart) (k : RowKey) (x : Row) (s : ImageRecord) (y : L × Y) → get db.rows k ≡ Some x → row_said p (k, x) ≡ Some s → g s ≡ Some y → Occurs q_total q_exact y.0 (map g all_said)
     row-occurs row_part.Districts k x s y there is made =
         occurs-first q_total q_exact g ((first_said ++ districts_said) ++ cards_said) others_said y.0
@@ -553,7 +553,7 @@ read-said ss db stored new back =
 pub stored-read : (db : Database) → IsSound db → read_all (image_records (image_said db)) ≡ Ok db
 stored-read db sound = ap (λ (ss : List ImageRecord). read_all (image_records ss)) (parts db sound) ∙ read-said (all_said db sound) db (stored db sound) (new db sound) (tables-back db sound)
 
--- each record has a field, so it is read as it was written
+-- each record has a field, so it is read as written
 read_back-record : (s : ImageRecord) → read_back (written_record s) ≡ written_record s
 unfolding written_customer written_district written_district_next written_district_ytd written_history written_item written_new_order written_order written_order_line written_stock written_warehouse written_whole_district
 read_back-record (said.Warehouse c r) = refl
@@ -582,6 +582,6 @@ strip_bom-image : (db : Database) → strip_bom (image_text db) ≡ image_text d
 unfolding strip_bom written_first
 strip_bom-image db = refl
 
--- the records of the image are those that were written
+-- the records of the image are the written ones
 pub records_in-image : (db : Database) → records_in (image_text db) ≡ image_records (image_said db)
 records_in-image db = rw (strip_bom-image db) (records_after-text (image_records (image_said db)) ∙ read_back-image (image_said db))

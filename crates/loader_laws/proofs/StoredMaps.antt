@@ -1,4 +1,4 @@
--- Maps that are filled with entries in turn, and lists whose keys are all different.
+-- Maps filled entry by entry, and lists of distinct keys.
 use Rattle.std.proofs.Common.{◌≡◌, ◌∙◌, ◌⊎◌, inl, inr, List, [], ◌∷◌, ◌++◌, cond, T, map, Bool, Option, Some, None, refl, sym, ap, subst}
 use Rattle.std.specs.Prelude.{filter_map}
 use Rattle.std.specs.List.{AllByRecursion, cons_option}
@@ -20,7 +20,7 @@ pub all-map : {A : Type 0} (P Q : A → Type 0) (xs : List A) → AllByRecursion
 all-map P Q [] h more = tt
 all-map P Q (x ∷ xs) h more = (more x h.0, all-map P Q xs h.1 more)
 
--- what is left of the elements
+-- the rest of the elements
 pub all-filter_map : {A B : Type 0} (P : B → Type 0) (f : A → Option B) (xs : List A) → AllByRecursion (λ x. (y : B) → f x ≡ Some y → P y) xs → AllByRecursion P (filter_map f xs)
 all-filter_map P f [] h = tt
 all-filter_map P f (x ∷ xs) h = by (f x) h.0 (all-filter_map P f xs h.1)
@@ -34,7 +34,7 @@ all-mapped P g [] h = tt
 all-mapped P g (x ∷ xs) h = (h.0, all-mapped P g xs h.1)
 
 module _ {K X : Type 0} {R : K → K → Ordering} (total : IsTotalOrder R) (exact : IsAntisymmetric R) where
-  -- ---- entries that are put in turn
+  -- ---- entries put in turn
   abbrev pub put_at : FinMap R X → Option (K × X) → FinMap R X
   put_at m None = m
   put_at m (Some e) = insert m e.0 e.1
@@ -65,21 +65,21 @@ module _ {K X : Type 0} {R : K → K → Ordering} (total : IsTotalOrder R) (exa
   occurs-right q (None ∷ os) ps h = occurs-right q os ps h
   occurs-right q (Some e ∷ os) ps h = inr (occurs-right q os ps h)
 
-  -- an entry that is made of one of the first things, or of one of those behind them
+  -- an entry made of one of the first things, or of a later one
   pub occurs-first : {S : Type 0} (g : S → Option (K × X)) (ss ts : List S) (q : K) → Occurs q (map g ss) → Occurs q (map g (ss ++ ts))
   occurs-first g ss ts q h = subst (Occurs q) (sym (map-append g ss ts)) (occurs-left q (map g ss) (map g ts) h)
 
   pub occurs-behind : {S : Type 0} (g : S → Option (K × X)) (ss ts : List S) (q : K) → Occurs q (map g ts) → Occurs q (map g (ss ++ ts))
   occurs-behind g ss ts q h = subst (Occurs q) (sym (map-append g ss ts)) (occurs-right q (map g ss) (map g ts) h)
 
-  -- a key that isn't as all keys of the entries are is none of them
+  -- a key unlike all keys of the entries is none of them
   pub not-among : (P : K → Type 0) (os : List (Option (K × X))) (q : K) → AllByRecursion (λ o. (e : K × X) → o ≡ Some e → P e.0) os → (P q → ⊥) → Occurs q os → ⊥
   not-among P [] q all other h = h
   not-among P (None ∷ os) q all other h = not-among P os q all.1 other h
   not-among P (Some e ∷ os) q all other (inl is) = other (subst P (sym is) (all.0 e refl))
   not-among P (Some e ∷ os) q all other (inr h) = not-among P os q all.1 other h
 
-  -- entries of another map, put in turn, agree with it where one has the key, and where the map agreed before
+  -- entries of another map, put in turn, make a map agree with it at their keys, and keep it so elsewhere
   puts-at : (os : List (Option (K × X))) (m t : FinMap R X) (q : K) → AllByRecursion (IsOf t) os → (get m q ≡ get t q) ⊎ Occurs q os → get (puts os m) q ≡ get t q
   puts-at [] m t q are (inl agree) = agree
   puts-at [] m t q are (inr h) = absurd h
@@ -91,7 +91,7 @@ module _ {K X : Type 0} {R : K → K → Ordering} (total : IsTotalOrder R) (exa
         puts-at os (insert m e.0 e.1) t q are.1 (elim h [ inl agree ↦ inl (kept ∙ agree) | inr occurs ↦ elim occurs [ inl same ↦ absurd (other same) | inr later ↦ inr later ] ])
   ]
 
-  -- entries of a map, among them each of its keys, put in turn, give it back
+  -- entries of a map that have all its keys, put in turn, give that map
   pub puts-whole : (os : List (Option (K × X))) (t : FinMap R X) → AllByRecursion (IsOf t) os → ((q : K) (x : X) → get t q ≡ Some x → Occurs q os) → puts os empty ≡ t
   puts-whole os t are all = same_map total exact (puts os empty) t (λ q. puts-at os empty t q are (by q (get t q) refl))
     where
@@ -99,13 +99,13 @@ module _ {K X : Type 0} {R : K → K → Ordering} (total : IsTotalOrder R) (exa
       by q None e = inl (get-empty R q ∙ sym e)
       by q (Some x) e = inr (all q x e)
 
-  -- a key that no entry has keeps its value
+  -- a key of no entry keeps its value
   pub puts-others : (os : List (Option (K × X))) (m : FinMap R X) (q : K) → (Occurs q os → ⊥) → get (puts os m) q ≡ get m q
   puts-others [] m q none = refl
   puts-others (None ∷ os) m q none = puts-others os m q none
   puts-others (Some e ∷ os) m q none = puts-others os (insert m e.0 e.1) q (λ later. none (inr later)) ∙ apart total exact m e.0 e.1 q (λ same. none (inl same))
 
-  -- ---- lists whose keys are all different
+  -- ---- lists of distinct keys
   abbrev pub AreApart : List (K × X) → Type 0
   AreApart [] = Unit {0}
   AreApart (e ∷ es) = (find R e.0 es ≡ None) × AreApart es
@@ -117,7 +117,7 @@ module _ {K X : Type 0} {R : K → K → Ordering} (total : IsTotalOrder R) (exa
   found-head : (e : K × X) (es : List (K × X)) → find R e.0 (e ∷ es) ≡ Some e.1
   found-head e es = ap (λ b. cond b (Some e.1) (find R e.0 es)) (ties_itself total exact e.0)
 
-  -- a key that is found behind the first entry is found
+  -- a key found after the first entry is found
   found-behind : (e : K × X) (es : List (K × X)) (q : K) (x : X) → find R e.0 es ≡ None → find R q es ≡ Some x → find R q (e ∷ es) ≡ Some x
   found-behind e es q x fresh there = elim (cases_Bool (eq_by_cmp R q e.0)) [
     | inl same ↦
@@ -126,7 +126,7 @@ module _ {K X : Type 0} {R : K → K → Ordering} (total : IsTotalOrder R) (exa
     | inr other ↦ ap (λ b. cond b (Some e.1) (find R q es)) other ∙ there
   ]
 
-  -- what holds of each entry that is found
+  -- what holds of each entry found
   pub all-found : (P : K → X → Type 0) (es : List (K × X)) → AreApart es → ((q : K) (x : X) → find R q es ≡ Some x → P q x) → AllByRecursion (λ e. P e.0 e.1) es
   all-found P [] alone found = tt
   all-found P (e ∷ es) alone found = (found e.0 e.1 (found-head e es), all-found P es alone.1 (λ q x there. found q x (found-behind e es q x alone.0 there)))
@@ -163,7 +163,7 @@ module _ {K X : Type 0} {R : K → K → Ordering} (total : IsTotalOrder R) (exa
       by None e = found-right xs ys q e ∙ none ∙ sym e
       by (Some x) e = found-left xs ys q x e ∙ sym e
 
-  -- ---- keys of a kind that are new
+  -- ---- new keys of a kind
   abbrev pub AreFresh : (K → Type 0) → FinMap R X → List (K × X) → Type 0
   AreFresh P m es = (q : K) (x : X) → P q → find R q es ≡ Some x → get m q ≡ None
 
@@ -180,7 +180,7 @@ module _ {K X : Type 0} {R : K → K → Ordering} (total : IsTotalOrder R) (exa
     pub fresh-skip : find R e.0 es ≡ None → AreFresh P m (e ∷ es) → AreFresh P m es
     fresh-skip alone fresh q x kind there = fresh q x kind (found-behind e es q x alone there)
 
--- an entry that is found, and what is made of it
+-- an entry found, and what is made of it
 module _ {K X : Type 0} {R : K → K → Ordering} (total : IsTotalOrder R) (exact : IsAntisymmetric R) {S L Y : Type 0} {Q : L → L → Ordering} (q_total : IsTotalOrder Q) (q_exact : IsAntisymmetric Q) (f : K × X → Option S) (g : S → Option (L × Y)) where
   pub occurs-made : (es : List (K × X)) (k : K) (x : X) (s : S) (y : L × Y) → find R k es ≡ Some x → f (k, x) ≡ Some s → g s ≡ Some y → Occurs q_total q_exact y.0 (map g (filter_map f es))
   occurs-made [] k x s y there is made = cc

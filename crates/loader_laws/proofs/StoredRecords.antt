@@ -1,4 +1,4 @@
--- What is written of each kind is read again.
+-- A record of each kind is read as written.
 use Rattle.std.proofs.Common.{◌≡◌, ◌<◌, ◌^◌, ◌-◌, ◌&&◌, ◌==◌, ℕ, zero, suc, ℤ, List, [], ◌∷◌, length, map, cond, Bool, true, false, Option, Some, None, IfSome, Result, Ok, Err, decimal, refl, ap, ap₂, arith, inl, inr}
 use Rattle.std.specs.Prelude.{codes, nat_le, slice_index_or}
 use Rattle.std.specs.Fmt.{signed_decimal}
@@ -93,8 +93,8 @@ flag-is : (b : Bool) → (cond b 1 0 == 1) ≡ b
 flag-is true = refl
 flag-is false = refl
 
--- ---- what may be written
--- an order, an order line or a payment, with the numbers that its parents keep within their limits
+-- ---- writable records
+-- an order, an order line or a payment, with the numbers that its parents keep within limits
 pub record IsStoredOrder (w d o : ℕ) (r : OrderRow) : Type 0 where
   pub key : IsOrderKey w d o
   pub customer : IsBetween 1 3000 r.customer
@@ -114,7 +114,7 @@ pub record IsStoredHistory (n : ℕ) (r : HistoryRow) : Type 0 where
   pub warehouse : IsBetween 1 100 r.warehouse
   pub row : IsHistoryRow n r
 
--- a whole district is a record of version 1 alone
+-- only version 1 has records of whole districts
 abbrev pub IsStored : ImageRecord → Type 0
 IsStored (said.Warehouse c r) = IsCard (card.Warehouse c) × IsCents r.ytd
 IsStored (said.District c) = IsCard (card.District c)
@@ -273,7 +273,7 @@ stock-read c r h =
       info c.district_infos 9 infos (omega (arith, all)),
     ) (ap (λ (xs : List (List ℕ)). let s : ImageRecord = said.Stock (record c { district_infos = xs }) r in let ok : Result ImageRecord FaultKind = Ok s in ok) (ten_texts c.district_infos all))
 
--- a record is read as what it says
+-- a record is read as written
 pub record_at-written : (s : ImageRecord) → IsStored s → record_at version.Two (written_record s) ≡ Ok s
 record_at-written (said.Warehouse c r) h = warehouse-read c r h
 record_at-written (said.District c) h = district-read c h

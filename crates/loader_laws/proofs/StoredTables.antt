@@ -1,4 +1,4 @@
--- What an image says of the cards and the rows of a sound database.
+-- The records of a sound database's cards and rows.
 use Rattle.std.proofs.Common.{◌≡◌, ◌∙◌, ℕ, Option, Some, None, IsSome, refl, sym, ap, subst, arith, inl, inr, ◌⊎◌}
 use Rattle.std.specs.Prelude.{option_and_then}
 use Rattle.std.specs.FinMap.{get}
@@ -47,7 +47,7 @@ row_of (said.NewOrder w d o) = Some (key.NewOrder w d o, row.NewOrder)
 row_of (said.OrderLine w d o n r) = Some (key.OrderLine w d o n, row.OrderLine r)
 row_of (said.History n r) = Some (key.History n, row.History r)
 
--- the part of an image in which the row of a key is said by itself
+-- the part of an image in which a key's row has a record of its own
 abbrev pub row_part_of : RowKey → Option RowPart
 row_part_of (key.Warehouse w) = None
 row_part_of (key.Customer w d c) = None
@@ -59,17 +59,17 @@ row_part_of (key.History n) = Some row_part.Others
 row_part_of (key.DistrictYtd w d) = Some row_part.Districts
 row_part_of (key.DistrictNext w d) = Some row_part.Districts
 
--- what is said of a card
+-- the record of a card
 pub record CardSaid (db : Database) (k : CardKey) (c : Card) : Type 0 where
   pub says : ImageRecord
   pub is : card_said db.rows c ≡ Some says
   pub card : card_of says ≡ Some (k, c)
-  -- the row of its key is said with it, and no other one
+  -- it has the row of its key, and no other
   pub beside : (q : RowKey) → row_key_of k ≡ Some q → (x : Row) × (row_of says ≡ Some (q, x))
   pub only : (y : RowKey × Row) → row_of says ≡ Some y → (card_key_of y.0 ≡ Some k) × (get db.rows y.0 ≡ Some y.1)
   pub stored : IsStored says
 
--- what is said of a row by itself, in this part of an image
+-- the record of a row in this part of an image
 pub record RowSaid (p : RowPart) (k : RowKey) (x : Row) : Type 0 where
   pub at : row_part_of k ≡ Some p
   pub says : ImageRecord
@@ -78,7 +78,7 @@ pub record RowSaid (p : RowPart) (k : RowKey) (x : Row) : Type 0 where
   pub row : row_of says ≡ Some (k, x)
   pub stored : IsStored says
 
--- a row that is said with its card
+-- a row in its card's record
 pub record RowBeside (db : Database) (k : RowKey) (x : Row) : Type 0 where
   pub none : row_part_of k ≡ None
   pub card_key : CardKey
@@ -86,18 +86,18 @@ pub record RowBeside (db : Database) (k : RowKey) (x : Row) : Type 0 where
   pub card : Card
   pub there : get db.cards card_key ≡ Some card
 
--- what holds of the one thing in an option
+-- what holds of an option's value
 pub of-some : {A : Type 0} (P : A → Type 0) (x y : A) → Some x ≡ Some y → P x → P y
 of-some P x y e h = let same : x ≡ y = cc in subst P same h
 
--- a row that is said with its card is said in no part by itself
+-- a row in its card's record has no record of its own
 pub beside-part : (k : RowKey) (q : CardKey) → card_key_of k ≡ Some q → row_part_of k ≡ None
 beside-part (key.Warehouse w) q is = refl
 beside-part (key.Customer w d n) q is = refl
 beside-part (key.Stock w i) q is = refl
 beside-part _ q is = cc
 
--- nothing is said of a row but in its part
+-- a row has a record only in its part
 not-in : (p : RowPart) (k : RowKey) (x : Row) → (row_part_of k ≡ Some p → ⊥) → row_said p (k, x) ≡ None
 not-in row_part.Districts (key.DistrictYtd w d) x elsewhere = absurd (elsewhere refl)
 not-in row_part.Districts (key.DistrictNext w d) x elsewhere = absurd (elsewhere refl)
@@ -334,7 +334,7 @@ module _ (db : Database) (sound : IsSound db) where
       )
   row-said _ _ h = absurd h
 
-  -- what is said of a row in one part of an image
+  -- the record of a row in one part of an image
   pub row-said-in : (p : RowPart) (k : RowKey) (x : Row) → IsEntry db.cards db.rows k x → (row_said p (k, x) ≡ None) ⊎ RowSaid p k x
   row-said-in p k x h = elim (row-said k x h) [
     | inl beside ↦

@@ -1,4 +1,4 @@
--- The made database is sound.
+-- A generated database is sound.
 use Rattle.std.proofs.Common.{◌≡◌, ◌∙◌, ℕ, zero, suc, ◌*◌, ◌≤◌, ◌==◌, ◌&&◌, pos, Bool, true, Option, Some, None, IsSome, IfSome, refl, sym, ap, ap₂, subst, inl, inr, arith}
 use Rattle.std.specs.List.{list_all}
 use Rattle.std.specs.Prelude.{is_some}
@@ -43,7 +43,7 @@ unfolding with_each
 each-keeps P zero step keeps db h = h
 each-keeps P (suc n) step keeps db h = keeps (suc n) (omega arith, omega arith) (with_each n step db) (each-keeps P n step (λ k within. keeps k (within.0, omega (arith, within.1))) db h)
 
--- what one of the steps brings about, and each keeps
+-- what one step establishes and each keeps
 each-reaches : (P : Database → Type 0) (n : ℕ) (step : ℕ → Database → Database) → ((k : ℕ) (db : Database) → P db → P (step k db)) → (k : ℕ) → IsBetween 1 n k → ((db : Database) → P (step k db)) → (db : Database) → P (with_each n step db)
 unfolding with_each
 each-reaches P zero step keeps k within brings db = absurd (omega (arith, within.0, within.1))
@@ -62,7 +62,7 @@ records-reach : (P : Database → Type 0) (n : ℕ) (say : ℕ → ImageRecord) 
 unfolding with_records
 records-reach P n say keeps k within brings db = each-reaches P n (λ k db. with_record db (say k)) keeps k within brings db
 
--- ---- a card that is there stays
+-- ---- present cards stay
 abbrev HasKey : CardKey → Database → Type 0
 HasKey q db = IsSome (get db.cards q)
 
@@ -85,7 +85,7 @@ module _ (q : CardKey) where
   stays_in n say db h = records-keep (HasKey q) n say (λ k within db h. stays db (say k) h) db h
 
 -- ---- what there is
--- a row as the records of w warehouses have it
+-- a row of a database of w warehouses
 abbrev IsMadeRow : ℕ → RowKey → Row → Type 0
 IsMadeRow w (key.Warehouse v) (row.Warehouse r) = r.ytd ≡ pos 30000000
 IsMadeRow w (key.Customer v d c) (row.Customer r) = Unit {0}
@@ -94,7 +94,7 @@ IsMadeRow w (key.DistrictYtd v d) (row.DistrictYtd r) = (IsBetween 1 w v × IsBe
 IsMadeRow w (key.DistrictNext v d) (row.DistrictNext r) = (IsBetween 1 w v × IsBetween 1 10 d) × (r.next_order ≡ 1)
 IsMadeRow w _ _ = ⊥
 
--- ---- sums, and tests of ten districts
+-- ---- sums, and checks of ten districts
 ten-pass : (p : ℕ → Bool) → ((d : ℕ) → IsBetween 1 10 d → p d ≡ true) → list_all p ten ≡ true
 ten-pass p h = rw (
   h 1 (omega arith, omega arith),
@@ -116,12 +116,12 @@ no-share v d (row.DistrictYtd r) other e = elim (cases_Bool (v == d)) [
 ]
 no-share v d _ other e = refl
 
--- a district's share, as it was made
+-- a district's share, as generated
 own-share : (w v d : ℕ) (x : Row) → IsMadeRow w (key.DistrictYtd v d) x → IsBetween 1 10 d × (district_share v (key.DistrictYtd v d) x ≡ pos 3000000)
 own-share w v d (row.DistrictYtd r) is = (is.0.1, rw (eq-eqb v v refl) is.1)
 own-share w v d _ is = absurd is
 
--- districts 1 to n of a warehouse, as they were made, have so much together
+-- the sum over districts 1 to n of a warehouse, as generated
 districts-total : (w n : ℕ) (rows : Rows) → ((d : ℕ) (x : Row) → get rows (key.DistrictYtd w d) ≡ Some x → IsBetween 1 n d × (district_share w (key.DistrictYtd w d) x ≡ pos 3000000))
     → ((d : ℕ) → IsBetween 1 n d → IsSome (get rows (key.DistrictYtd w d)))
     → total (district_share w) rows ≡ pos (n * 3000000)
@@ -157,7 +157,7 @@ districts-total w (suc n) rows only there =
     at (Some x) found some = (only (suc n) x found).1
 
 module _ (w c i : ℕ) where
-  -- a key of the made database
+  -- a key of the generated database
   abbrev IsWithin : CardKey → Type 0
   IsWithin (card_key.Warehouse v) = IsBetween 1 w v
   IsWithin (card_key.District v d) = IsBetween 1 w v × IsBetween 1 10 d
@@ -195,11 +195,11 @@ module _ (w c i : ℕ) where
     | inr was ↦ old l x was
   ]
 
-  -- a row more
+  -- one more row
   kept-rows : (rows : Rows) (k : RowKey) (y : Row) (v d : ℕ) → HasRows v d rows → HasRows v d (insert rows k y)
   kept-rows rows k y v d h = (some-insert row_key_cmp_total exact_keys rows k y (key.DistrictYtd v d) h.0, some-insert row_key_cmp_total exact_keys rows k y (key.DistrictNext v d) h.1)
 
-  -- a card more, and some rows
+  -- one more card, and some rows
   own-more : (db : Database) (k : CardKey) (b : Card) (rows : Rows) → ((v d : ℕ) → card_key.District v d ≡ k → HasRows v d rows) → ((v d : ℕ) → HasRows v d db.rows → HasRows v d rows) → IsMade db
       → (v d : ℕ) → IsSome (get (insert db.cards k b) (card_key.District v d)) → HasRows v d rows
   own-more db k b rows new kept h v d some = elim (same_key card_key_cmp_total exact_cards (card_key.District v d) k) [
@@ -214,7 +214,7 @@ module _ (w c i : ℕ) where
     some-here row_key_cmp_total exact_keys (insert rows (key.DistrictYtd v d) ytd) (key.DistrictNext v d) next,
   )
 
-  -- a made record
+  -- a generated record
   abbrev IsMadeRecord : ImageRecord → Type 0
   IsMadeRecord (said.Warehouse b r) = IsWithin (card_key.Warehouse b.warehouse) × IsMadeRow w (key.Warehouse b.warehouse) (row.Warehouse r)
   IsMadeRecord (said.WholeDistrict b ytd next) = IsWithin (card_key.District b.warehouse b.district)
@@ -306,7 +306,7 @@ module _ (w c i : ℕ) where
         each-keeps IsMade w _ (λ v v_is. records-keep IsMade 10 (made_district v) (λ d d_is. district-more v d v_is d_is)) _ (
         records-keep IsMade w made_warehouse warehouse-more no_tables made-none))))
 
-  -- ---- each key is there
+  -- ---- each key is present
   module _ (q : CardKey) where
     past-items : (db : Database) → HasKey q db → HasKey q (with_records i made_item db)
     past-items db h = stays_in q i made_item db h

@@ -1,4 +1,4 @@
--- A database that is made, one record after the other.
+-- A database generated record by record.
 use Rattle.std.proofs.Common.{◌≡◌, ◌∙◌, ℕ, suc, ◌+◌, ◌-◌, ◌≤◌, Bool, true, false, cond, Option, Some, None, IsSome, refl, sym, ap, ap₂, subst, inl, inr, arith}
 use Rattle.std.specs.Cmp.{nat_cmp_is}
 use Rattle.std.specs.Ordering.{nat_cmp, ordering_then}
@@ -20,7 +20,7 @@ use Rattle.loader.specs.Tables.{is_taken, no_tables, with_record}
 use Rattle.image_records.specs.declared.image_record.ImageRecord.{ImageRecord}
 
 -- ---- steps in turn
--- the number that was tested is the one that is had
+-- the tested number is the one in use
 pub is_number : (low high n r : ℕ) (o : Option ℕ) → o ≡ between low high n → o ≡ Some r → r ≡ n
 is_number low high n r o tested had = at (is_between low high n) (sym tested ∙ had)
   where
@@ -46,16 +46,16 @@ each-more n step start before now positive so_far one =
     one ∙ ap (step n) so_far
     ∙ sym (ap (λ k. with_each k step start) (same ∙ sym next) ∙ each-next (n - 1) step start ∙ ap (λ k. step k (with_each (n - 1) step start)) next)
 
--- one step more, whose number is had
+-- one more step, with its number
 pub one_step : (n r : ℕ) (step : ℕ → Database → Database) (start before now : Database) → r ≡ n → 1 ≤ n → before ≡ with_each (n - 1) step start → now ≡ step r before → now ≡ with_each ((n + 1) - 1) step start
 one_step n r step start before now e positive so_far one = each-more n step start before now positive so_far (one ∙ ap (λ m. step m before) e)
 
--- ---- keys in their order
+-- ---- keys in order
 pub before-none : (k : CardKey) → AreBefore k no_tables
 unfolding AreBefore
 before-none k q some = let none : IsSome {T = Card} None = subst IsSome (get-empty card_key_cmp q) some in let bad : ⊥ = cc in absurd bad
 
--- before a later key, too
+-- also less than a later key
 pub before-later : (k later : CardKey) (db : Database) → card_key_cmp k later ≡ Less → AreBefore k db → AreBefore later db
 unfolding AreBefore
 before-later k later db less before q some = card_key_cmp_total.trans q k later (before q some) less
@@ -86,7 +86,7 @@ rises n = sym (nat_cmp_is n (n + 1) Less (omega arith))
 ties : (n : ℕ) → nat_cmp n n ≡ Equal
 ties n = sym (nat_cmp_is n n Equal refl)
 
--- past the last key of a group
+-- after the last key of a group
 pub past_districts : (w r : ℕ) (db : Database) → r ≡ w → AreBefore (card_key.District r 11) db → AreBefore (card_key.District (w + 1) 1) db
 past_districts w r db e before = before-later (card_key.District w 11) (card_key.District (w + 1) 1) db (ap (λ o. ordering_then o (nat_cmp 11 1)) (rises w)) (subst (λ n. AreBefore (card_key.District n 11) db) e before)
 
@@ -99,7 +99,7 @@ past_ten_districts w r db e before = before-later (card_key.Customer w 11 1) (ca
 pub past_stocks : (w r i : ℕ) (db : Database) → r ≡ w → AreBefore (card_key.Stock r i) db → AreBefore (card_key.Stock (w + 1) 1) db
 past_stocks w r i db e before = before-later (card_key.Stock w i) (card_key.Stock (w + 1) 1) db (ap (λ o. ordering_then o (nat_cmp i 1)) (rises w)) (subst (λ n. AreBefore (card_key.Stock n i) db) e before)
 
--- the record of each number has the card of this key, and the keys rise
+-- the record of each number has the card of this key, and the keys ascend
 pub record HasKeys (said : ℕ → ImageRecord) (k : ℕ → CardKey) : Type 0 where
   pub taken : (n : ℕ) (db : Database) → is_taken db (said n) ≡ has_card db.cards (k n)
   pub next : (n : ℕ) (db : Database) → AreBefore (k n) db → AreBefore (k (n + 1)) (with_record db (said n))
@@ -139,7 +139,7 @@ keys_of_items = record {
   next = λ i db. one-more (card_key.Item i) (card_key.Item (i + 1)) _ db (with_record db (made_item i)) refl (rises i);
 }
 
--- ---- one record more
+-- ---- one more record
 module _ {said : ℕ → ImageRecord} {k : ℕ → CardKey} (keys : HasKeys said k) where
   pub not_taken : (n : ℕ) (r : ImageRecord) (db : Database) → r ≡ said n → AreBefore (k n) db → is_taken db r ≡ false
   not_taken n r db e before = ap (is_taken db) e ∙ keys.taken n db ∙ fresh (k n) db before

@@ -1,4 +1,4 @@
--- Texts of parts that fit.
+-- Texts whose parts fit.
 use Rattle.std.proofs.Common.{◌≡◌, ℕ, ◌+◌, ◌<◌, ◌≤◌, ◌^◌, List, [], ◌++◌, length, decimal, ap, ◌∙◌, append_assoc, arith, length-append}
 use Rattle.std.proofs.lemmas.Fmt.{length-decimal-le}
 use Rattle.std.specs.Prelude.{codes, ◌/◌, ◌%◌}
@@ -6,13 +6,13 @@ use Rattle.tpcc_rows.specs.Texts.{clip}
 use Rattle.tpcc_rows.proofs.Clips.{clip_all, then_clipped}
 use Rattle.made_database.specs.Made.{made_info}
 
--- one part more
+-- one more part
 pub pushed : (n : ℕ) (a old new : List ℕ) → new ≡ clip n (old ++ a) → length old + length a ≤ n → new ≡ old ++ a
 pushed n a old new e fits =
     let whole = length-append old a in
     e ∙ clip_all n (old ++ a) (omega (arith, whole, fits))
 
--- a word, and a number behind it
+-- a word followed by a number
 pub word_number : (n k : ℕ) (word start mid new : List ℕ) → start ≡ [] → mid ≡ clip n (start ++ word) → new ≡ clip n (mid ++ decimal k) → k < 10 ^ 9 → length word + 9 ≤ n → new ≡ word ++ decimal k
 word_number n k word start mid new none first second small room =
     let digits : length (decimal k) ≤ 9 = length-decimal-le 9 k (omega arith) small (omega (arith, small)) in

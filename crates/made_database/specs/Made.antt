@@ -1,5 +1,4 @@
--- The database that is made of numbers: so many warehouses, so many customers in each district, so many items, no orders
--- and no history.
+-- A generated database: a number of warehouses, of customers a district and of items; no orders, no history.
 use Rattle.std.specs.Prelude.{Bool, ◌≡◌, ◌+◌, ◌-◌, ◌*◌, ◌/◌, ◌%◌, ◌-ℤ◌, ◌++◌, ◌==◌, ℕ, zero, suc, pos, List, [], IsSome, codes, decimal, map, replicate, if◌then◌else◌}
 use Rattle.std.specs.FinMap as finmap
 use Rattle.std.specs.declared.cmp.Ordering.TheVariants.{Less}
@@ -25,7 +24,7 @@ made_district w d = said.WholeDistrict
     (record { ytd = pos 3000000 })
     (record { next_order = 1 })
 
--- 500 letters x
+-- 500 times the letter x
 unfoldable pub long_note : List ℕ
 long_note = replicate 500 120
 
@@ -65,7 +64,7 @@ made_item i = said.Item (record {
   «data» = made_data (i % 10 == 0);
 })
 
--- `DIST` and the number in two digits
+-- `DIST` and a number of two digits
 unfoldable pub made_info : ℕ → List ℕ
 made_info d = codes "DIST" ++ (decimal (d / 10) ++ decimal (d % 10))
 
@@ -78,16 +77,16 @@ made_stock w i = said.Stock (record {
 }) (record { quantity = pos (10 + i % 91); ytd = 0; order_count = 0; remote_count = 0 })
 
 -- ---- the database
--- what a step adds for each number from 1 to n, in turn
+-- a step for each number from 1 to n, in turn
 unfoldable pub with_each : ℕ → (ℕ → Database → Database) → Database → Database
 with_each zero step db = db
 with_each (suc n) step db = step (suc n) (with_each n step db)
 
--- what the records of the numbers from 1 to n say
+-- the records of the numbers from 1 to n, added in turn
 unfoldable pub with_records : ℕ → (ℕ → ImageRecord) → Database → Database
 with_records n said = with_each n (λ k db. with_record db (said k))
 
--- warehouses 1 to w with ten districts each, customers 1 to c in each district, items 1 to i and a stock of each in each
+-- warehouses 1 to w with ten districts each, customers 1 to c of each district, items 1 to i and their stocks in each
 -- warehouse
 unfoldable pub made : ℕ → ℕ → ℕ → Database
 made w c i =
@@ -98,6 +97,6 @@ made w c i =
     with_records i made_item stocks
 
 -- ---- while it is made
--- each card that is there stands before this key
+-- each card's key is less than this one
 unfoldable pub AreBefore : CardKey → Database → Type 0
 AreBefore k db = (q : CardKey) → IsSome (finmap.get db.cards q) → card_key_cmp q k ≡ Less

@@ -1,4 +1,4 @@
--- The keys of the rows that are said by themselves, gathered page after page, and what is said at them.
+-- The keys of rows with records of their own, gathered page by page, and those records.
 use Rattle.std.proofs.Common.{◌≡◌, ◌∙◌, inl, inr, ℕ, ◌+◌, List, [], ◌∷◌, cond, T, Bool, true, false, ◌&&◌, ◌||◌, eqb, ltb, Option, Some, None, refl, sym, ap, arith}
 use Rattle.std.specs.Prelude.{filter_map, is_some}
 use Rattle.std.specs.BTreeMap.{is_at}
@@ -36,7 +36,7 @@ either_way : {A : Type 0} (b : Bool) (x : A) → cond b x x ≡ x
 either_way true x = refl
 either_way false x = refl
 
--- ---- the rows at some keys
+-- ---- the rows of some keys
 module _ (rows : Rows) where
   abbrev pub row_at : RowKey → Option (RowKey × Row)
   row_at k = option_map (λ r. (k, r)) (get rows k)
@@ -94,7 +94,7 @@ module _ (rows : Rows) where
   find-rows_at q [] = refl
   find-rows_at q (k ∷ ks) = found-cons q k (get rows k) (rows_at ks) (list_any (is_at (row_key_cmp q)) ks) refl (find-rows_at q ks)
 
--- ---- the rows that are said by themselves
+-- ---- rows with records of their own
 not_said : (p : RowPart) (e : RowKey × Row) → stands_alone e.0 ≡ false → row_said p e ≡ None
 not_said p (key.Order w d o, r) h = cc
 not_said p (key.NewOrder w d o, r) h = cc
@@ -119,7 +119,7 @@ there true None = refl
 there true (Some r) = refl
 there false o = refl
 
--- what is said at the keys of all rows that are said by themselves
+-- the records at the keys of all rows with records of their own
 pub said-in_order : (p : RowPart) (rows : Rows) (keys : BTreeSet RowKey) → IsStrictlySortedBy row_key_cmp keys.keys
     → ((q : RowKey) → contains row_key_cmp keys q ≡ (stands_alone q && has_row rows q))
     → filter_map (said_at p rows) keys.keys ≡ rows_said p (entries rows)
@@ -133,7 +133,7 @@ said-in_order p rows keys ordered all =
     said-rows_at rows p keys.keys ∙ ap (rows_said p) same ∙ said-where p (entries rows)
 
 -- ---- the keys of one page
--- the keys so far and those of what is left of the page are those of before and of the whole page
+-- the keys so far and those of the rest of the page are the earlier keys and those of the whole page
 pub record IsAdding (old : BTreeSet RowKey) (page left : List (RowKey × Row)) (new : BTreeSet RowKey) : Type 0 where
   pub whole : (q : RowKey) → (contains row_key_cmp new q || (stands_alone q && is_some (find row_key_cmp q left))) ≡ (contains row_key_cmp old q || (stands_alone q && is_some (find row_key_cmp q page)))
 
@@ -182,7 +182,7 @@ adding-whole old page new h q =
     sym (or-false (contains row_key_cmp new q) (stands_alone q)) ∙ h.whole q ∙ ap (λ o. contains row_key_cmp old q || (stands_alone q && is_some o)) (sym (get-entries page q))
 
 -- ---- the keys of all pages
--- the keys of the rows that are said by themselves on the leaves below n
+-- the keys of rows with records of their own on the leaves below n
 pub record HasBelow (rows : Rows) (n : ℕ) (keys : BTreeSet RowKey) : Type 0 where
   pub has : (q : RowKey) → contains row_key_cmp keys q ≡ (ltb (leaf q) n && (stands_alone q && has_row rows q))
 

@@ -1,4 +1,4 @@
--- The texts of the parts of an image, one after the other, and how many records they are.
+-- The texts of an image's parts, and their numbers of records.
 use Rattle.std.proofs.Common.{◌≡◌, ◌∙◌, ◌⊎◌, inl, inr, ◌≤◌, ◌+◌, ℕ, suc, List, [], ◌∷◌, ◌++◌, length, map, Option, Some, None, refl, sym, ap, ap₂, arith, append_assoc, append-nil, length-append}
 use Rattle.std.specs.Prelude.{filter_map}
 use Rattle.std.specs.List.{cons_option}
@@ -25,19 +25,19 @@ pub text_of_records-append : (xs ys : List Fields) → text_of_records (xs ++ ys
 text_of_records-append [] ys = refl
 text_of_records-append (x ∷ xs) ys = ap (λ (t : List ℕ). text_of_record x ++ t) (text_of_records-append xs ys) ∙ sym (append_assoc (text_of_record x) (text_of_records xs) (text_of_records ys))
 
--- the text of what is said
+-- the text of these records
 abbrev pub text_said : List ImageRecord → List ℕ
 text_said ss = text_of_records (map written_record ss)
 
 text_said-append : (ss ts : List ImageRecord) → text_said (ss ++ ts) ≡ text_said ss ++ text_said ts
 text_said-append ss ts = ap text_of_records (map-append written_record ss ts) ∙ text_of_records-append (map written_record ss) (map written_record ts)
 
--- a text more
+-- one more text
 text_said-more : (start one two : List ℕ) (ss ts : List ImageRecord) → one ≡ start ++ text_said ss → two ≡ one ++ text_said ts → two ≡ start ++ text_said (ss ++ ts)
 text_said-more start one two ss ts e1 e2 =
     e2 ∙ ap (λ (t : List ℕ). t ++ text_said ts) e1 ∙ append_assoc start (text_said ss) (text_said ts) ∙ ap (λ (t : List ℕ). start ++ t) (sym (text_said-append ss ts))
 
--- the texts of the six parts, after what was written before
+-- the texts of the six parts, after what precedes them
 pub tables-whole : (db : Database) (start one two three four five six : List ℕ) (districts others : List ImageRecord)
     → one ≡ start ++ text_said (part_said part.WarehousesAndDistricts db.rows (entries db.cards)) → two ≡ one ++ text_said districts
     → three ≡ two ++ text_said (part_said part.Customers db.rows (entries db.cards)) → four ≡ three ++ text_said (part_said part.Items db.rows (entries db.cards))
@@ -50,7 +50,7 @@ tables-whole db start one two three four five six districts others e1 e2 e3 e4 e
     (text_said-more start one two _ _ e1 (e2 ∙ ap (λ ss. one ++ text_said ss) districts_are)) e3) e4) e5)
     (e6 ∙ ap (λ ss. five ++ text_said ss) others_are)
 
--- how many records the six parts are
+-- the number of records of the six parts
 pub count-whole : (db : Database) (districts others : List ImageRecord) → districts ≡ rows_said row_part.Districts (entries db.rows) → others ≡ rows_said row_part.Others (entries db.rows)
     → length (part_said part.WarehousesAndDistricts db.rows (entries db.cards)) + length (part_said part.Customers db.rows (entries db.cards)) + length (part_said part.Items db.rows (entries db.cards))
     + length (part_said part.Stocks db.rows (entries db.cards)) + (length districts + length others) ≡ length (image_said db)
@@ -71,7 +71,7 @@ count-whole db districts others districts_are others_are =
     let others_count : length others ≡ length other_rows = ap length others_are in
     omega (arith, one, two, three, four, five, districts_count, others_count)
 
--- one entry more is at most one record more
+-- one more entry adds at most one record
 cons-fewer : {A : Type 0} (o : Option A) (xs : List A) → length (cons_option o xs) ≤ suc (length xs)
 cons-fewer None xs = omega arith
 cons-fewer (Some x) xs = omega arith
@@ -86,7 +86,7 @@ parts-fewer rows ((card_key.Customer w d n, c) ∷ es) = let one = cons-fewer (c
 parts-fewer rows ((card_key.Item i, c) ∷ es) = let one = cons-fewer (card_said rows c) (part_said part.Items rows es) in let rest = parts-fewer rows es in omega (arith, one, rest)
 parts-fewer rows ((card_key.Stock w i, c) ∷ es) = let one = cons-fewer (card_said rows c) (part_said part.Stocks rows es) in let rest = parts-fewer rows es in omega (arith, one, rest)
 
--- and so is a row
+-- a row is in one part
 one_part : (e : RowKey × Row) → (row_said row_part.Districts e ≡ None) ⊎ (row_said row_part.Others e ≡ None)
 one_part (key.DistrictYtd w d, r) = inr refl
 one_part (key.DistrictNext w d, r) = inr refl

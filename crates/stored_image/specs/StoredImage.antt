@@ -27,7 +27,7 @@ use Rattle.stored_image.specs.declared.store.CardPart.TheVariants as part
 use Rattle.stored_image.specs.declared.stored_record.RowPart.{RowPart}
 use Rattle.stored_image.specs.declared.stored_record.RowPart.TheVariants as row_part
 
--- the record of a card: a district's and an item's alone, any other's with its row, and none if that isn't there
+-- the record of a card, with its row unless it is a district's or an item's; none if the row is missing
 abbrev pub card_said : Rows → Card → Option ImageRecord
 card_said rows (card.Warehouse c) = option_map (λ r. said.Warehouse c r) (warehouse_row rows c.warehouse)
 card_said rows (card.District c) = Some (said.District c)
@@ -35,7 +35,7 @@ card_said rows (card.Customer c) = option_map (λ r. said.Customer c r) (custome
 card_said rows (card.Stock c) = option_map (λ r. said.Stock c r) (stock_row rows c.warehouse c.item)
 card_said rows (card.Item c) = Some (said.Item c)
 
--- the record of a row of its own, in a part of an image
+-- the record of a row in a part of an image, if it has one there
 abbrev pub row_said : RowPart → RowKey × Row → Option ImageRecord
 row_said row_part.Districts (key.DistrictYtd w d, row.DistrictYtd r) = Some (said.DistrictYtd w d r)
 row_said row_part.Districts (key.DistrictNext w d, row.DistrictNext r) = Some (said.DistrictNext w d r)
@@ -45,7 +45,7 @@ row_said row_part.Others (key.OrderLine w d o number, row.OrderLine r) = Some (s
 row_said row_part.Others (key.History number, row.History r) = Some (said.History number r)
 row_said _ _ = None
 
--- whether the row of this key has a record of its own
+-- whether the key's row has a record of its own
 abbrev pub stands_alone : RowKey → Bool
 stands_alone (key.Order w d o) = true
 stands_alone (key.NewOrder w d o) = true
@@ -55,15 +55,15 @@ stands_alone (key.DistrictYtd w d) = true
 stands_alone (key.DistrictNext w d) = true
 stands_alone _ = false
 
--- the new set has the keys of the old one, and those of these rows that have records of their own
+-- the new set has the old keys and those of these rows that have records of their own
 abbrev pub HasAlsoAlone : BTreeSet RowKey → Rows → BTreeSet RowKey → Type 0
 HasAlsoAlone old rows new = (k : RowKey) → contains row_key_cmp new k ≡ (contains row_key_cmp old k || (stands_alone k && has_row rows k))
 
--- the record of its own that the row of a key has, in a part of an image
+-- the record of a key's row in a part of an image, if it has one there
 abbrev pub said_at : RowPart → Rows → RowKey → Option ImageRecord
 said_at p rows k = option_and_then (λ r. row_said p (k, r)) (finmap.get rows k)
 
--- whether the cards with this key are of this part
+-- whether the key's card belongs to this part
 abbrev pub stands_in : CardPart → CardKey → Bool
 stands_in part.WarehousesAndDistricts (card_key.Warehouse w) = true
 stands_in part.WarehousesAndDistricts (card_key.District w d) = true
@@ -80,8 +80,8 @@ part_said p rows cards = filter_map (λ e. card_said rows e.1) (where_key card_k
 abbrev pub rows_said : RowPart → List (RowKey × Row) → List ImageRecord
 rows_said p rows = filter_map (row_said p) rows
 
--- the records of a database: the warehouses and the districts, the rows of the districts, the customers, the items, the
--- stocks, and then the orders, the new orders, the order lines and the history, each in the order of their keys
+-- the records of a database: the warehouses, the districts, the districts' rows, the customers, the items, the stocks, the
+-- orders, the new orders, the order lines and the history, each in key order
 unfoldable pub image_said : Database → List ImageRecord
 image_said db =
     part_said part.WarehousesAndDistricts db.rows (finmap.entries db.cards)
@@ -91,7 +91,7 @@ image_said db =
     ++ part_said part.Stocks db.rows (finmap.entries db.cards)
     ++ rows_said row_part.Others (finmap.entries db.rows)
 
--- the records of an image that says this
+-- an image's records: the first, these and the end record
 abbrev pub image_records : List ImageRecord → List Fields
 image_records said = written_first ∷ (map written_record said ++ written_end (length said) ∷ [])
 

@@ -1,4 +1,4 @@
--- The records of an image as they are written.
+-- The records of an image, as written.
 use Rattle.std.specs.Prelude.{ℕ, List, [], ◌∷◌, map, codes, decimal, if◌then◌else◌}
 use Rattle.std.specs.Fmt.{signed_decimal}
 use Rattle.catalog.specs.StockCards.{district_info}
@@ -88,7 +88,7 @@ written_history number r =
     codes "H" ∷ decimal number ∷ decimal r.customer ∷ decimal r.customer_district ∷ decimal r.customer_warehouse
     ∷ decimal r.district ∷ decimal r.warehouse ∷ decimal r.date ∷ decimal r.amount ∷ r.data ∷ []
 
--- the record that says this
+-- the fields of a record
 abbrev pub written_record : ImageRecord → Fields
 written_record (said.Warehouse c r) = written_warehouse c r
 written_record (said.District c) = written_district c

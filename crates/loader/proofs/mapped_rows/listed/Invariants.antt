@@ -4,7 +4,7 @@ use Rattle.std.specs.List.{list_all}
 use Rattle.loader.proofs.mapped_rows.listed.Given as goal
 use Rattle.tpcc_rows.specs.RowKinds.{fits}
 
--- the rows so far, and those that are left, are all
+-- the rows so far and those left are all rows
 abbrev pub invariant-loop-key : goal.invariant-loop-key
 invariant-loop-key l = record {
   whole : l.list.items ++ l.key-iterator ≡ map.entries l.fn.rows;

@@ -4,7 +4,7 @@ use Rattle.loader.specs.Image.{read_from}
 use Rattle.loader.specs.Gathered.{gathered_database}
 use Rattle.loader.proofs.reading.read_rest.Given as goal
 
--- the records that are left lead to where all of them lead
+-- the records left give the result of all records
 abbrev pub invariant-loop-fields : goal.invariant-loop-fields
 invariant-loop-fields l = IsGoing l.reader
     × (l.number + length (records_left l.reader) < 2 ^ 64)

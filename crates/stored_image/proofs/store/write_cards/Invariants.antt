@@ -6,7 +6,7 @@ use Rattle.stored_image.specs.StoredImage.{part_said}
 use Rattle.stored_image.specs.StoredRecords.{written_record}
 use Rattle.stored_image.proofs.store.write_cards.Given as goal
 
--- what is written and what is left
+-- what is written and what is left are the whole
 abbrev pub invariant-loop-key : goal.invariant-loop-key
 invariant-loop-key l = IsWriting l.writer
     × (written l.writer ++ text_of_records (map written_record (part_said l.part l.rows.rows (drop l.key-index l.key-items)))
