@@ -12,7 +12,7 @@ use sha2_lanes::{SecondBlocks, digests};
 use std::alloc::{AllocError, Global};
 use std::thread;
 
-/// Where messages were sent.
+/// The helper that messages were sent to, and their number there.
 #[derive(Clone, Copy)]
 pub struct Ticket {
     helper: usize,
@@ -20,7 +20,7 @@ pub struct Ticket {
     is_short: bool,
 }
 
-/// A thread that hashes, as its owner sees it.
+/// A hashing thread, seen from its owner.
 struct Helper {
     long: Outbox<LONG_BYTES>,
     short: Outbox<SHORT_BYTES>,
@@ -28,7 +28,7 @@ struct Helper {
 }
 
 impl Drop for Helper {
-    /// Lets the thread end.
+    /// Ends the thread.
     fn drop(self) {
         let Helper { long, short, bell } = self;
         drop(long);
@@ -82,7 +82,7 @@ impl Helper {
     }
 }
 
-/// Threads that hash for the owner of this.
+/// Threads that hash for their owner.
 #[derive(Drop)]
 pub struct Helpers {
     helpers: Vec<Helper>,
@@ -90,7 +90,7 @@ pub struct Helpers {
 }
 
 impl Helpers {
-    /// No helper.
+    /// No helpers.
     pub fn none(alloc: Global) -> Helpers
         ensures { vec_len result.helpers ≡ 0 }
     {
@@ -100,7 +100,7 @@ impl Helpers {
         }
     }
 
-    /// So many helpers, or as many as there is memory for and threads can be started.
+    /// Starts `count` helpers, or as many as possible.
     pub fn start<R: Host>(rt: R, alloc: Global, count: usize) -> Helpers
         ensures { vec_len result.helpers ≤ count }
     {
@@ -114,15 +114,15 @@ impl Helpers {
         Helpers { helpers, asked: 0 }
     }
 
-    /// How many helpers there are.
+    /// Number of helpers.
     pub fn len(&self) -> usize
         ensures { result ≡ vec_len self.now.helpers }
     {
         self.helpers.len()
     }
 
-    /// Lets one of the first `most` helpers begin with these messages, unless it has enough to do: up to `LONG_TEXTS` of up to `LONG_BYTES`,
-    /// or up to `TEXTS` of up to `SHORT_BYTES`.
+    /// Sends messages to one of the first `most` helpers, unless its queue is full: up to `LONG_TEXTS` of up to `LONG_BYTES`, or
+    /// up to `TEXTS` of up to `SHORT_BYTES`.
     pub fn begin(&mut self, most: usize, messages: &[&[u8]]) -> Option<Ticket>
         ensures none { most ≡ 0 → result ≡ None }
         ensures helpers { vec_len self.new.helpers ≡ vec_len self.old.helpers }
@@ -144,7 +144,7 @@ impl Helpers {
             })
     }
 
-    /// The helper's answer, if it comes in time.
+    /// Takes the helper's digests, and returns true; false if they are late.
     fn wait(&mut self, ticket: Option<Ticket>, messages: &[&[u8]], digests: &mut [[u8; 32]]) -> bool
         requires { length digests.old ≡ length messages.now }
         ensures len { length digests.new ≡ length digests.old }
@@ -165,7 +165,7 @@ impl Helpers {
             && self.helpers[helper].wait(number, is_short, messages, digests)
     }
 
-    /// The digests of these messages, each at its message's place: a helper's, if it began with just them and is done in time.
+    /// The digests of these messages, in their order: a helper's if the ticket is theirs and it is done in time.
     pub fn finish(
         &mut self,
         second_blocks: &SecondBlocks,

@@ -1,4 +1,4 @@
-//! SHA-256 on threads that last from call to call, and hash beside the one that asks.
+//! SHA-256 on threads that outlive a call and hash beside the calling one.
 #![tactic(auto)]
 
 mod helpers;

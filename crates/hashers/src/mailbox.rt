@@ -1,4 +1,4 @@
-//! A helper's ends of its queues.
+//! The helper's ends of its queues.
 use crate::outbox::{LONG_BYTES, SHORT_BYTES};
 use crate::parcel::{Hashed, Parcel};
 use crossbeam_utils::sync::Parker;
@@ -7,10 +7,10 @@ use sha2_lanes::SecondBlocks;
 use std::sync::Wait;
 use std::thread::yield_now;
 
-/// How often a helper looks for a parcel before it sleeps, which takes about two milliseconds.
+/// Number of looks for a parcel before a helper sleeps: about two milliseconds.
 const LOOKS: usize = 4_000;
 
-/// Where a helper receives parcels of texts of up to N bytes, and returns them hashed.
+/// Receives parcels of texts of up to N bytes, and returns them hashed.
 #[derive(Drop)]
 pub(crate) struct Inbox<const N: usize> {
     pub(crate) asked: Consumer<Parcel<N>>,
@@ -18,7 +18,7 @@ pub(crate) struct Inbox<const N: usize> {
 }
 
 impl<const N: usize> Inbox<N> {
-    /// Hashes the next parcel; the answer is whether there was one.
+    /// Hashes the next parcel; false if there is none.
     fn serve(&mut self, second_blocks: &SecondBlocks) -> bool {
         match self.asked.pop() {
             Ok(parcel) => {
@@ -30,7 +30,7 @@ impl<const N: usize> Inbox<N> {
     }
 }
 
-/// All that a helper's thread has.
+/// What a helper's thread owns.
 #[derive(Drop)]
 pub(crate) struct Mailbox {
     pub(crate) long: Inbox<LONG_BYTES>,
@@ -40,7 +40,7 @@ pub(crate) struct Mailbox {
 }
 
 impl Mailbox {
-    /// Looks for a parcel for a while, and hashes it; the answer is whether there was one.
+    /// Waits for a parcel for a while and hashes it; false if none came.
     fn serve_awake(&mut self) -> bool {
         for _ in 0..LOOKS {
             if self.short.serve(&self.second_blocks) || self.long.serve(&self.second_blocks) {
@@ -51,7 +51,7 @@ impl Mailbox {
         false
     }
 
-    /// Hashes parcels until their sender is gone.
+    /// Hashes parcels until the sender is gone.
     pub(crate) fn serve<R: Wait>(&mut self, rt: &R) {
         for _ in rt.forever() {
             if !self.serve_awake() {

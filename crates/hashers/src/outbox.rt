@@ -1,4 +1,4 @@
-//! The asking thread's ends of a helper's queues.
+//! The owner's ends of a helper's queues.
 ghost use Rattle.std.specs.Prelude.{◌≡◌, ◌<◌, ◌≤◌, ◌^◌, Some, length, map, true};
 ghost use Rattle.std.specs.Bool.{OnTrue};
 ghost use Rattle.sha2.specs.Sha256.{sha256};
@@ -10,28 +10,28 @@ use rtrb::{Consumer, Producer, PushError, RingBuffer};
 use std::alloc::{AllocError, Global};
 use std::thread::yield_now;
 
-/// The most bytes of a long text.
+/// Maximum size of a long text, in bytes.
 pub const LONG_BYTES: usize = 5_000;
 
-/// The most long texts of a parcel.
+/// Maximum number of long texts in a parcel.
 pub const LONG_TEXTS: usize = 16;
 
-/// The most bytes of a short text.
+/// Maximum size of a short text, in bytes.
 pub const SHORT_BYTES: usize = 65;
 
-/// How many parcels a queue has.
+/// Capacity of a queue, in parcels.
 const PARCELS: usize = 5;
 
-/// How often an answer is looked for before it counts as late.
+/// Number of looks for a parcel before it counts as late.
 const LOOKS: usize = 400;
 
-/// Where parcels are sent to one helper, and come back.
+/// Sends parcels to a helper, and takes them back.
 #[derive(Drop)]
 pub(crate) struct Outbox<const N: usize> {
     asked: Producer<Parcel<N>>,
     answered: Consumer<Hashed<N>>,
     spare: Vec<Parcel<N>>,
-    /// Whether an answer is late. Until it comes, no other is waited for.
+    /// Whether a parcel is late. Until it is back, none is waited for.
     is_late: bool,
 }
 
@@ -66,7 +66,7 @@ impl<const N: usize> Outbox<N> {
         }
     }
 
-    /// A spare parcel, or one that has come back late.
+    /// A spare parcel, or one that came back late.
     fn spare_one(&mut self) -> Option<Parcel<N>> {
         if self.is_late
             && let Ok(hashed) = self.answered.pop()
@@ -76,7 +76,7 @@ impl<const N: usize> Outbox<N> {
         self.spare.pop()
     }
 
-    /// Sends these texts; the answer is whether there was room for them.
+    /// Sends these texts; false if they don't fit or no parcel is free.
     pub(crate) fn ask(&mut self, number: u64, messages: &[&[u8]]) -> bool {
         let Some(mut parcel) = self.spare_one() else {
             return false;
@@ -94,7 +94,7 @@ impl<const N: usize> Outbox<N> {
         }
     }
 
-    /// Takes a parcel back, if one has come: whether it is this one, with these texts, whose hashes are then given.
+    /// Takes a parcel back, if one is there. True if it is the one with this number and these texts, whose digests are then set.
     fn take(&mut self, number: u64, messages: &[&[u8]], digests: &mut [[u8; 32]]) -> Option<bool>
         requires { length digests.old ≡ length messages.now }
         ensures len { length digests.new ≡ length digests.old }
@@ -107,7 +107,7 @@ impl<const N: usize> Outbox<N> {
         Some(is_it)
     }
 
-    /// Takes back parcels that have come, up to this one; the answer is whether it has.
+    /// Takes parcels back up to the one with this number; false if it isn't there yet.
     fn take_all(&mut self, number: u64, messages: &[&[u8]], digests: &mut [[u8; 32]]) -> bool
         requires { length digests.old ≡ length messages.now }
         ensures len { length digests.new ≡ length digests.old }
@@ -123,7 +123,7 @@ impl<const N: usize> Outbox<N> {
         false
     }
 
-    /// Waits for a parcel for a while; the answer is whether it has come.
+    /// Waits for a parcel for a while; false if it is late.
     pub(crate) fn wait(&mut self, number: u64, messages: &[&[u8]], digests: &mut [[u8; 32]]) -> bool
         requires { length digests.old ≡ length messages.now }
         ensures len { length digests.new ≡ length digests.old }

@@ -1,4 +1,4 @@
-//! Texts on their way to a helper, and back with their hashes.
+//! Texts sent to a helper, and back with their hashes.
 ghost use Rattle.std.specs.Prelude.{◌≡◌, ◌<◌, ◌≤◌, ◌^◌, length, map, take, vec_len};
 ghost use Rattle.std.specs.Bool.{OnTrue};
 ghost use Rattle.sha2.specs.Sha256.{sha256};
@@ -8,7 +8,7 @@ use arrayvec::ArrayVec;
 use sha2_lanes::{SecondBlocks, digests};
 use std::alloc::{AllocError, Global};
 
-/// The most texts of a parcel.
+/// Maximum number of texts in a parcel.
 pub const TEXTS: usize = 64;
 
 /// A copy of a text.
@@ -20,7 +20,7 @@ fn is_same(text: &[u8], message: &[u8]) -> bool
     text == message
 }
 
-/// Puts the hashes of the first texts at their places.
+/// Hashes the first `len` texts.
 fn hash_first<const N: usize>(
     second_blocks: &SecondBlocks,
     texts: &[Text<N>],
@@ -40,7 +40,7 @@ fn hash_first<const N: usize>(
     digests(second_blocks, messages.as_slice(), &mut hashes[..len]);
 }
 
-/// Copies of texts of up to N bytes that are to be hashed, and room for their hashes.
+/// Copies of texts of up to N bytes, with room for their hashes.
 #[derive(Drop)]
 pub(crate) struct Parcel<const N: usize> {
     number: u64,
@@ -54,7 +54,7 @@ pub(crate) struct Parcel<const N: usize> {
 }
 
 impl<const N: usize> Parcel<N> {
-    /// With room for so many texts.
+    /// With room for `room` texts.
     pub(crate) fn new(alloc: Global, room: usize) -> Result<Parcel<N>, AllocError>
         requires small { N < 2 ^ 32 }
         requires few { room ≤ TEXTS }
@@ -72,7 +72,7 @@ impl<const N: usize> Parcel<N> {
         })
     }
 
-    /// Copies these texts; the answer is whether there was room for all of them.
+    /// Copies these texts; false if they don't fit.
     pub(crate) fn fill(&mut self, number: u64, messages: &[&[u8]]) -> bool {
         self.number = number;
         self.len = 0;
@@ -110,7 +110,7 @@ impl<const N: usize> Parcel<N> {
     }
 }
 
-/// A parcel whose texts are hashed.
+/// A parcel with the hashes of its texts.
 #[derive(Drop)]
 pub(crate) struct Hashed<const N: usize> {
     parcel: Parcel<N>,
@@ -122,7 +122,7 @@ impl<const N: usize> Hashed<N> {
         self.parcel.number
     }
 
-    /// Gives the hashes of these texts, if they are the parcel's; the answer is whether they are.
+    /// Copies the hashes, and returns true, if these are the parcel's texts.
     pub(crate) fn give(&self, messages: &[&[u8]], digests: &mut [[u8; 32]]) -> bool
         requires { length digests.old ≡ length messages.now }
         ensures len { length digests.new ≡ length digests.old }
@@ -146,7 +146,7 @@ impl<const N: usize> Hashed<N> {
         true
     }
 
-    /// The parcel, to be filled again.
+    /// The parcel, to be reused.
     pub(crate) fn into_parcel(self) -> Parcel<N> {
         self.parcel
     }

@@ -1,4 +1,4 @@
-//! Trees whose leaves are all alike.
+//! Trees of equal leaves.
 ghost use Rattle.std.specs.Prelude.{◌≡◌, ◌<◌, ◌≤◌, ◌+◌, ◌*◌, ◌∷◌, [], ℕ, IfOk, length};
 ghost use Rattle.sha2.specs.Sha256.{sha256};
 ghost use Rattle.merkle.specs.Nodes.{IsJoin, IsTree, IsWidth, at};
@@ -10,7 +10,7 @@ use tpcc_rows::codes::LEAVES;
 /// The height of the root above the leaves.
 const HEIGHT: usize = 16;
 
-/// Gives the nodes from `low` to before `high` this hash.
+/// Sets the nodes from `low` to before `high` to a hash.
 fn fill(nodes: &mut [[u8; 32]], low: usize, high: usize, hash: &[u8; 32])
     requires low { low ≤ high }
     requires high { high ≤ length nodes.old }
@@ -23,7 +23,7 @@ fn fill(nodes: &mut [[u8; 32]], low: usize, high: usize, hash: &[u8; 32])
     }
 }
 
-/// Makes all leaves alike, and joins the nodes above up to the level that begins at `low`, whose hash is the answer.
+/// Sets all leaves to a hash, joins the nodes above up to the level that begins at `low`, and returns its hash.
 fn fill_alike(nodes: &mut [[u8; 32]], low: usize, height: usize, leaf: &[u8; 32]) -> [u8; 32]
     requires full { length nodes.old ≡ 2 * LEAVES }
     requires low { 1 ≤ low }

@@ -1,4 +1,4 @@
-//! The hashes of leaves and of nodes, one at a time or four at once.
+//! Hashes of leaves and of nodes, one at a time or four at once.
 ghost use Rattle.std.specs.Prelude.{◌≡◌, ◌≤◌, ◌+◌, ◌++◌, ◌∷◌, [], ℕ, List, length};
 ghost use Rattle.std.specs.Bool.{OnFalse, OnTrue};
 ghost use Rattle.std.specs.FinMap as map;
@@ -16,25 +16,25 @@ use tpcc_rows::key::RowKey;
 use tpcc_rows::row::Row;
 use tpcc_rows::row_buf::ByteBuf;
 
-/// The first byte of a leaf's text, which so is no node's.
+/// First byte of a leaf's text.
 const LEAF: u8 = 0;
 
-/// The first byte of a node's text.
+/// First byte of a node's text.
 const NODE: u8 = 1;
 
-/// The most bytes of a row.
+/// Maximum size of a row, in bytes.
 const ROW_BYTES: usize = 536;
 
-/// The most bytes that wait.
+/// Size of the buffer before a hasher, in bytes.
 const WAITING_BYTES: usize = 4096;
 
-/// The most bytes of a leaf that is hashed beside others.
+/// Maximum size of a leaf's text that is hashed beside others, in bytes.
 pub(crate) const LEAF_BYTES: usize = LONG_BYTES;
 
-/// The bytes of a node's text.
+/// Size of a node's text, in bytes.
 pub(crate) const NODE_BYTES: usize = SHORT_BYTES;
 
-/// A hasher that is fed many rows at once: fed row by row, a tree took half as long again.
+/// A buffered hasher: fed row by row, it takes half as long again.
 #[derive(Drop)]
 struct Gathered {
     hasher: Sha256,
@@ -42,7 +42,7 @@ struct Gathered {
 }
 
 impl Gathered {
-    /// At the beginning of a leaf.
+    /// A hasher at the start of a leaf's text.
     fn of_leaf() -> Gathered
         ensures { IsFed result (0 ∷ []) }
     {
@@ -54,7 +54,7 @@ impl Gathered {
         }
     }
 
-    /// Feeds what waits if so many bytes don't fit behind it.
+    /// Empties the buffer into the hasher if fewer than `bytes` bytes are free.
     fn make_room(&mut self, bytes: usize)
         ensures fed { (m : List ℕ) → IsFed self.old m → IsFed self.new m }
         ensures room { bytes ≤ WAITING_BYTES → length self.new.waiting + bytes ≤ WAITING_BYTES }
@@ -84,7 +84,7 @@ impl Gathered {
     }
 }
 
-/// Buffers for the texts of two leaves. Making them takes as long as hashing a leaf, so they are used again.
+/// Buffers for the texts of two leaves. Making them takes as long as hashing a leaf, so they are reused.
 #[derive(Drop)]
 pub(crate) struct TwoTexts {
     first: ByteBuf<LEAF_BYTES>,
@@ -100,8 +100,8 @@ impl TwoTexts {
     }
 }
 
-/// Enough bytes for the rows of a page. Reading them all first prefetches the customers' texts, which lie apart from the page: they come
-/// from memory together, where the encoder would wait for each in its turn.
+/// Enough bytes for a page's rows. Reading all rows first prefetches the customers' texts, which lie apart from the page, so
+/// that the encoder doesn't wait for one after the other.
 pub(crate) fn prefetch_rows(page: &LeafRows) -> usize {
     let mut bytes = 0usize;
     for (_, row) in page.as_slice() {
@@ -110,7 +110,7 @@ pub(crate) fn prefetch_rows(page: &LeafRows) -> usize {
     bytes
 }
 
-/// The hash of a leaf, of its rows in key order.
+/// The hash of a leaf: of its rows in key order.
 pub fn hash_leaf(page: &LeafRows) -> [u8; 32]
     ensures { result ≡ sha256 (0 ∷ rows_bytes (map.entries page.now)) }
 {
@@ -122,7 +122,7 @@ pub fn hash_leaf(page: &LeafRows) -> [u8; 32]
     gathered.finish()
 }
 
-/// The hash of a leaf that has no rows.
+/// The hash of a leaf without rows.
 pub(crate) fn hash_no_rows() -> [u8; 32]
     ensures { result ≡ sha256 (0 ∷ []) }
 {
@@ -131,7 +131,7 @@ pub(crate) fn hash_no_rows() -> [u8; 32]
     hasher.finalize()
 }
 
-/// Fills the buffer with the text of a leaf, or leaves it empty if the text may not fit; the answer is whether it is filled.
+/// Writes the text of a leaf, and returns true; or leaves the buffer empty if the text may not fit.
 pub(crate) fn encode_leaf(page: &LeafRows, text: &mut ByteBuf<LEAF_BYTES>) -> bool
     ensures whole { OnTrue result (text.new ≡ leaf_text page.now) }
     ensures empty { OnFalse result (text.new ≡ []) }
@@ -148,7 +148,7 @@ pub(crate) fn encode_leaf(page: &LeafRows, text: &mut ByteBuf<LEAF_BYTES>) -> bo
     true
 }
 
-/// The hash of a leaf: this one, if it is of the leaf's whole text.
+/// The hash of a leaf: the given one, if it is of the whole text.
 fn hash_from(page: &LeafRows, is_whole: bool, hash: [u8; 32]) -> [u8; 32]
     requires { OnTrue is_whole (hash ≡ sha256 (leaf_text page.now)) }
     ensures { result ≡ sha256 (leaf_text page.now) }
@@ -156,7 +156,7 @@ fn hash_from(page: &LeafRows, is_whole: bool, hash: [u8; 32]) -> [u8; 32]
     if is_whole { hash } else { hash_leaf(page) }
 }
 
-/// The hashes of four leaves at once, but for leaves whose texts may not fit.
+/// The hashes of four leaves, computed at once except for leaves whose texts may not fit.
 pub(crate) fn hash_four_leaves(
     front: &mut TwoTexts,
     back: &mut TwoTexts,

@@ -1,4 +1,4 @@
-//! Jobs shared with helpers.
+//! Hashing with helpers.
 ghost use Rattle.std.specs.Prelude.{◌≡◌, ◌<◌, ◌≤◌, ◌+◌, ◌*◌, ◌^◌, All, length, map, take};
 ghost use Rattle.merkle.specs.declared.helped.TheConstants.{MOST_HELPERS, ROUND};
 ghost use Rattle.hashers.specs.declared.parcel.TheConstants.{TEXTS};
@@ -19,42 +19,42 @@ use sha2_lanes::SecondBlocks;
 use std::alloc::{AllocError, Global};
 use tpcc_rows::row_buf::ByteBuf;
 
-/// The most helpers.
+/// Maximum number of helpers.
 pub(crate) const MOST_HELPERS: usize = 7;
 
-/// The most leaves that are encoded before their hashes are waited for.
+/// Maximum number of leaves encoded before waiting for their hashes.
 const ROUND: usize = 128;
 
-/// The most groups of a round: of leaves as many as helpers take, of nodes one a helper.
+/// Maximum number of groups in a round: of leaves, `ROUND` / `LONG_TEXTS`; of nodes, one per helper.
 const MOST_GROUPS: usize = 8;
 
-/// The fewest leaves for which helpers pay.
+/// Minimum leaves to use helpers.
 const FEWEST_LEAVES: usize = 64;
 
-/// The fewest nodes of a level for which helpers pay.
+/// Minimum nodes of a level to use helpers.
 const FEWEST_NODES: usize = 32;
 
-/// Where the groups of a round were sent.
+/// The tickets of a round's groups.
 type Tickets = ArrayVec<Option<Ticket>, MOST_GROUPS>;
 
-/// Places whose texts can be encoded apart from hashing them.
+/// Places whose texts can be encoded without being hashed.
 pub(crate) trait Encodes<const N: usize>: Places {
-    /// Fills the buffer with the text of a place, or leaves it empty if the text may not fit.
+    /// Writes the text of a place, or leaves the buffer empty if the text may not fit.
     fn encode(&self, place: usize, text: &mut ByteBuf<N>)
         requires { Self.has self.now place }
         ensures { IsTextOf (Self.hash self.now place) text.new };
 }
 
-/// How jobs are shared: with `most` helpers, in groups of `size`.
+/// How jobs are shared: with at most `most` helpers, in groups of `size`.
 #[derive(Clone, Copy)]
-struct Plan<'a, P> {
+struct Sharing<'a, P> {
     places: &'a P,
     second_blocks: &'a SecondBlocks,
     most: usize,
     size: usize,
 }
 
-/// The bytes of up to `TEXTS` texts.
+/// The texts as slices.
 fn bytes_of<const N: usize>(texts: &[ByteBuf<N>]) -> ArrayVec<&[u8], TEXTS>
     requires small { N < 2 ^ 32 }
     requires few { length texts.now ≤ TEXTS }
@@ -67,7 +67,7 @@ fn bytes_of<const N: usize>(texts: &[ByteBuf<N>]) -> ArrayVec<&[u8], TEXTS>
     bytes
 }
 
-/// Lets a helper begin with the texts from `start` to before `end`.
+/// Sends the texts from `start` to before `end` to a helper.
 fn begin_group<const N: usize>(
     helpers: &mut Helpers,
     most: usize,
@@ -82,25 +82,25 @@ fn begin_group<const N: usize>(
     helpers.begin(most, bytes_of(&texts[start..end]).as_slice())
 }
 
-/// Encodes the texts of jobs, and lets helpers begin with each group.
+/// Encodes the texts of jobs, and sends each group to a helper.
 fn begin<const N: usize, P: Encodes<N>>(
     helpers: &mut Helpers,
-    plan: &Plan<'_, P>,
+    sharing: &Sharing<'_, P>,
     jobs: &[Job],
     texts: &mut [ByteBuf<N>],
 ) -> Tickets
     requires small { N < 2 ^ 32 }
-    requires size { (0 < plan.now.size) × (plan.now.size ≤ TEXTS) }
+    requires size { (0 < sharing.now.size) × (sharing.now.size ≤ TEXTS) }
     requires same { length texts.old ≡ length jobs.now }
-    requires there { All (λ job. P.has plan.now.places.now job.place) jobs.now }
-    ensures { AreTexts (P.hash plan.now.places.now) jobs.now texts.new }
+    requires there { All (λ job. P.has sharing.now.places.now job.place) jobs.now }
+    ensures { AreTexts (P.hash sharing.now.places.now) jobs.now texts.new }
 {
-    let Plan {
+    let Sharing {
         places,
         most,
         size,
         ..
-    } = *plan;
+    } = *sharing;
     let mut tickets = Tickets::new();
     for k in 0..jobs.len() {
         places.encode(jobs[k].place, &mut texts[k]);
@@ -113,7 +113,7 @@ fn begin<const N: usize, P: Encodes<N>>(
     tickets
 }
 
-/// The hash of a place: this one of its text, unless that is empty.
+/// The hash of a place: the given one, unless its text is empty.
 fn hash_by<P: Places>(places: &P, place: usize, text: &[u8], hash: [u8; 32]) -> [u8; 32]
     requires there { P.has places.now place }
     requires text { IsTextOf (P.hash places.now place) text.now }
@@ -127,7 +127,7 @@ fn hash_by<P: Places>(places: &P, place: usize, text: &[u8], hash: [u8; 32]) -> 
     }
 }
 
-/// Gives jobs the hashes of their texts.
+/// Sets the jobs' hashes to those of their texts.
 fn give<const N: usize, P: Places>(
     places: &P,
     jobs: &mut [Job],
@@ -161,48 +161,48 @@ fn hash_group<const N: usize>(
     helpers.finish(second_blocks, ticket, bytes_of(texts).as_slice(), hashes);
 }
 
-/// Hashes the texts of a group, and gives the jobs their hashes.
+/// Sets a group's hashes to those of its texts.
 fn finish_group<const N: usize, P: Places>(
     helpers: &mut Helpers,
     ticket: Option<Ticket>,
-    plan: &Plan<'_, P>,
+    sharing: &Sharing<'_, P>,
     jobs: &mut [Job],
     texts: &[ByteBuf<N>],
 )
     requires small { N < 2 ^ 32 }
     requires few { length jobs.old ≤ TEXTS }
-    requires there { All (λ job. P.has plan.now.places.now job.place) jobs.old }
-    requires texts { AreTexts (P.hash plan.now.places.now) jobs.old texts.now }
-    ensures { IsDone (P.hash plan.now.places.now) jobs.old jobs.new }
+    requires there { All (λ job. P.has sharing.now.places.now job.place) jobs.old }
+    requires texts { AreTexts (P.hash sharing.now.places.now) jobs.old texts.now }
+    ensures { IsDone (P.hash sharing.now.places.now) jobs.old jobs.new }
 {
     let len = texts.len();
     let mut hashes = [[0u8; 32]; TEXTS];
     hash_group(
         helpers,
-        plan.second_blocks,
+        sharing.second_blocks,
         ticket,
         texts,
         &mut hashes[..len],
     );
-    give(plan.places, jobs, texts, &hashes[..len]);
+    give(sharing.places, jobs, texts, &hashes[..len]);
 }
 
-/// Gives jobs the hashes of their texts, group by group.
+/// Sets the jobs' hashes to those of their texts, group by group.
 #[tactic(auto, using(crate::proofs::Texts::part_there, crate::proofs::Texts::part_texts))]
 fn finish<const N: usize, P: Places>(
     helpers: &mut Helpers,
     tickets: &[Option<Ticket>],
-    plan: &Plan<'_, P>,
+    sharing: &Sharing<'_, P>,
     jobs: &mut [Job],
     texts: &[ByteBuf<N>],
 )
     requires small { N < 2 ^ 32 }
-    requires size { (0 < plan.now.size) × (plan.now.size ≤ TEXTS) }
-    requires there { All (λ job. P.has plan.now.places.now job.place) jobs.old }
-    requires texts { AreTexts (P.hash plan.now.places.now) jobs.old texts.now }
-    ensures { IsDone (P.hash plan.now.places.now) jobs.old jobs.new }
+    requires size { (0 < sharing.now.size) × (sharing.now.size ≤ TEXTS) }
+    requires there { All (λ job. P.has sharing.now.places.now job.place) jobs.old }
+    requires texts { AreTexts (P.hash sharing.now.places.now) jobs.old texts.now }
+    ensures { IsDone (P.hash sharing.now.places.now) jobs.old jobs.new }
 {
-    let size = plan.size;
+    let size = sharing.size;
     let mut start = 0;
     while start < jobs.len() {
         let end = start + size.min(jobs.len() - start);
@@ -210,7 +210,7 @@ fn finish<const N: usize, P: Places>(
         finish_group(
             helpers,
             ticket,
-            plan,
+            sharing,
             &mut jobs[start..end],
             &texts[start..end],
         );
@@ -218,66 +218,66 @@ fn finish<const N: usize, P: Places>(
     }
 }
 
-/// Does jobs, the first `given` with helpers.
+/// Hashes jobs, the first `given` with helpers.
 fn do_level<const N: usize, P: Encodes<N>>(
     helpers: &mut Helpers,
-    plan: &Plan<'_, P>,
+    sharing: &Sharing<'_, P>,
     given: usize,
     jobs: &mut [Job],
     texts: &mut [ByteBuf<N>],
 )
     requires small { N < 2 ^ 32 }
-    requires size { (0 < plan.now.size) × (plan.now.size ≤ TEXTS) }
+    requires size { (0 < sharing.now.size) × (sharing.now.size ≤ TEXTS) }
     requires given { (given ≤ length jobs.old) × (given ≤ length texts.old) }
-    requires there { All (λ job. P.has plan.now.places.now job.place) jobs.old }
-    ensures { IsDone (P.hash plan.now.places.now) jobs.old jobs.new }
+    requires there { All (λ job. P.has sharing.now.places.now job.place) jobs.old }
+    ensures { IsDone (P.hash sharing.now.places.now) jobs.old jobs.new }
 {
     let (first, rest) = jobs.split_at_mut(given);
-    let tickets = begin(helpers, plan, first, &mut texts[..given]);
-    do_jobs(rest, plan.places);
-    finish(helpers, tickets.as_slice(), plan, first, &texts[..given]);
+    let tickets = begin(helpers, sharing, first, &mut texts[..given]);
+    do_jobs(rest, sharing.places);
+    finish(helpers, tickets.as_slice(), sharing, first, &texts[..given]);
 }
 
-/// Does jobs, all with helpers.
+/// Hashes jobs, all with helpers.
 fn do_round<const N: usize, P: Encodes<N>>(
     helpers: &mut Helpers,
-    plan: &Plan<'_, P>,
+    sharing: &Sharing<'_, P>,
     jobs: &mut [Job],
     texts: &mut [ByteBuf<N>],
 )
     requires small { N < 2 ^ 32 }
-    requires size { (0 < plan.now.size) × (plan.now.size ≤ TEXTS) }
+    requires size { (0 < sharing.now.size) × (sharing.now.size ≤ TEXTS) }
     requires same { length texts.old ≡ length jobs.old }
-    requires there { All (λ job. P.has plan.now.places.now job.place) jobs.old }
-    ensures { IsDone (P.hash plan.now.places.now) jobs.old jobs.new }
+    requires there { All (λ job. P.has sharing.now.places.now job.place) jobs.old }
+    ensures { IsDone (P.hash sharing.now.places.now) jobs.old jobs.new }
 {
-    let tickets = begin(helpers, plan, jobs, texts);
-    finish(helpers, tickets.as_slice(), plan, jobs, texts);
+    let tickets = begin(helpers, sharing, jobs, texts);
+    finish(helpers, tickets.as_slice(), sharing, jobs, texts);
 }
 
-/// Does jobs round by round.
+/// Hashes jobs round by round.
 fn do_rounds<const N: usize, P: Encodes<N>>(
     helpers: &mut Helpers,
-    plan: &Plan<'_, P>,
+    sharing: &Sharing<'_, P>,
     jobs: &mut [Job],
     texts: &mut [ByteBuf<N>],
 )
     requires small { N < 2 ^ 32 }
-    requires size { (0 < plan.now.size) × (plan.now.size ≤ TEXTS) }
+    requires size { (0 < sharing.now.size) × (sharing.now.size ≤ TEXTS) }
     requires room { ROUND ≤ length texts.old }
-    requires there { All (λ job. P.has plan.now.places.now job.place) jobs.old }
-    ensures { IsDone (P.hash plan.now.places.now) jobs.old jobs.new }
+    requires there { All (λ job. P.has sharing.now.places.now job.place) jobs.old }
+    ensures { IsDone (P.hash sharing.now.places.now) jobs.old jobs.new }
 {
     let mut start = 0;
     while start < jobs.len() {
         let len = ROUND.min(jobs.len() - start);
         let end = start + len;
-        do_round(helpers, plan, &mut jobs[start..end], &mut texts[..len]);
+        do_round(helpers, sharing, &mut jobs[start..end], &mut texts[..len]);
         start = end;
     }
 }
 
-/// Buffers for so many texts.
+/// Buffers for `count` texts.
 fn texts<const N: usize>(alloc: Global, count: usize) -> Result<Vec<ByteBuf<N>>, AllocError>
     requires { N < 2 ^ 32 }
 {
@@ -288,7 +288,7 @@ fn texts<const N: usize>(alloc: Global, count: usize) -> Result<Vec<ByteBuf<N>>,
     Ok(texts)
 }
 
-/// Helpers, and buffers for the texts that they are asked to hash.
+/// Helpers, and buffers for the texts sent to them.
 #[derive(Drop)]
 pub(crate) struct Helped {
     helpers: Helpers,
@@ -297,7 +297,7 @@ pub(crate) struct Helped {
 }
 
 impl Helped {
-    /// No helper.
+    /// Without helpers.
     pub(crate) fn alone(alloc: Global) -> Helped {
         Helped {
             helpers: Helpers::none(alloc),
@@ -306,7 +306,7 @@ impl Helped {
         }
     }
 
-    /// So many helpers, or as many as can be started.
+    /// Starts `count` helpers, or as many as possible.
     pub(crate) fn start<R: Host>(rt: R, alloc: Global, count: usize) -> Result<Helped, AllocError> {
         if count == 0 {
             return Ok(Helped::alone(alloc));
@@ -320,7 +320,7 @@ impl Helped {
         })
     }
 
-    /// How many helpers there are, for so many threads in all.
+    /// Number of helpers to use for `threads` threads in all.
     fn most(&self, threads: usize) -> usize
         ensures { result ≤ MOST_HELPERS }
     {
@@ -346,14 +346,14 @@ impl Helped {
             do_jobs(jobs, places);
             return;
         }
-        let plan = Plan {
+        let sharing = Sharing {
             places,
             second_blocks,
             most,
             size: LONG_TEXTS,
         };
         sort_by_measure(jobs, places);
-        do_rounds(&mut self.helpers, &plan, jobs, &mut self.leaves);
+        do_rounds(&mut self.helpers, &sharing, jobs, &mut self.leaves);
     }
 
     /// Joins nodes.
@@ -366,15 +366,15 @@ impl Helped {
             do_jobs(jobs, places);
             return;
         }
-        // The calling thread takes a fifth more than a helper, since the helpers begin later.
+        // The calling thread takes a fifth more than a helper, since helpers begin later.
         let size = (5 * jobs.len() / (5 * most + 6)).clamp(1, TEXTS);
-        let plan = Plan {
+        let sharing = Sharing {
             places,
             second_blocks: places.second_blocks,
             most,
             size,
         };
         let given = (size * most).min(self.nodes.len()).min(jobs.len());
-        do_level(&mut self.helpers, &plan, given, jobs, &mut self.nodes);
+        do_level(&mut self.helpers, &sharing, given, jobs, &mut self.nodes);
     }
 }

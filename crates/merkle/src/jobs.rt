@@ -1,4 +1,4 @@
-//! Jobs: the places of a tree that are to be hashed, and their hashes.
+//! Jobs: places of a tree to be hashed, and their hashes.
 ghost use Rattle.std.specs.Prelude.{◌≡◌, ◌<◌, ◌≤◌, ◌+◌, ◌||◌, ℕ, List, All, cond, length, slice_index_or, vec_capacity};
 ghost use Rattle.pages.specs.BitSets.{has_bit};
 ghost use Rattle.merkle.specs.Jobs.{AreHashed, IsDone, has_place};
@@ -9,11 +9,11 @@ ghost use Rattle.merkle.specs.declared.jobs.Job.{Job};
 use crate::marks::{Marks, next_above};
 use tpcc_rows::codes::LEAVES;
 
-/// A place that is to be hashed: a leaf by its number, or a node by its place in heap order.
+/// A place to be hashed: a leaf by its number, or a node by its index in heap order.
 #[derive(Clone, Copy)]
 pub(crate) struct Job {
     pub(crate) place: usize,
-    /// About how many bytes its text has.
+    /// Approximate size of its text, in bytes.
     pub(crate) measure: usize,
     pub(crate) hash: [u8; 32],
 }
@@ -77,7 +77,7 @@ pub(crate) fn put_hashes(hashes: &mut [[u8; 32]], jobs: &[Job])
     }
 }
 
-/// Gives up to four jobs their hashes.
+/// Sets the hashes of up to four jobs.
 pub(crate) fn give_hashes(jobs: &mut [Job], hashes: &[[u8; 32]; 4])
     requires { length jobs.old ≤ 4 }
     ensures { (value : ℕ → List ℕ) (d : Job) → ((k : ℕ) → k < length jobs.old → at hashes.now k ≡ value (slice_index_or jobs.old k d).place)

@@ -1,4 +1,4 @@
-//! The hashes of leaves.
+//! Hashing leaves.
 ghost use Rattle.std.specs.Prelude.{◌≡◌, ◌<◌, ◌≤◌, ◌+◌, ◌∷◌, [], ℕ, All, cond, length, vec_capacity};
 ghost use Rattle.pages.specs.BitSets.{has_bit};
 ghost use Rattle.merkle.specs.Jobs.{IsDone};
@@ -18,7 +18,7 @@ use std::thread::Threads;
 use tpcc_rows::codes::LEAVES;
 use tpcc_rows::row_buf::ByteBuf;
 
-/// The fewest rows that are worth the start of a thread, which costs as much as a few hundred.
+/// Minimum rows per thread. Starting one costs as much as hashing a few hundred.
 const ROWS_AT_ONCE: usize = 4096;
 
 /// The leaves of a store.
@@ -79,7 +79,7 @@ impl Encodes<LEAF_BYTES> for Leaves<'_> {
     }
 }
 
-/// How many rows some leaves have; from `most` on they aren't counted further.
+/// Number of rows on these leaves, counted up to about `most`.
 fn rows_of(jobs: &[Job], store: &PointedStore, most: usize) -> usize
     requires { All (λ job. job.place < LEAVES) jobs.now }
 {
@@ -93,7 +93,7 @@ fn rows_of(jobs: &[Job], store: &PointedStore, most: usize) -> usize
     rows
 }
 
-/// Hashes leaves, on new threads if so many are worth their start, else with helpers.
+/// Hashes leaves, on new threads if that pays, else with helpers.
 fn hash_leaves<R: Threads + Sync>(
     context: &Context<'_, R>,
     jobs: &mut [Job],
@@ -112,7 +112,7 @@ fn hash_leaves<R: Threads + Sync>(
     }
 }
 
-/// Hashes again each marked leaf.
+/// Rehashes the marked leaves.
 pub(crate) fn rehash<R: Threads + Sync>(
     context: &Context<'_, R>,
     leaves: &mut [[u8; 32]],

@@ -1,4 +1,4 @@
-//! The hashes of inner nodes.
+//! Hashing inner nodes.
 ghost use Rattle.std.specs.Prelude.{◌≡◌, ◌<◌, ◌≤◌, ◌+◌, ◌*◌, ℕ, All, length, vec_capacity};
 ghost use Rattle.pages.specs.BitSets.{has_bit};
 ghost use Rattle.sha2.specs.Sha256.{sha256};
@@ -16,7 +16,7 @@ use std::thread::Threads;
 use tpcc_rows::codes::LEAVES;
 use tpcc_rows::row_buf::ByteBuf;
 
-/// The fewest nodes that are worth the start of a thread.
+/// Minimum nodes per thread.
 const NODES_AT_ONCE: usize = 512;
 
 /// The text of a node.
@@ -81,7 +81,7 @@ impl Encodes<NODE_BYTES> for InnerNodes<'_> {
     }
 }
 
-/// Joins nodes, on new threads if so many are worth their start, else with helpers.
+/// Joins nodes, on new threads if that pays, else with helpers.
 fn join_nodes<R: Threads + Sync>(
     context: &Context<'_, R>,
     jobs: &mut [Job],
@@ -103,7 +103,7 @@ fn join_nodes<R: Threads + Sync>(
     }
 }
 
-/// Joins again each node from `low` to before `high` above a mark. No node of them is a child of another.
+/// Joins again the nodes from `low` to before `high` above a mark. None of them is a child of another.
 fn rejoin_level<R: Threads + Sync>(
     context: &Context<'_, R>,
     nodes: &mut [[u8; 32]],
@@ -128,7 +128,7 @@ fn rejoin_level<R: Threads + Sync>(
     put_hashes(nodes, jobs.as_slice());
 }
 
-/// Joins again each inner node above a mark, level by level from the lowest up.
+/// Joins again all inner nodes above a mark, level by level from the lowest.
 pub(crate) fn rejoin<R: Threads + Sync>(
     context: &Context<'_, R>,
     nodes: &mut [[u8; 32]],

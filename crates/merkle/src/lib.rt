@@ -1,4 +1,4 @@
-//! The tree of hashes over the rows: the hash of each leaf and of each node above, and the root.
+//! The hash tree over the rows: the hash of each leaf and inner node, and the root.
 #![tactic(auto)]
 
 mod alike;

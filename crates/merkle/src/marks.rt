@@ -1,4 +1,4 @@
-//! Marks of the places of a tree that are to be hashed again.
+//! Marks of a tree's places to be rehashed.
 ghost use Rattle.std.specs.Prelude.{◌≡◌, ◌<◌, ◌≤◌, ◌+◌, ◌∷◌, [], ℕ, IfSome, None, false};
 ghost use Rattle.std.specs.FinMap as map;
 ghost use Rattle.sha2.specs.Sha256.{sha256};
@@ -12,7 +12,7 @@ use pages::bits::{Bits, WORD_BITS};
 use rollback::{Dirty, PointedStore};
 use tpcc_rows::codes::LEAVES;
 
-/// A bit for each place in heap order: node i at i, leaf n at `LEAVES` + n.
+/// A bit for each place in heap order: for node i bit i, for leaf n bit `LEAVES` + n.
 const MARK_WORDS: usize = 2 * LEAVES / WORD_BITS;
 
 /// A set of places.
@@ -30,7 +30,7 @@ pub(crate) fn mark_dirty(marks: &mut Marks, dirty: &Dirty)
     }
 }
 
-/// Marks the leaf if its page has rows.
+/// Marks a leaf if its page has rows.
 fn mark_if_filled(marks: &mut Marks, page: &LeafRows, n: usize)
     requires { n < LEAVES }
     ensures kept { (i : ℕ) → has_bit marks.new.words i ≡ false → has_bit marks.old.words i ≡ false }
@@ -41,7 +41,7 @@ fn mark_if_filled(marks: &mut Marks, page: &LeafRows, n: usize)
     }
 }
 
-/// Marks the leaves that have rows.
+/// Marks the leaves with rows.
 pub(crate) fn mark_filled(marks: &mut Marks, store: &PointedStore)
     ensures { (n : ℕ) → n < LEAVES → has_bit marks.new.words (LEAVES + n) ≡ false → leaf_hash store.now.rows n ≡ sha256 (0 ∷ []) }
 {
@@ -50,7 +50,7 @@ pub(crate) fn mark_filled(marks: &mut Marks, store: &PointedStore)
     }
 }
 
-/// The first node from one on before `high` of which a child is marked.
+/// The first node from `from` to before `high` with a marked child.
 pub(crate) fn next_above(marks: &Marks, from: usize, high: usize) -> Option<usize>
     requires from { from ≤ LEAVES }
     requires high { high ≤ LEAVES }

@@ -1,26 +1,26 @@
-//! Places of a tree that have hashes: leaves, and inner nodes.
+//! Places of a tree that have hashes: leaves and inner nodes.
 ghost use Rattle.std.specs.Prelude.{◌≡◌, ◌≤◌, ◌∷◌, [], ℕ, List, All, length};
 ghost use Rattle.merkle.specs.Jobs.{IsDone, KeepsPlaces};
 
 use crate::jobs::{Job, give_hashes};
 
-/// How many places are measured together, and sorted by length: four neighbours take the time of the longest.
+/// Places sorted by size together, since four hashed at once take the time of the largest.
 const WINDOW: usize = 128;
 
 /// Places that can be hashed.
 pub(crate) trait Places {
-    // Which places it has.
+    // The places it has.
     ghost has: { Self → ℕ → Type 0 };
 
     // The hash of a place.
     ghost hash: { Self → ℕ → List ℕ };
 
-    /// Room for two of four texts that are hashed at once. The other two have theirs in another frame, so that no frame passes 64 KB.
+    /// Buffers for two of four texts that are hashed at once. The other two are in another frame, so that no frame exceeds 64 KB.
     type Room: Drop;
 
     fn room() -> Self::Room;
 
-    /// About how many bytes the text has. They are prefetched if they lie far apart.
+    /// Approximate size of the text, in bytes. Prefetches it if it is scattered.
     fn measure(&self, place: usize) -> usize
         requires { has self.now place };
 
@@ -55,7 +55,7 @@ fn measure<P: Places>(jobs: &mut [Job], places: &P)
     }
 }
 
-/// Puts the jobs in the order of their measures.
+/// Sorts the jobs by measure.
 pub(crate) fn sort_by_measure<P: Places>(jobs: &mut [Job], places: &P)
     requires { All (λ job. P.has places.now job.place) jobs.old }
     ensures places { KeepsPlaces jobs.old jobs.new }
@@ -65,7 +65,7 @@ pub(crate) fn sort_by_measure<P: Places>(jobs: &mut [Job], places: &P)
     jobs.sort_unstable_by_key(|job: &Job| -> usize { job.measure });
 }
 
-/// Does a few jobs one after the other.
+/// Hashes jobs one at a time.
 fn do_few<P: Places>(jobs: &mut [Job], places: &P)
     requires { All (λ job. P.has places.now job.place) jobs.old }
     ensures { IsDone (P.hash places.now) jobs.old jobs.new }
@@ -75,7 +75,7 @@ fn do_few<P: Places>(jobs: &mut [Job], places: &P)
     }
 }
 
-/// Does three or four jobs at once.
+/// Hashes three or four jobs at once.
 fn do_four<P: Places>(jobs: &mut [Job], places: &P, front: &mut P::Room, back: &mut P::Room)
     requires low { 3 ≤ length jobs.old }
     requires high { length jobs.old ≤ 4 }
@@ -88,7 +88,7 @@ fn do_four<P: Places>(jobs: &mut [Job], places: &P, front: &mut P::Room, back: &
     give_hashes(jobs, &hashes);
 }
 
-/// Does up to four jobs. Two cost less one after the other.
+/// Hashes up to four jobs, two of them one at a time, which is faster.
 fn do_group<P: Places>(jobs: &mut [Job], places: &P, front: &mut P::Room, back: &mut P::Room)
     requires few { length jobs.old ≤ 4 }
     requires there { All (λ job. P.has places.now job.place) jobs.old }
@@ -101,7 +101,7 @@ fn do_group<P: Places>(jobs: &mut [Job], places: &P, front: &mut P::Room, back: 
     }
 }
 
-/// Does jobs, each four neighbours at once.
+/// Hashes jobs, four neighbours at once.
 fn do_neighbours<P: Places>(jobs: &mut [Job], places: &P, front: &mut P::Room, back: &mut P::Room)
     requires { All (λ job. P.has places.now job.place) jobs.old }
     ensures { IsDone (P.hash places.now) jobs.old jobs.new }
@@ -113,7 +113,7 @@ fn do_neighbours<P: Places>(jobs: &mut [Job], places: &P, front: &mut P::Room, b
     }
 }
 
-/// Does the jobs of a window.
+/// Hashes the jobs of a window.
 fn do_window<P: Places>(jobs: &mut [Job], places: &P, front: &mut P::Room, back: &mut P::Room)
     requires { All (λ job. P.has places.now job.place) jobs.old }
     ensures { IsDone (P.hash places.now) jobs.old jobs.new }
@@ -122,7 +122,7 @@ fn do_window<P: Places>(jobs: &mut [Job], places: &P, front: &mut P::Room, back:
     do_neighbours(jobs, places, front, back);
 }
 
-/// Does jobs, window by window.
+/// Hashes jobs window by window.
 #[inline(never)]
 fn do_windows<P: Places>(jobs: &mut [Job], places: &P, front: &mut P::Room)
     requires { All (λ job. P.has places.now job.place) jobs.old }
@@ -136,7 +136,7 @@ fn do_windows<P: Places>(jobs: &mut [Job], places: &P, front: &mut P::Room)
     }
 }
 
-/// Does jobs. Its frame has a room, so it isn't inlined into a function that calls itself.
+/// Hashes jobs. Not inlined, since its frame has a room and callers recurse.
 #[inline(never)]
 pub(crate) fn do_jobs<P: Places>(jobs: &mut [Job], places: &P)
     requires { All (λ job. P.has places.now job.place) jobs.old }

@@ -1,4 +1,4 @@
-//! Jobs shared out to threads.
+//! Hashing on new threads.
 ghost use Rattle.std.specs.Prelude.{◌<◌, All};
 ghost use denote.Param.Send.{IsSync};
 ghost use Rattle.merkle.specs.Jobs.{IsDone};
@@ -13,13 +13,13 @@ use tpcc_rows::codes::LEAVES;
 /// What threads are started for.
 #[derive(Clone, Copy)]
 pub(crate) enum Task {
-    /// A whole tree, on threads that `rayon` starts.
+    /// Hashing a whole tree, on threads of `rayon`.
     Build,
-    /// What has changed, which takes no memory.
+    /// Rehashing what has changed, without allocating.
     Refresh,
 }
 
-/// What the places of a tree are hashed with.
+/// What hashing needs besides the places.
 #[derive(Clone, Copy)]
 pub(crate) struct Context<'a, R> {
     pub(crate) rt: &'a R,
@@ -28,10 +28,10 @@ pub(crate) struct Context<'a, R> {
     pub(crate) task: Task,
 }
 
-/// How many jobs a part has.
+/// Jobs per part.
 const PART: usize = 16;
 
-/// How many jobs each thread takes if so many threads pay: an even share, in whole parts.
+/// Jobs per thread, if `paying` threads pay: an even share, in whole parts.
 fn share(jobs: usize, paying: usize, threads: usize) -> usize
     ensures { 0 < result }
 {
@@ -39,7 +39,7 @@ fn share(jobs: usize, paying: usize, threads: usize) -> usize
     jobs.div_ceil(PART).div_ceil(useful).clamp(1, LEAVES) * PART
 }
 
-/// Does two parts of jobs, the first on a new thread, if one can be started.
+/// Hashes two parts of jobs, the first on a new thread, if one can be started.
 #[cycle(shares)]
 fn do_parts<R: Threads + Sync, P: Places + Sync>(
     rt: &R,
@@ -67,7 +67,8 @@ where
     join_mut(rt, &mut front, &mut back);
 }
 
-/// Does jobs, `size` on each thread. This one starts them all: threads that start each other are often given the same processor.
+/// Hashes jobs, `size` per thread. The calling thread starts all others, since threads that start each other often share a
+/// processor.
 #[cycle(shares)]
 fn do_shares<R: Threads + Sync, P: Places + Sync>(rt: &R, places: &P, size: usize, jobs: &mut [Job])
 where
@@ -84,7 +85,7 @@ where
     do_parts(rt, places, size, first, rest);
 }
 
-/// Does jobs, `size` on each thread that `rayon` starts.
+/// Hashes jobs, `size` per thread of `rayon`.
 fn do_chunks<R: Threads + Sync, P: Places + Sync>(rt: &R, places: &P, size: usize, jobs: &mut [Job])
 where
     P::Room: Send,
@@ -103,7 +104,7 @@ where
     );
 }
 
-/// Does jobs on as many threads as pay.
+/// Hashes jobs on as many threads as pay.
 pub(crate) fn do_jobs_on<R: Threads + Sync, P: Places + Sync>(
     context: &Context<'_, R>,
     jobs: &mut [Job],

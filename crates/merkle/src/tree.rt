@@ -1,4 +1,4 @@
-//! The tree.
+//! The hash tree.
 ghost use Rattle.std.specs.Prelude.{◌≡◌, ◌<◌, ◌≤◌, ◌+◌, ℕ, IfOk, cond, drop, vec_capacity};
 ghost use Rattle.pages.specs.BitSets.{has_bit};
 ghost use Rattle.merkle.specs.Nodes.{IsOf, IsOfClean, IsTree, at, rehashed};
@@ -22,7 +22,7 @@ use std::thread::{self, Threads};
 use tpcc_rows::codes::LEAVES;
 use tpcc_rows::memory::Memory;
 
-/// Hashes again each marked leaf, and each node above one.
+/// Rehashes the marked leaves and all nodes above them.
 fn refresh_nodes<R: Threads + Sync>(
     context: &Context<'_, R>,
     nodes: &mut [[u8; 32]],
@@ -43,12 +43,12 @@ fn refresh_nodes<R: Threads + Sync>(
     rejoin(context, nodes, marks, jobs, helped);
 }
 
-/// The hashes of all nodes in heap order: the root at 1, the children of the node at i at 2 i and 2 i + 1. Contracts see those of the
+/// The hashes of all nodes in heap order: the root at 1, the children of node i at 2 i and 2 i + 1. Contracts see those of the
 /// leaves.
 #[derive(Drop)]
 pub struct Tree {
     nodes: Vec<[u8; 32]>,
-    // With room for all leaves, so that a refresh takes no memory.
+    // With capacity for all leaves, so that a refresh doesn't allocate.
     jobs: Vec<Job>,
     helped: Helped,
     second_blocks: SecondBlocks,
@@ -67,14 +67,14 @@ impl Model for Tree {
 }
 
 impl Tree {
-    /// The root: that of the rows, if each leaf hash is theirs.
+    /// The root: that of the rows, if all leaf hashes are theirs.
     pub fn root(&self) -> [u8; 32]
         ensures { (rows : Rows) → IsOf self.now rows → result ≡ root rows }
     {
         self.nodes[1]
     }
 
-    /// The tree of the rows, built on all processors.
+    /// Builds the tree of the rows, on all processors.
     pub fn build<R: Threads + Sync>(
         rt: &R,
         alloc: Global,
@@ -110,7 +110,7 @@ impl Tree {
         })
     }
 
-    /// Starts threads that hash beside the calling one in later calls: at most `threads` with it, and no more than there are processors.
+    /// Starts helpers for later calls: with the calling thread at most `threads`, and at most one thread per processor.
     pub fn keep_threads<R: Host>(&mut self, rt: R, alloc: Global, threads: usize)
         ensures { self.new ≡ self.old }
     {
@@ -121,7 +121,7 @@ impl Tree {
         }
     }
 
-    /// Hashes again the dirty leaves and each node above one, on up to `threads` threads. It takes no memory.
+    /// Rehashes the dirty leaves and all nodes above them, on up to `threads` threads, without allocating.
     pub fn refresh<R: Threads + Sync>(
         &mut self,
         rt: &R,

@@ -5,7 +5,7 @@ use Rattle.merkle.proofs.helped.do_rounds.Goals as goal
 
 pub do_round-requires : goal.do_round-requires
 do_round-requires g c =
-    let value = g.P.Places.hash c.args.plan.now.places.now in
+    let value = g.P.Places.hash c.args.sharing.now.places.now in
     let s = c.loop-start.start in
     let len = c.min-len.result in
     let now = c.loop-start.jobs in
@@ -17,7 +17,7 @@ do_round-requires g c =
           c.requires.size,
           (
             as_long now c.loop-start.texts s len (omega (arith, c.min-len.ensures, before.inside)) (omega (arith, before.room, c.min-len.ensures)),
-            part_there (g.P.Places.has c.args.plan.now.places.now) value c.args.jobs.now now s (s + len - s) before.done c.requires.there,
+            part_there (g.P.Places.has c.args.sharing.now.places.now) value c.args.jobs.now now s (s + len - s) before.done c.requires.there,
           ),
         ),
       ),
@@ -25,7 +25,7 @@ do_round-requires g c =
 
 pub loop-start-preserved : goal.loop-start-preserved
 loop-start-preserved g c =
-    let value = g.P.Places.hash c.args.plan.now.places.now in
+    let value = g.P.Places.hash c.args.sharing.now.places.now in
     let s = c.loop-start.start in
     let e = s + c.min-len.result in
     let now = c.loop-start.jobs in
@@ -38,4 +38,4 @@ loop-start-preserved g c =
     }
 
 pub returns : goal.returns
-returns g c = all-done (g.P.Places.hash c.args.plan.now.places.now) c.loop-start.start c.args.jobs.now c.loop-start.jobs c.loop-start-test.false c.loop-start.invariant.done
+returns g c = all-done (g.P.Places.hash c.args.sharing.now.places.now) c.loop-start.start c.args.jobs.now c.loop-start.jobs c.loop-start-test.false c.loop-start.invariant.done

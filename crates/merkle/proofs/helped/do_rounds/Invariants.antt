@@ -7,7 +7,7 @@ abbrev pub invariant-loop-start : goal.invariant-loop-start
 invariant-loop-start g l = record {
   inside : l.start ≤ length l.jobs;
   room : ROUND ≤ length l.texts;
-  done : IsDoneTo (g.P.Places.hash l.plan.places.now) l.start l.fn.jobs l.jobs;
+  done : IsDoneTo (g.P.Places.hash l.sharing.places.now) l.start l.fn.jobs l.jobs;
 }
 
 abbrev pub decreases-loop-start : goal.decreases-loop-start

@@ -5,7 +5,7 @@ use Rattle.merkle.proofs.helped.finish.Goals as goal
 
 pub loop-start-preserved : goal.loop-start-preserved
 loop-start-preserved g c =
-    let value = g.P.Places.hash c.args.plan.now.places.now in
+    let value = g.P.Places.hash c.args.sharing.now.places.now in
     let s = c.loop-start.start in
     let e = s + c.min.result in
     let now = c.loop-start.jobs in
@@ -18,4 +18,4 @@ loop-start-preserved g c =
     }
 
 pub returns : goal.returns
-returns g c = all-done (g.P.Places.hash c.args.plan.now.places.now) c.loop-start.start c.args.jobs.now c.loop-start.jobs c.loop-start-test.false c.loop-start.invariant.done
+returns g c = all-done (g.P.Places.hash c.args.sharing.now.places.now) c.loop-start.start c.args.jobs.now c.loop-start.jobs c.loop-start-test.false c.loop-start.invariant.done

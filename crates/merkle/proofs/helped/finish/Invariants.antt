@@ -5,7 +5,7 @@ use Rattle.merkle.proofs.helped.finish.Given as goal
 abbrev pub invariant-loop-start : goal.invariant-loop-start
 invariant-loop-start g l = record {
   inside : l.start ≤ length l.jobs;
-  done : IsDoneTo (g.P.Places.hash l.plan.places.now) l.start l.fn.jobs l.jobs;
+  done : IsDoneTo (g.P.Places.hash l.sharing.places.now) l.start l.fn.jobs l.jobs;
   left : drop l.start l.jobs ≡ drop l.start l.fn.jobs;
 }
 
