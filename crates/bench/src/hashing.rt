@@ -1,4 +1,4 @@
-//! The tree of hashes against SHA-256 of the same bytes alone, and look-ups on pages against those in one map.
+//! The hash tree against plain SHA-256 of the same bytes, and look-ups on pages against those in one map.
 use crate::images::{Population, image, with_stocks};
 use crate::loading::made_image;
 use crate::timing::{print_ratio, print_share, since, start};
@@ -21,10 +21,10 @@ use tpcc_rows::plain;
 use tpcc_rows::row::fits;
 use tpcc_rows::row_buf::{ByteBuf, RowBuf};
 
-/// How often each time is taken; the least counts.
+/// Runs of each measurement, of which the fastest counts.
 const ROUNDS: u32 = 20;
 
-/// Appends the rows of a page, as they are hashed.
+/// Appends the hashed bytes of a page's rows.
 pub fn push_page(page: &LeafRows, bytes: &mut Vec<u8>) -> Result<(), AllocError> {
     let mut buffer = RowBuf::new();
     for (key, row) in page.as_slice() {
@@ -34,7 +34,7 @@ pub fn push_page(page: &LeafRows, bytes: &mut Vec<u8>) -> Result<(), AllocError>
     Ok(())
 }
 
-/// The bytes of all rows, leaf by leaf.
+/// The hashed bytes of all rows, leaf by leaf.
 fn encoded(alloc: Global, store: &PointedStore) -> Result<Vec<u8>, AllocError> {
     let mut bytes = Vec::new(alloc);
     for leaf in 0..LEAVES {
@@ -43,7 +43,7 @@ fn encoded(alloc: Global, store: &PointedStore) -> Result<Vec<u8>, AllocError> {
     Ok(bytes)
 }
 
-/// How many bytes suffice for the rows of a page.
+/// Enough bytes for the rows of a page.
 fn prefetch_rows(page: &LeafRows) -> usize {
     let mut bytes = 0usize;
     for (_, row) in page.as_slice() {
@@ -52,7 +52,7 @@ fn prefetch_rows(page: &LeafRows) -> usize {
     bytes
 }
 
-/// Encodes the rows of a page as the tree does, and counts their bytes.
+/// Encodes the rows of a page as the tree does, and returns their bytes.
 fn encode_page(page: &LeafRows) -> u64 {
     let mut waiting = ByteBuf::<4096>::new();
     let mut count = 0u64;
@@ -91,7 +91,7 @@ fn encode_all(store: &PointedStore) -> u64 {
     count
 }
 
-/// Encodes sixteen leaves over and over, as often as there are leaves: their rows are in the processor's cache.
+/// Encodes as many leaves as there are, the same sixteen over and over, so that their rows are cached.
 fn encode_in_cache(store: &PointedStore) -> u64 {
     let mut count = 0u64;
     for leaf in 0..LEAVES {
@@ -100,7 +100,7 @@ fn encode_in_cache(store: &PointedStore) -> u64 {
     count
 }
 
-/// The key of a stock, in an order without a pattern.
+/// The key of a stock, in scattered order.
 fn stock_key(turn: u32) -> Option<RowKey> {
     let warehouse = WarehouseId::new(1)?;
     let item = ItemId::new(turn.wrapping_mul(48_271) % 100_000 + 1)?;
@@ -166,7 +166,7 @@ fn measure_look_ups<R: Clock + Eprint + AllocGlobal>(rt: &R, store: &PointedStor
     (!differs).then_some(())
 }
 
-/// What each way took at the least.
+/// The fastest run of each way.
 #[derive(Clone, Copy)]
 struct Times {
     hashing: Duration,
@@ -226,7 +226,7 @@ impl Times {
     }
 }
 
-/// Measures the tree of rows that have these bytes.
+/// Measures the tree of a store, whose rows have these bytes.
 fn measure_on<R: Clock + Eprint + AllocGlobal + Threads + Sync>(
     rt: &R,
     what: &str,
@@ -255,7 +255,7 @@ fn measure_tree<R: Clock + Eprint + AllocGlobal + Threads + Sync>(
     measure_on(rt, what, store, &bytes)
 }
 
-/// The image of a warehouse of full scale whose customers' data are of the standard's length.
+/// The image of a warehouse of full scale, with C_DATA of the standard's length.
 pub fn full_scale(alloc: Global) -> Option<Vec<u8>> {
     let customers = image(alloc, 1, 3000, Population::Standard).ok()?;
     let made = made_image(alloc, 3000, 100_000)?;
@@ -274,9 +274,9 @@ fn measure_made<R: Clock + Eprint + AllocGlobal + Threads + Sync>(rt: &R) -> Opt
     measure_look_ups(rt, &store)
 }
 
-/// A warehouse of full scale, and the database of `make 1 3000 100000`, the one let go before the other is made: each the
-/// best of twenty, the look-ups of five. Encoding all rows waits for memory; so as many bytes of rows that are in the cache
-/// are encoded too. How much faster more processors are is seen by running it on one, two and four of them.
+/// Measures a warehouse of full scale, then the database of `make 1 3000 100000`: each the best of twenty, look-ups of five.
+/// Since encoding waits for memory, encoding cached rows is measured too. Run it on one, two and four processors to see what
+/// more of them bring.
 pub fn measure<R: Clock + Eprint + AllocGlobal + Threads + Sync>(rt: &R) -> Option<()> {
     measure_full_scale(rt)?;
     measure_made(rt)

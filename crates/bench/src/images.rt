@@ -1,17 +1,17 @@
 //! Images to measure with.
 use std::alloc::{AllocError, Global};
 
-/// What the customers of an image have as C_DATA.
+/// C_DATA of an image's customers.
 #[derive(Clone, Copy, Debug, PartialEq, Eq)]
 pub enum Population {
-    /// 300 to 500 characters each, as TPC-C clause 4.3.3.1 fills a database.
+    /// 300 to 500 characters, by TPC-C clause 4.3.3.1.
     Standard,
-    /// 500 characters for bad credit, which every tenth has, and none for good credit.
+    /// 500 characters for bad credit, none for good credit.
     Sparse,
 }
 
 impl Population {
-    /// How many characters of C_DATA a customer has.
+    /// Length of a customer's C_DATA.
     fn characters(self, customer: u16) -> u16 {
         match self {
             Population::Standard => 300 + customer.wrapping_mul(7) % 201,
@@ -65,7 +65,7 @@ fn push_warehouse(
     Ok(())
 }
 
-/// An image of so many warehouses, with so many customers in each district, every tenth of bad credit.
+/// An image of warehouses with `customers` customers a district, every tenth with bad credit.
 pub fn image(
     alloc: Global,
     warehouses: u8,
@@ -81,7 +81,7 @@ pub fn image(
     Ok(text)
 }
 
-/// Appends the records whose first letters are these. Tells how many there are.
+/// Appends the records of these kinds, and returns their number.
 fn push_records(text: &mut Vec<u8>, image: &[u8], letters: &[u8]) -> Result<u64, AllocError> {
     let mut count = 0u64;
     for line in image.split_inclusive(|byte| *byte == b'\n') {
@@ -93,7 +93,7 @@ fn push_records(text: &mut Vec<u8>, image: &[u8], letters: &[u8]) -> Result<u64,
     Ok(count)
 }
 
-/// The image with the items and the stocks of another one.
+/// An image with the items and stocks of another.
 pub fn with_stocks(alloc: Global, image: &[u8], other: &[u8]) -> Result<Vec<u8>, AllocError> {
     let mut text = b"eve-tpcc,2\n".to_vec(alloc)?;
     let front = push_records(&mut text, image, b"WDYXC")?;

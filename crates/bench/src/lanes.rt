@@ -1,4 +1,4 @@
-//! Four hashes at once against one hash after the other: the tree of a warehouse of full scale, and inner nodes alone.
+//! Four hashes at once against one at a time: the tree of a warehouse of full scale, and inner nodes alone.
 use crate::hashing::full_scale;
 use crate::timing::{print_ratio, since, start};
 use leaf_rows::LeafRows;
@@ -18,13 +18,13 @@ use tpcc_rows::row::{
     CustomerRow, DistrictNextRow, DistrictYtdRow, Row, StockRow, WarehouseRow, fits,
 };
 
-/// How often each time is taken; the least counts.
+/// Runs of each measurement, of which the fastest counts.
 const ROUNDS: u32 = 20;
 
-/// The bytes that a node is hashed of.
+/// Length of a node's text.
 const NODE_BYTES: usize = 65;
 
-/// A customer's row with a cent more.
+/// A customer's row with a balance one cent higher.
 fn paid(row: &CustomerRow) -> Option<Row> {
     let changed = CustomerRow {
         balance: row.balance.raised(1)?,
@@ -36,7 +36,7 @@ fn paid(row: &CustomerRow) -> Option<Row> {
     Some(Row::Customer(changed))
 }
 
-/// Another row than this one; None of a kind that a full warehouse hasn't before its first order.
+/// A different row; `None` for a kind that a warehouse has none of before its first order.
 fn changed(row: &Row) -> Option<Row> {
     match row {
         Row::Warehouse(row) => {
@@ -60,13 +60,13 @@ fn changed(row: &Row) -> Option<Row> {
     }
 }
 
-/// The key of the first row of a page, and another row for it.
+/// The key of a page's first row, and a different row for it.
 fn first_changed(page: &LeafRows) -> Option<(RowKey, Row)> {
     let (key, row) = page.as_slice().first()?;
     Some((*key, changed(row)?))
 }
 
-/// All leaves with a row. The first row of each becomes another one, so that all of its text is hashed, whatever is kept of it.
+/// All leaves with rows. The first row of each is changed, so that its whole text is hashed, whatever is cached.
 fn filled_leaves(alloc: Global, store: &mut PointedStore) -> Option<Dirty> {
     for leaf in 0..LEAVES {
         if let Some((key, row)) = first_changed(store.page(leaf)) {
@@ -78,7 +78,7 @@ fn filled_leaves(alloc: Global, store: &mut PointedStore) -> Option<Dirty> {
     Some(store.take_dirty())
 }
 
-/// Hashes the leaves of a set, and as many nodes as they are, one after the other.
+/// Hashes the leaves of a set and as many nodes, one at a time.
 fn hash_alone(store: &PointedStore, dirty: &Dirty) -> u64 {
     let mut last = [0u8; 32];
     let mut mixed = 0u64;
@@ -92,7 +92,7 @@ fn hash_alone(store: &PointedStore, dirty: &Dirty) -> u64 {
     mixed
 }
 
-/// Hashes as many messages of a node's length as a tree has nodes, one after the other.
+/// Hashes as many messages of a node's length as a tree has nodes, one at a time.
 fn join_alone() -> u64 {
     let mut last = [0u8; 32];
     for turn in 0..LEAVES {
@@ -101,7 +101,7 @@ fn join_alone() -> u64 {
     u64::from(last[0])
 }
 
-/// As many, four at once.
+/// Hashes as many, four at once.
 fn join_in_lanes(second_blocks: &SecondBlocks) -> u64 {
     let mut mixed = 0u64;
     for turn in 0..LEAVES / 4 {
@@ -120,7 +120,7 @@ fn join_in_lanes(second_blocks: &SecondBlocks) -> u64 {
     mixed
 }
 
-/// What each way took at the least.
+/// The fastest run of each way.
 #[derive(Clone, Copy)]
 struct Times {
     tree_alone: Duration,
@@ -181,7 +181,7 @@ impl Times {
     }
 }
 
-/// On one thread, each the best of twenty, of leaves of which each has changed since the time before.
+/// Measures on one thread, each the best of twenty, with all leaves changed before each run.
 pub fn measure<R: Clock + Eprint + AllocGlobal + Threads + Sync>(rt: &R) -> Option<()> {
     let text = full_scale(rt.alloc())?;
     let (_, mut store) = load(rt.alloc(), &mut BytesSource::new(&text, 65_536)).ok()?;

@@ -1,4 +1,4 @@
-//! Loading and storing an image against reading and writing the same records by `csv` alone.
+//! Loading and storing an image against reading and writing its records with `csv` alone.
 use crate::images::{Population, image};
 use crate::timing::{print_ratio, since, start};
 use csv::{ByteRecord, ReaderBuilder, WriterBuilder};
@@ -27,7 +27,7 @@ fn records_in(alloc: Global, text: &[u8]) -> Option<Vec<ByteRecord>> {
     Some(records)
 }
 
-/// How many fields the records of a text have.
+/// Number of fields in a text's records.
 fn fields_in(alloc: Global, text: &[u8]) -> u64 {
     let mut reader = ReaderBuilder::new()
         .has_headers(false)
@@ -44,7 +44,7 @@ fn fields_in(alloc: Global, text: &[u8]) -> u64 {
     count
 }
 
-/// Writes records by one writer.
+/// Writes records with one writer.
 fn write_records(alloc: Global, records: &[ByteRecord]) -> Option<Vec<u8>> {
     let mut writer = WriterBuilder::new()
         .flexible(true)
@@ -55,7 +55,7 @@ fn write_records(alloc: Global, records: &[ByteRecord]) -> Option<Vec<u8>> {
     writer.into_inner().ok()
 }
 
-/// Writes records, each by a writer of its own, and puts what they wrote together.
+/// Writes each record with a writer of its own, and joins the texts.
 fn write_apart(alloc: Global, records: &[ByteRecord]) -> Option<Vec<u8>> {
     let mut text = Vec::new(alloc);
     for record in records {
@@ -97,7 +97,7 @@ fn write_one_by_one(
     (written?.as_slice() == text).then_some(time)
 }
 
-/// The image of one warehouse with so many customers in each district and so many items; None where they are out of range.
+/// The image of a generated warehouse with `customers` customers a district; `None` if a number is out of range.
 pub fn made_image(alloc: Global, customers: u16, items: u32) -> Option<Vec<u8>> {
     if customers < 1 || 3000 < customers || items < 1 || 100_000 < items {
         return None;
@@ -144,7 +144,7 @@ fn measure_storing<R: Clock + Eprint + AllocGlobal>(
     Some(())
 }
 
-/// Four warehouses with 2,500 customers in each district.
+/// Four warehouses with 2,500 customers a district.
 fn measure_customers<R: Clock + Eprint + AllocGlobal>(
     rt: &R,
     what: &str,
@@ -164,7 +164,7 @@ fn measure_made<R: Clock + Eprint + AllocGlobal>(
     measure_loading(rt, what, &text)
 }
 
-/// Images with 100,000 customers, and the one of `make 1 3000 100000`, a third of it and a tenth: each the best of five.
+/// Loads images of 100,000 customers, and that of `make 1 3000 100000`, a third and a tenth of it: each the best of five.
 pub fn measure<R: Clock + Eprint + AllocGlobal>(rt: &R) -> Option<()> {
     let standard = "load of 100,000 customers as the standard fills them";
     measure_customers(rt, standard, Population::Standard)?;
@@ -175,7 +175,7 @@ pub fn measure<R: Clock + Eprint + AllocGlobal>(rt: &R) -> Option<()> {
     measure_made(rt, "load of make 1 3000 100000", 3000, 100_000)
 }
 
-/// Storing the image of `make 1 3000 100000`, the best of five.
+/// Stores the image of `make 1 3000 100000`: the best of five.
 pub fn measure_store<R: Clock + Eprint + AllocGlobal>(rt: &R) -> Option<()> {
     let text = made_image(rt.alloc(), 3000, 100_000)?;
     let records = records_in(rt.alloc(), &text)?;

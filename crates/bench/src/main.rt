@@ -1,7 +1,6 @@
-//! Measurements, as ratios within one run: in this folder, `rt run -- load` for loading images, `rt run -- store` for
-//! storing one, `rt run -- pay` for payments, `rt run -- mix` for all transactions, `rt run -- hash` for the tree of
-//! hashes, `rt run -- lanes` for four hashes at once, `rt run -- sign` for signatures. With no word on its command line it
-//! does nothing. Times go to standard error.
+//! Measurements, as ratios within one run. In this folder: `rt run -- load` for loading images, `store` for storing one,
+//! `pay` for payments, `mix` for all transactions, `hash` for the hash tree, `lanes` for four hashes at once, `sign` for
+//! signatures. Without a word it does nothing. Times go to standard error.
 #![tactic(auto)]
 
 mod hashing;
@@ -19,12 +18,12 @@ use std::env;
 use std::process::ExitCode;
 use std::rt::{Clock, Env};
 
-/// The first word of the command line behind the program's name, where there is one.
+/// The command line's first word after the program's name.
 fn asked<R: Env + AllocGlobal>(rt: &R) -> Option<String> {
     env::args(rt).ok()?.nth(1)
 }
 
-/// None where there is no such measurement, or it fails.
+/// Takes a measurement; `None` if it is unknown or fails.
 fn measure<R: Clock + Eprint + AllocGlobal + Host>(rt: &R, what: &str) -> Option<()> {
     match what {
         "hash" => hashing::measure(rt),

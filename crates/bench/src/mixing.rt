@@ -1,5 +1,5 @@
-//! TPC-C's mix of transactions on a warehouse of full scale, against SHA-256 of what its batches have hashed anew, and what each
-//! stage of the engine takes of the time.
+//! TPC-C's transaction mix on a warehouse of full scale, against SHA-256 of the bytes that its batches hash, and each stage's
+//! share of the time.
 use crate::hashing::{full_scale, push_page};
 use crate::loading::made_image;
 use crate::paying::whole;
@@ -22,13 +22,13 @@ use tpcc_rows::number::Moment;
 use transactions::execute;
 use worker_rows::Whole;
 
-/// How often the run is timed; the least counts.
+/// Runs, of which the fastest counts.
 const ROUNDS: u32 = 5;
 
-/// What is hashed of a node: its tag, and the hashes of its children.
+/// As many bytes as are hashed of a node.
 const NODE: [u8; 65] = [0; 65];
 
-/// What each stage took, and SHA-256 of the same bytes alone.
+/// The time of each stage, and of SHA-256 of the same bytes.
 #[derive(Clone, Copy)]
 struct Stages {
     reading: Duration,
@@ -67,7 +67,7 @@ impl Stages {
     }
 }
 
-/// How many nodes stand above the leaves of a set.
+/// Number of nodes above the leaves of a set.
 fn nodes_above(dirty: &Dirty) -> usize {
     let (mut count, mut width) = (0usize, 1usize);
     for _ in 0..16 {
@@ -84,7 +84,7 @@ fn nodes_above(dirty: &Dirty) -> usize {
     count
 }
 
-/// The rows of the leaves of a set, and as many bytes as are hashed of the nodes above them.
+/// The bytes of the rows of a set's leaves, and as many as are hashed of the nodes above.
 fn hashed_anew(alloc: Global, store: &PointedStore, dirty: &Dirty) -> Option<Vec<u8>> {
     let mut bytes = Vec::new(alloc);
     for leaf in 0..LEAVES {
@@ -98,7 +98,7 @@ fn hashed_anew(alloc: Global, store: &PointedStore, dirty: &Dirty) -> Option<Vec
     Some(bytes)
 }
 
-/// A database with its tree, the number of its next request, and what the stages took so far.
+/// A database, its tree, its next request's number, and the stages' times so far.
 #[derive(Drop)]
 struct Engine {
     catalog: Catalog,
@@ -136,7 +136,7 @@ impl Engine {
         self.stages.hashing = self.stages.hashing.saturating_add(since(rt, begin));
     }
 
-    /// Hashes the same bytes in one piece.
+    /// Hashes the same bytes as one message.
     fn hash_alone<R: Clock + AllocGlobal>(&mut self, rt: &R, dirty: &Dirty) -> Option<()> {
         let bytes = hashed_anew(rt.alloc(), &self.store, dirty)?;
         let begin = start(rt);
@@ -173,7 +173,7 @@ impl Engine {
         self.write(rt, &replies)
     }
 
-    /// Reads and serves all batches.
+    /// Reads and executes all batches.
     fn serve_all<R: Clock + AllocGlobal + Host>(
         &mut self,
         rt: &R,
@@ -192,7 +192,7 @@ impl Engine {
     }
 }
 
-/// What the stages take of batches on the database of an image.
+/// The stages' times for batches on an image's database.
 fn stages_of<R: Clock + AllocGlobal + Host>(rt: &R, image: &[u8], text: &[u8]) -> Option<Stages> {
     let (catalog, store) = load(rt.alloc(), &mut BytesSource::new(image, 65_536)).ok()?;
     let tree = Tree::build(rt, rt.alloc(), &store).ok()?;
@@ -209,7 +209,7 @@ fn stages_of<R: Clock + AllocGlobal + Host>(rt: &R, image: &[u8], text: &[u8]) -
     (0 < engine.mixed).then_some(engine.stages)
 }
 
-/// The least time from the bytes of an image and of batches to those of the replies, by one worker.
+/// The fastest run from the bytes of an image and of batches to those of the replies, with one worker.
 fn least_whole<R: Clock + AllocGlobal + Host>(
     rt: &R,
     image: &[u8],
@@ -244,8 +244,8 @@ fn measure_on<R: Clock + Eprint + AllocGlobal + Host>(
     Some(())
 }
 
-/// Batches of 1,000 requests from bytes to bytes, less what the same run takes with no batch, and the stages' shares: on the
-/// database of `make 1 3000 100000`, and on a warehouse whose customers' data are of the standard's length.
+/// Measures batches of 1,000 requests from bytes to bytes, less a run without batches, and the stages' shares: on the database
+/// of `make 1 3000 100000`, and on a warehouse of full scale with C_DATA of the standard's length.
 pub fn measure<R: Clock + Eprint + AllocGlobal + Host>(rt: &R) -> Option<()> {
     let text = batches(rt.alloc(), Kind::Mix, 3, 1000).ok()?;
     let made = made_image(rt.alloc(), 3000, 100_000)?;

@@ -1,4 +1,4 @@
-//! Payments from bytes to bytes against reading their batches and writing their replies alone.
+//! Payments from bytes to bytes, against only reading their batches and writing their replies.
 use crate::images::{Population, image};
 use crate::requests_text::{Kind, batches};
 use crate::timing::{print_ratio, since, start};
@@ -15,7 +15,7 @@ use tpcc_rows::id::{CustomerId, RequestNumber};
 use tpcc_rows::number::Cents;
 use workers::{NoGate, Workers};
 
-/// How many requests the batches of a text have.
+/// Number of requests in a text's batches.
 fn requests_in(alloc: Global, text: &[u8]) -> Option<u64> {
     let mut reader = BatchReader::new(alloc, text).ok()?;
     let mut count = 0u64;
@@ -37,7 +37,7 @@ fn payment_reply() -> Option<Reply> {
     }))
 }
 
-/// Writes a reply so many times.
+/// Writes a reply `count` times.
 fn write_replies(alloc: Global, count: u64, reply: &Reply) -> Option<Vec<u8>> {
     let mut text = Vec::new(alloc);
     for number in 1..count.saturating_add(1) {
@@ -54,7 +54,7 @@ fn ends_alone(rt: &(impl Clock + AllocGlobal), text: &[u8], reply: &Reply) -> Op
     written.then_some(time)
 }
 
-/// How long the engine takes from the bytes of an image and of batches to those of the replies, by one worker.
+/// The time from the bytes of an image and of batches to those of the replies, with one worker.
 pub fn whole<R: Clock + AllocGlobal + Host>(rt: &R, image: &[u8], text: &[u8]) -> Option<Duration> {
     let one = Workers::new(1)?;
     let mut image = Telling::new(BytesSource::new(image, 65_536));
@@ -93,7 +93,7 @@ fn measure_on<R: Clock + Eprint + AllocGlobal + Host>(
     Some(())
 }
 
-/// Payments through the engine, less what the same run takes with no batch, the best of five.
+/// Measures payments, less a run without batches: the best of five.
 pub fn measure<R: Clock + Eprint + AllocGlobal + Host>(rt: &R) -> Option<()> {
     let image = image(rt.alloc(), 1, 3000, Population::Standard).ok()?;
     let text = batches(rt.alloc(), Kind::Payments, 100, 1000).ok()?;

@@ -1,13 +1,12 @@
 //! Batches to measure with.
 use std::alloc::{AllocError, Global};
 
-/// What the requests of batches are.
+/// The requests of batches.
 #[derive(Clone, Copy, Debug, PartialEq, Eq)]
 pub enum Kind {
-    /// Payments by customers 1 to 3,000 of the districts of warehouse 1 in turn.
+    /// Payments by customers 1 to 3,000 of warehouse 1's districts in turn.
     Payments,
-    /// Of a hundred, 45 new orders, 43 payments of which 26 are by last name, and 4 of each other transaction (TPC-C
-    /// clause 5.2.3).
+    /// Of 100 requests 45 new orders, 43 payments (26 by last name), and 4 of each other transaction (TPC-C clause 5.2.3).
     Mix,
 }
 
@@ -34,7 +33,7 @@ fn push_mixed(text: &mut String, turn: u32) -> Result<(), AllocError> {
     }
 }
 
-/// The request of a turn.
+/// Appends the request of a turn.
 fn push_request(text: &mut String, kind: Kind, turn: u32) -> Result<(), AllocError> {
     match kind {
         Kind::Payments => {
@@ -45,7 +44,7 @@ fn push_request(text: &mut String, kind: Kind, turn: u32) -> Result<(), AllocErr
     }
 }
 
-/// So many batches of so many requests.
+/// `count` batches of `size` requests.
 pub fn batches(alloc: Global, kind: Kind, count: u16, size: u16) -> Result<String, AllocError> {
     let mut text = String::new(alloc);
     for turn in 0..u32::from(count) * u32::from(size) {

@@ -1,4 +1,4 @@
-//! Signatures in lanes against the same bits in words and in flags, and the cut of a batch against comparing all pairs of its
+//! Signatures in lanes against the same bits in words and in flags, and the cut of a batch against comparing all pairs of
 //! requests.
 use crate::timing::{print_ratio, since, start};
 use mixer::mix;
@@ -10,18 +10,18 @@ use tpcc_rows::footprint::Footprint;
 use tpcc_rows::granule::Granule;
 use tpcc_rows::id::{DistrictId, ItemId, WarehouseId};
 
-/// How many signatures a row has, and how many requests a batch.
+/// Signatures in a list, and requests in a batch.
 const COUNT: usize = 1_024;
 
-/// How many searches are timed together, and of how many sets, in turn.
+/// Searches timed together, for each of `ASKED` sets in turn.
 const SEARCHES: usize = 200;
 
 const ASKED: usize = 8;
 
-/// How often each time is taken; the least counts.
+/// Runs of each measurement, of which the fastest counts.
 const ROUNDS: u32 = 20;
 
-/// The stock of an item of the first warehouse, in an order without a pattern.
+/// A stock of the first warehouse, in scattered order.
 fn stock(turn: usize) -> Option<Granule> {
     let number = (turn.wrapping_mul(7_919) % 100_000) as u32 + 1;
     Some(Granule::Stock {
@@ -32,7 +32,7 @@ fn stock(turn: usize) -> Option<Granule> {
 
 // ---- one search
 
-/// Sets of bits in three forms.
+/// Sets of bits, in three forms.
 #[derive(Drop)]
 struct Sets {
     lanes: Vec<Signature>,
@@ -49,7 +49,7 @@ impl Sets {
         }
     }
 
-    /// The bits of these granules.
+    /// Appends the bits of these granules.
     fn push(&mut self, granules: &[Granule]) -> Option<()> {
         self.lanes.push(Signature::of(granules)).ok()?;
         self.words.push(words_of(granules)).ok()?;
@@ -110,7 +110,7 @@ fn highest_of_flags(row: &[[bool; 512]], other: &[bool; 512]) -> Option<usize> {
     None
 }
 
-/// So many sets of ten stocks each. Their bits are below 480, or all from there on.
+/// `count` sets of ten stocks each, whose bits are all below 480, or none.
 fn sets_of(alloc: Global, count: usize, is_low: bool) -> Option<Sets> {
     let mut sets = Sets::new(alloc);
     let mut granules = Vec::new(alloc);
@@ -130,7 +130,7 @@ fn sets_of(alloc: Global, count: usize, is_low: bool) -> Option<Sets> {
     Some(sets)
 }
 
-/// What each form took at the least, and how many searches found a place.
+/// The fastest run of each form, and how many searches succeeded.
 #[derive(Clone, Copy)]
 struct Searches {
     lanes: Duration,
@@ -188,7 +188,7 @@ impl Searches {
     }
 }
 
-/// Searches that go through the whole row, since nothing meets.
+/// Measures searches through a whole list, in which nothing meets.
 fn measure_searches<R: Clock + Eprint + AllocGlobal>(rt: &R) -> Option<()> {
     let row = sets_of(rt.alloc(), COUNT, true)?;
     let asked = sets_of(rt.alloc(), ASKED, false)?;
@@ -204,14 +204,14 @@ fn measure_searches<R: Clock + Eprint + AllocGlobal>(rt: &R) -> Option<()> {
 
 // ---- the cut of a batch
 
-/// What the requests of a batch touch.
+/// The footprints of a batch's requests.
 #[derive(Clone, Copy)]
 enum Requests {
-    /// New orders of ten lines in the ten districts of a warehouse in turn.
+    /// New orders of ten lines in a warehouse's ten districts in turn.
     NewOrders,
-    /// So many stocks in turn, one each, which it writes.
+    /// Each writes one of this many stocks in turn.
     InTurn(usize),
-    /// So many write the same stock; the others read another one, which none writes.
+    /// The first this many write one stock; the others read another, which none writes.
     Behind(usize),
 }
 
@@ -255,7 +255,7 @@ fn declare(alloc: Global, footprints: &mut Vec<Footprint>, requests: Requests) -
     Some(())
 }
 
-/// The signatures of what a request reads, and of what it writes.
+/// The signatures of a request's reads and writes.
 #[derive(Drop)]
 struct Signed {
     reads: Signature,
@@ -275,7 +275,7 @@ impl Signed {
     }
 }
 
-/// One more than the greatest level of the earlier requests that a request meets.
+/// One more than the greatest level of the earlier requests it meets.
 fn level_behind(earlier: &[Signed], levels: &[usize], own: &Signed) -> usize {
     let mut level = 0usize;
     for (other, below) in earlier.iter().zip(levels) {
@@ -286,7 +286,7 @@ fn level_behind(earlier: &[Signed], levels: &[usize], own: &Signed) -> usize {
     level
 }
 
-/// How many levels there are, by comparing each request with all earlier ones.
+/// Number of levels, by comparing each request with all earlier ones.
 fn depth_by_pairs(alloc: Global, footprints: &[Footprint]) -> Option<usize> {
     let mut earlier = Vec::with_capacity(alloc, footprints.len()).ok()?;
     let mut levels = Vec::with_capacity(alloc, footprints.len()).ok()?;
@@ -308,7 +308,7 @@ fn depth_by_mix(alloc: Global, footprints: &[Footprint]) -> Option<usize> {
     Some(mix(alloc, footprints).ok()?.depth())
 }
 
-/// Prints what both take; None where they differ.
+/// Prints both times; `None` if the results differ.
 fn compare<R: Clock + Eprint + AllocGlobal>(
     rt: &R,
     what: &str,
@@ -339,7 +339,7 @@ fn measure_cut<R: Clock + Eprint + AllocGlobal>(
     compare(rt, what, &footprints)
 }
 
-/// Searches that find nothing, and cuts of 1,024 requests, of few levels and of many: each the best of twenty.
+/// Measures failing searches, and cuts of 1,024 requests into few levels and into many: each the best of twenty.
 pub fn measure<R: Clock + Eprint + AllocGlobal>(rt: &R) -> Option<()> {
     measure_searches(rt)?;
     measure_cut(rt, "1,024 new orders of ten lines", Requests::NewOrders)?;

@@ -1,13 +1,13 @@
-//! Times, and what is printed of two of them.
+//! Times and their ratios.
 use std::rt::Clock;
 use std::time::{Duration, Instant};
 
-/// When something begins; None where the clock fails.
+/// The time now; `None` if the clock fails.
 pub fn start(rt: &impl Clock) -> Option<Instant> {
     Instant::now(rt).ok()
 }
 
-/// How long ago something began, the longest time where the clock fails.
+/// The time since then, or `Duration::MAX` if the clock fails.
 pub fn since(rt: &impl Clock, start: Option<Instant>) -> Duration {
     match start {
         Some(start) => start.elapsed(rt).unwrap_or(Duration::MAX),
@@ -15,7 +15,7 @@ pub fn since(rt: &impl Clock, start: Option<Instant>) -> Duration {
     }
 }
 
-/// Prints what something took, and how often as long that is as something else took.
+/// Prints a time and its ratio to another.
 pub fn print_ratio(rt: &impl Eprint, what: &str, time: Duration, against: &str, other: Duration) {
     let (time, other) = (time.as_micros(), other.as_micros().max(1));
     let hundredths = time.saturating_mul(100) / other;
@@ -23,7 +23,7 @@ pub fn print_ratio(rt: &impl Eprint, what: &str, time: Duration, against: &str, 
     let _ = eprintln!(rt; "{what}: {time} us, {whole}.{part:02} times {against} ({other} us)");
 }
 
-/// Prints what something took, and how much of a whole that is.
+/// Prints a time and its percentage of another.
 pub fn print_share(rt: &impl Eprint, what: &str, time: Duration, whole: Duration) {
     let (time, whole) = (time.as_micros(), whole.as_micros().max(1));
     let per_mille = time.saturating_mul(1000) / whole;

@@ -1,6 +1,6 @@
-//! Batches that look random: what is declared and how it is cut, against the second computation.
-use crate::books::Books;
+//! Pseudo-random batches: footprints and levels against the second computation.
 use crate::database::{Scene, scene_of};
+use crate::declarations::Declarations;
 use crate::drawn::{Dice, random_requests};
 use crate::granules::{Touch, touch_of};
 use crate::levels::{places_of, second_levels};
@@ -10,14 +10,14 @@ use std::alloc::Global;
 use std::thread::Threads;
 use tpcc_rows::footprint::Footprint;
 
-/// How many batches are compared.
+/// Number of batches compared.
 const BATCHES: u32 = 64;
 
-/// What each request declares by the second computation.
-fn touches(alloc: Global, books: &Books<'_>, requests: &str) -> Option<Vec<Touch>> {
+/// What each request declares, by the second computation.
+fn touches(alloc: Global, declarations: &Declarations<'_>, requests: &str) -> Option<Vec<Touch>> {
     let mut touches = Vec::new(alloc);
     for (place, line) in requests.lines().enumerate() {
-        let touch = books.declared(alloc, requests, place, line)?;
+        let touch = declarations.declared(alloc, requests, place, line)?;
         touches.push(touch).ok()?;
     }
     Some(touches)
@@ -36,7 +36,7 @@ fn are_declared(alloc: Global, touches: &[Touch], footprints: &[Footprint]) -> O
     Some(all)
 }
 
-/// Whether the levels of a cut have these places, and no place is missing.
+/// Whether a cut has these levels, and all places.
 fn is_cut(alloc: Global, cut: &Cut, levels: &[usize]) -> Option<bool> {
     let mut all = true;
     let mut count = 0usize;
@@ -49,16 +49,16 @@ fn is_cut(alloc: Global, cut: &Cut, levels: &[usize]) -> Option<bool> {
 }
 
 fn agree_on(alloc: Global, scene: &Scene, requests: &str) -> Option<bool> {
-    let books = Books {
+    let declarations = Declarations {
         warehouses: 2,
         store: &scene.database.store,
     };
-    let touches = touches(alloc, &books, requests)?;
+    let touches = touches(alloc, &declarations, requests)?;
     let levels = second_levels(alloc, &touches)?;
     Some(are_declared(alloc, &touches, &scene.footprints)? && is_cut(alloc, &scene.cut, &levels)?)
 }
 
-/// Whether the computations agree on thirty requests after forty others.
+/// Whether the computations agree on 30 requests after 40 others.
 fn agree<R: Threads + Sync>(rt: &R, alloc: Global, seed: u64) -> Option<bool> {
     let mut dice = Dice { state: seed };
     let earlier = random_requests(alloc, &mut dice, 40)?;

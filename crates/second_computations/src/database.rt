@@ -1,4 +1,4 @@
-//! Made databases, and what batches do to them.
+//! Generated databases, and what batches do to them.
 use catalog::Catalog;
 use leaf_rows::LeafRows;
 use made_database::make;
@@ -21,7 +21,7 @@ use tpcc_rows::row_buf::RowBuf;
 use transactions::execute;
 use worker_rows::Whole;
 
-/// The batch of these requests, each of them a record on a line of its own.
+/// The batch of these requests, a record a line.
 fn batch_of(alloc: Global, requests: &str) -> Option<Batch> {
     let count = requests.lines().count();
     let text = format!(in alloc; "B,0,commit,{count}\n{requests}").ok()?;
@@ -38,24 +38,24 @@ fn push_page(page: &LeafRows, hasher: &mut Sha256) {
     }
 }
 
-/// A database.
+/// A database under execution.
 #[derive(Drop)]
 pub struct Database {
     pub catalog: Catalog,
     pub store: PointedStore,
-    /// The number of the first request of the next batch.
+    /// Number of the next batch's first request.
     next: u64,
-    /// The digest of each reply, which begins with its request's number.
+    /// Digest of each reply, with its request's number in front.
     replies: Vec<[u8; 32]>,
 }
 
 impl Database {
-    /// The number of the request of a place of the next batch.
+    /// The number of the request at a place of the next batch.
     pub fn number(&self, place: usize) -> Option<RequestNumber> {
         RequestNumber::new(self.next.saturating_add(place as u64))
     }
 
-    /// What the request of a place does on all rows.
+    /// What the request at a place does on all rows.
     pub fn step(&self, alloc: Global, batch: &Batch, place: usize) -> Option<(Reply, Delta)> {
         let request = batch.requests.as_slice().get(place)?;
         let number = self.number(place)?;
@@ -63,7 +63,7 @@ impl Database {
         execute(alloc, &self.catalog, request, number, batch.moment, &view).ok()
     }
 
-    /// The changes of the request of a place, whose reply is noted.
+    /// The changes of the request at a place, whose reply is recorded.
     fn noted_step(&mut self, alloc: Global, batch: &Batch, place: usize) -> Option<Delta> {
         let (reply, delta) = self.step(alloc, batch, place)?;
         let mut text = Vec::new(alloc);
@@ -79,7 +79,7 @@ impl Database {
         Some(())
     }
 
-    /// Executes each of these requests on the rows as they are; then all changes are made.
+    /// Executes each of these requests on the present rows, then applies all changes.
     pub fn execute(&mut self, alloc: Global, batch: &Batch, places: &[usize]) -> Option<()> {
         let mut deltas = Vec::new(alloc);
         for place in places {
@@ -88,7 +88,7 @@ impl Database {
         self.apply(deltas)
     }
 
-    /// Executes a batch, one request after the other.
+    /// Executes a batch in order.
     pub fn execute_all(&mut self, alloc: Global, batch: &Batch) -> Option<()> {
         for place in 0..batch.requests.len() {
             self.execute(alloc, batch, &[place])?;
@@ -96,7 +96,7 @@ impl Database {
         Some(())
     }
 
-    /// The digest of all rows and replies.
+    /// Digest of all rows and replies.
     pub fn digest(&mut self) -> [u8; 32] {
         let mut hasher = Sha256::new();
         for leaf in 0..LEAVES {
@@ -109,7 +109,7 @@ impl Database {
         hasher.finalize()
     }
 
-    /// What each of these requests declares as a batch of its own.
+    /// What each of these requests declares in a batch of its own.
     fn declare<R: Threads + Sync>(
         &self,
         rt: &R,
@@ -130,7 +130,7 @@ impl Database {
     }
 }
 
-/// The made database of so many warehouses, 45 customers in each district, and 100 items, after these requests.
+/// The generated database of this many warehouses, 45 customers a district and 100 items, after these requests.
 fn after(alloc: Global, warehouses: u8, earlier: &str) -> Option<Database> {
     if warehouses < 1 || 100 < warehouses {
         return None;
@@ -148,7 +148,7 @@ fn after(alloc: Global, warehouses: u8, earlier: &str) -> Option<Database> {
     Some(database)
 }
 
-/// A database, a batch, what each of its requests is declared to touch, and the cut of the batch.
+/// A database, a batch, its requests' footprints and its cut.
 #[derive(Drop)]
 pub struct Scene {
     pub database: Database,
@@ -157,7 +157,7 @@ pub struct Scene {
     pub cut: Cut,
 }
 
-/// A batch of requests to a made database of so many warehouses after the earlier requests.
+/// A batch on a generated database of this many warehouses, after earlier requests.
 pub fn scene_of<R: Threads + Sync>(
     rt: &R,
     alloc: Global,

@@ -1,4 +1,4 @@
-//! Lines of columns that look random, the same in each run.
+//! Pseudo-random lines of columns, the same in each run.
 use crate::columns::{signed, word};
 use std::alloc::Global;
 
@@ -9,7 +9,7 @@ pub struct Dice {
 }
 
 impl Dice {
-    /// A number from 0 on, below this one.
+    /// A number below this one.
     pub fn below(&mut self, end: u32) -> u32 {
         self.state = self.state.wrapping_add(0x9E37_79B9_7F4A_7C15);
         let mixed = (self.state ^ (self.state >> 30)).wrapping_mul(0xBF58_476D_1CE4_E5B9);
@@ -18,9 +18,9 @@ impl Dice {
     }
 }
 
-/// For each letter of a template the numbers that it stands for, so many from the first on; once in so many draws, where that is
-/// given, it stands for the number behind them. Of requests to two warehouses: a warehouse, district, customer, item, supplier,
-/// quantity; a customer who may be no one, the number of a name, which may be no one's; an amount, a carrier, a threshold.
+/// Ranges of a template's letters: the first number, how many there are, and (unless 0) once in how many draws the number
+/// after them is drawn. For requests to two warehouses: warehouse, district, customer, item, supplier and quantity; a
+/// customer and the number of a last name, each perhaps nobody's; amount, carrier and threshold.
 const OF_REQUESTS: &str = "\
 w,1,2,40
 d,1,10
@@ -35,7 +35,7 @@ r,1,10
 t,10,11
 ";
 
-/// Of rows: a warehouse, district, number, line; money, a moment, a count, a carrier or none, yes or no; the digits of a text.
+/// For rows: warehouse, district, number and line; money, date, count, carrier or none, and flag; digits of a text.
 const OF_ROWS: &str = "\
 w,1,100
 d,1,10
@@ -49,7 +49,7 @@ b,0,2
 x,0,2000000000
 ";
 
-/// Half of the requests are orders, of five to seven lines; a fifth are payments, and a tenth each of the other kinds.
+/// Half of the requests are new orders of five to seven lines, a fifth payments, and a tenth each of the others.
 const REQUESTS: &str = "\
 N,w,d,c,i,s,q,i,s,q,i,s,q,i,s,q,i,s,q
 N,w,d,c,i,s,q,i,s,q,i,s,q,i,s,q,i,s,q
@@ -73,7 +73,7 @@ S,w,d,t
 S,w,d,t
 ";
 
-/// Rows of every kind, with texts of up to 21 digits and spaces.
+/// Rows of each kind, with texts of up to 21 digits and spaces.
 const ROWS: &str = "\
 1,w,m
 3,w,d,n,m,m,c,c,
@@ -107,7 +107,7 @@ fn draw(dice: &mut Dice, range: &str) -> i64 {
     first.saturating_add(i64::from(more))
 }
 
-/// Appends a line after a template, with a number for each letter of a range.
+/// Appends a line by a template: each letter that has a range becomes a number.
 fn push_line(dice: &mut Dice, ranges: &str, template: &str, text: &mut String) -> Option<()> {
     for letter in template.chars() {
         match range_of(ranges, letter) {
@@ -121,7 +121,7 @@ fn push_line(dice: &mut Dice, ranges: &str, template: &str, text: &mut String) -
     text.push_str("\n").ok()
 }
 
-/// So many lines after templates that are drawn.
+/// Lines by templates drawn at random.
 fn lines_after(
     alloc: Global,
     dice: &mut Dice,
@@ -138,12 +138,12 @@ fn lines_after(
     Some(text)
 }
 
-/// Requests of all five kinds to two warehouses; some of them name what isn't there.
+/// Requests of all five kinds to two warehouses, some naming unknown keys.
 pub fn random_requests(alloc: Global, dice: &mut Dice, count: u32) -> Option<String> {
     lines_after(alloc, dice, OF_REQUESTS, REQUESTS, count)
 }
 
-/// Rows of every kind.
+/// Rows of each kind.
 pub fn random_rows(alloc: Global, dice: &mut Dice, count: u32) -> Option<String> {
     lines_after(alloc, dice, OF_ROWS, ROWS, count)
 }

@@ -1,9 +1,9 @@
-//! The bytes of rows, as they are written down, from their lines.
+//! The bytes of rows, by the documented format, from their lines.
 use crate::columns::{byte, column, long, signed};
 use std::alloc::Global;
 
-/// Of each kind of rows, from its number: by which number the code of the columns before is multiplied, for each column of the key;
-/// how many bytes each column of the body takes; how many the length of the text behind it takes, 0 where there is no text.
+/// By a row kind's number: for each column of the key, what the code so far is multiplied by; the bytes of each column of the
+/// body; the bytes of the length of the text after them, 0 without a text.
 const LAYOUTS: &str = "\
 1,1,8,0
 3,1 16 4096,8 8 4 4,2
@@ -38,7 +38,7 @@ pub fn code(line: &str) -> u64 {
     (u64::from(byte(line, 0)) << 56) | rest
 }
 
-/// Appends the last bytes of a number, the highest first.
+/// Appends the low bytes of a number, big-endian.
 fn push_number(number: i64, bytes: usize, out: &mut Vec<u8>) -> Option<()> {
     let all = number.to_be_bytes();
     let last = all.as_slice().get(8usize.saturating_sub(bytes)..)?;
@@ -60,7 +60,7 @@ fn push_body(line: &str, layout: &str, out: &mut Vec<u8>) -> Option<()> {
     out.extend_from_slice(text).ok()
 }
 
-/// The code of a row's key, and the bytes of its body.
+/// The code of a row's key and the bytes of its body.
 pub type Entry = (u64, Vec<u8>);
 
 fn entry_of(alloc: Global, line: &str) -> Option<Entry> {
@@ -69,7 +69,7 @@ fn entry_of(alloc: Global, line: &str) -> Option<Entry> {
     Some((code(line), body))
 }
 
-/// The rows in rising code.
+/// The rows by ascending code.
 pub fn entries(alloc: Global, lines: &[&str]) -> Option<Vec<Entry>> {
     let mut entries = Vec::new(alloc);
     for line in lines {

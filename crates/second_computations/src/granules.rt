@@ -1,10 +1,9 @@
-//! What requests touch, as the format packs granules.
+//! What requests touch, as packed granules.
 use std::alloc::Global;
 use tpcc_rows::footprint::Footprint;
 use tpcc_rows::granule::Granule;
 
-/// A granule as the format packs it: the number of its kind, its warehouse, its district and its own number, 0 where the
-/// kind has none, in 16, 16, 8 and 24 bits.
+/// A packed granule: kind, warehouse, district and number (0 if the kind has none), in 16, 16, 8 and 24 bits.
 pub type Packed = u64;
 
 pub const WAREHOUSE: u64 = 1;
@@ -52,7 +51,7 @@ fn pack(granule: &Granule) -> Packed {
     }
 }
 
-/// What a request reads, and what it writes of it.
+/// What a request reads, and what it writes.
 #[derive(Drop)]
 pub struct Touch {
     pub reads: Vec<Packed>,
@@ -76,7 +75,7 @@ impl Touch {
         self.reads.push(granule).ok()
     }
 
-    /// Puts the granules in rising order, each once.
+    /// Sorts the granules and drops duplicates.
     pub fn sort(&mut self) {
         self.reads.sort_unstable();
         self.reads.dedup();
@@ -92,7 +91,7 @@ fn push_packed(granules: &[Granule], all: &mut Vec<Packed>) -> Option<()> {
     Some(())
 }
 
-/// What a footprint reads and writes, in order.
+/// What a footprint reads and writes, sorted.
 pub fn touch_of(alloc: Global, footprint: &Footprint) -> Option<Touch> {
     let mut touch = Touch::new(alloc);
     push_packed(footprint.reads(), &mut touch.reads)?;
@@ -101,7 +100,7 @@ pub fn touch_of(alloc: Global, footprint: &Footprint) -> Option<Touch> {
     Some(touch)
 }
 
-/// Prints each granule behind the letter of its kind, as in ` C1.2.3 S1.0.4`.
+/// Prints each granule after its kind's letter: ` C1.2.3 S1.0.4`.
 pub fn print_granules(rt: &impl Print, granules: &[Packed]) {
     for granule in granules {
         let letter = match granule >> 48 {

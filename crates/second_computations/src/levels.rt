@@ -6,7 +6,7 @@ fn bit(granule: Packed) -> usize {
     (granule.wrapping_mul(11_400_714_819_323_198_485) >> 55) as usize
 }
 
-/// The highest of the granules' floors.
+/// The greatest of the granules' floors.
 fn highest(floors: &[usize], granules: &[Packed]) -> usize {
     let mut highest = 0usize;
     for granule in granules {
@@ -17,7 +17,7 @@ fn highest(floors: &[usize], granules: &[Packed]) -> usize {
     highest
 }
 
-/// Raises the granules' floors to this one.
+/// Raises the granules' floors to this level.
 fn raise(floors: &mut [usize], granules: &[Packed], to: usize) {
     for granule in granules {
         if let Some(floor) = floors.get_mut(bit(*granule)) {
@@ -26,8 +26,8 @@ fn raise(floors: &mut [usize], granules: &[Packed], to: usize) {
     }
 }
 
-/// The level of each request of a batch: one more than the highest level of an earlier request that writes a bit which this one
-/// reads, or reads one which this one writes. The floors are the least levels of requests that may write a bit, and that may read it.
+/// The level of each request of a batch: one more than the greatest level of an earlier request that writes a bit this one
+/// reads, or reads a bit this one writes. A bit's floors are the least levels at which a request may write it and read it.
 pub fn second_levels(alloc: Global, touches: &[Touch]) -> Option<Vec<usize>> {
     let mut levels = Vec::new(alloc);
     let mut to_write = vec![in alloc; 0usize; 512].ok()?;
@@ -41,7 +41,7 @@ pub fn second_levels(alloc: Global, touches: &[Touch]) -> Option<Vec<usize>> {
     Some(levels)
 }
 
-/// The places whose level is this, in rising order.
+/// The places of this level, ascending.
 pub fn places_of(alloc: Global, levels: &[usize], wanted: usize) -> Option<Vec<usize>> {
     let mut places = Vec::new(alloc);
     for (place, level) in levels.iter().enumerate() {

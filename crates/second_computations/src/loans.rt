@@ -1,4 +1,4 @@
-//! Requests on loans: of what they are declared to touch, and of less.
+//! Requests on loans of their footprint, and of less.
 use crate::database::Scene;
 use requests::reply::Reply;
 use requests::write_reply;
@@ -23,7 +23,7 @@ fn push_changes(delta: &Delta, bytes: &mut Vec<u8>) -> Option<()> {
     Some(())
 }
 
-/// The footprint without one of its granules, or where that is read alone.
+/// The footprint without one of its granules, or with that one only read.
 fn lessened(
     alloc: Global,
     footprint: &Footprint,
@@ -41,7 +41,7 @@ fn lessened(
     Some(less)
 }
 
-/// What the first request of a batch does on a loan of a footprint.
+/// What a batch's first request does on a loan of a footprint.
 fn on_loan(
     alloc: Global,
     scene: &Scene,
@@ -68,7 +68,7 @@ fn on_loan(
     ))
 }
 
-/// The record of a reply to the first request, and behind it the bytes of the changed rows.
+/// The record of a reply to the first request, then the bytes of the changed rows.
 fn outcome(alloc: Global, scene: &Scene, reply: &Reply, delta: &Delta) -> Option<Vec<u8>> {
     let mut bytes = Vec::new(alloc);
     write_reply(alloc, scene.database.number(0)?, reply, &mut bytes).ok()?;
@@ -76,7 +76,7 @@ fn outcome(alloc: Global, scene: &Scene, reply: &Reply, delta: &Delta) -> Option
     Some(bytes)
 }
 
-/// Whether on a loan of what it declares a request does what it does on all rows.
+/// Whether a request on a loan of its footprint does what it does on all rows.
 fn suffices(alloc: Global, scene: &Scene, footprint: &Footprint) -> Option<bool> {
     let (reply, delta) = on_loan(alloc, scene, footprint)?.ok()?;
     let (all_reply, all_delta) = scene.database.step(alloc, &scene.batch, 0)?;
@@ -84,7 +84,7 @@ fn suffices(alloc: Global, scene: &Scene, footprint: &Footprint) -> Option<bool>
     Some(outcome(alloc, scene, &reply, &delta)? == wanted)
 }
 
-/// How many of these granules a request does without, or does with where they are read alone.
+/// How many of these granules a request doesn't need, or only needs to read.
 fn needless(
     alloc: Global,
     scene: &Scene,
@@ -101,7 +101,7 @@ fn needless(
     Some(count)
 }
 
-/// Shows the first request of a batch on loans.
+/// Prints what a batch's first request does on loans.
 pub fn show(rt: &impl Print, alloc: Global, scene: &Scene) -> Option<()> {
     let footprint = scene.footprints.first()?;
     let enough = suffices(alloc, scene, footprint)?;

@@ -1,11 +1,11 @@
-//! Roots, tokens, footprints and levels, each against a second, plain computation, and what comes of requests on what they
-//! declared. Where memory is refused the rest of a part is left out, and the status is 1.
+//! Roots, tokens, footprints and levels against a second, plain computation, and requests on loans of their footprints. If an
+//! allocation fails, the rest of a part is left out and the status is 1.
 #![tactic(auto)]
 
-mod books;
 mod columns;
 mod compared;
 mod database;
+mod declarations;
 mod drawn;
 mod format;
 mod granules;

@@ -1,4 +1,4 @@
-//! Batches that are executed level by level, the requests of a level in other orders than that of the batch.
+//! Batches executed level by level, each level's requests in other orders than the batch's.
 use crate::database::{Scene, scene_of};
 use crate::drawn::{Dice, random_requests};
 use std::alloc::Global;
@@ -7,20 +7,20 @@ use std::thread::Threads;
 /// How a batch is executed.
 #[derive(Clone, Copy)]
 pub enum Way {
-    /// One request after the other, without levels.
+    /// In batch order, without levels.
     InBatch,
-    /// Level by level, the requests of each one after the other.
+    /// Level by level, each in batch order.
     InTurn,
-    /// Level by level, of each the last one first.
+    /// Level by level, each backwards.
     Turned,
-    /// Level by level, of each all on the rows at its start; then all changes are made.
+    /// Level by level, each on the rows at its start; its changes are applied at its end.
     Together,
 }
 
 const LEVEL_WAYS: [Way; 3] = [Way::InTurn, Way::Turned, Way::Together];
 
 impl Scene {
-    /// The places of a level the touch of whose requests is now not within what they declared.
+    /// The places of a level whose requests now stray.
     fn straying<R: Threads + Sync>(
         &self,
         rt: &R,
@@ -56,7 +56,7 @@ impl Scene {
         Some(())
     }
 
-    /// Executes the batch, until the first level some of whose places stray; the answer is these places.
+    /// Executes the batch up to the first level with strays, and returns these.
     pub fn execute<R: Threads + Sync>(
         &mut self,
         rt: &R,
@@ -78,7 +78,7 @@ impl Scene {
     }
 }
 
-/// Eight requests that look random, after twenty others.
+/// Eight pseudo-random requests, after twenty others.
 fn random_scene<R: Threads + Sync>(rt: &R, alloc: Global, seed: u64) -> Option<Scene> {
     let mut dice = Dice { state: seed };
     let earlier = random_requests(alloc, &mut dice, 20)?;
@@ -86,7 +86,7 @@ fn random_scene<R: Threads + Sync>(rt: &R, alloc: Global, seed: u64) -> Option<S
     scene_of(rt, alloc, 2, &earlier, &requests)
 }
 
-/// What the batch of a seed leaves, as the digest of its rows and replies; none where a place strays.
+/// The digest of rows and replies after a seed's batch; `None` if a place strays.
 fn left_by<R: Threads + Sync>(
     rt: &R,
     alloc: Global,
@@ -101,7 +101,7 @@ fn left_by<R: Threads + Sync>(
     }
 }
 
-/// In how many ways places of a seed's batch stray, and in how many others it leaves what it leaves one request after the other.
+/// In how many ways of execution a seed's batch strays, and in how many others it gives the result of batch order.
 fn count_ways<R: Threads + Sync>(rt: &R, alloc: Global, seed: u64) -> Option<(u32, u32)> {
     let wanted = left_by(rt, alloc, seed, Way::InBatch)?;
     let (mut straying, mut agreeing) = (0u32, 0u32);
@@ -114,7 +114,7 @@ fn count_ways<R: Threads + Sync>(rt: &R, alloc: Global, seed: u64) -> Option<(u3
     Some((straying, agreeing))
 }
 
-/// Where no place strays, replies and rows are those of batch order. Of the batches some stray, and some don't.
+/// Whether replies and rows are those of batch order if no place strays, and some batches stray and some don't.
 pub fn show<R: Threads + Sync + Print>(rt: &R, alloc: Global) -> Option<()> {
     let (mut straying, mut agreeing) = (0u32, 0u32);
     for seed in 1..65 {

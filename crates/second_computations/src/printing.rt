@@ -1,11 +1,11 @@
-//! Lines of a program's output. That printing fails is of no account: the output is compared as a whole.
+//! Lines of output. A failed print is ignored, since the output is compared as a whole.
 
-/// Of how many cases two computations agree.
+/// In how many cases two computations agree.
 pub fn print_agreeing(rt: &impl Print, name: &str, agreeing: u32, count: u32) {
     let _ = println!(rt; "{name}: {agreeing} of {count} agree");
 }
 
-/// A name, and a hash in hexadecimal digits.
+/// A name and a hash in hexadecimal.
 pub fn print_hash(rt: &impl Print, name: &str, hash: &[u8; 32]) {
     let _ = print!(rt; "{name}: ");
     for byte in hash {
@@ -14,7 +14,7 @@ pub fn print_hash(rt: &impl Print, name: &str, hash: &[u8; 32]) {
     let _ = println!(rt; "");
 }
 
-/// Places with spaces before them.
+/// Places, each after a space.
 pub fn print_places(rt: &impl Print, places: &[usize]) {
     for place in places {
         let _ = print!(rt; " {place}");

@@ -1,4 +1,4 @@
-//! Roots of chosen rows, and of rows that look random, against the second computation.
+//! Roots of chosen and of pseudo-random rows, against the second computation.
 use crate::drawn::{Dice, random_rows};
 use crate::printing::{print_agreeing, print_hash};
 use crate::rows::{lines_of, stored};
@@ -15,7 +15,7 @@ const WAREHOUSE_AND_DISTRICT: &str = "\
 1,1,30000000
 ";
 
-/// A row of each kind, two of those that may lack a column.
+/// A row of each kind, and two of a kind with an optional column.
 pub const EVERY_KIND: &str = "\
 1,2,30000000
 3,2,3,45,-1000,2000,3,4,hello
@@ -30,7 +30,7 @@ pub const EVERY_KIND: &str = "\
 10,2,3,3001
 ";
 
-/// Rows of eight kinds that share leaf 827, in falling order.
+/// Rows of eight kinds on leaf 827, in descending order.
 pub const ONE_LEAF: &str = "\
 10,26,5,7
 9,30,1,-5
@@ -73,8 +73,8 @@ fn show_chosen<R: Threads + Sync + Print>(
     Some(())
 }
 
-/// The customers of a hundred warehouses that stand on leaf 31,739, each with a text of 500 characters: more than there is room for
-/// beside other leaves.
+/// The customers of 100 warehouses on leaf 31,739, each with a text of 500 characters: too many bytes to be hashed beside
+/// other leaves.
 fn long_leaf(alloc: Global) -> Option<String> {
     let mut text = String::new(alloc);
     for number in 0..3_000_000u64 {
@@ -93,7 +93,7 @@ fn long_leaf(alloc: Global) -> Option<String> {
     Some(text)
 }
 
-/// Of more than 50 rows of one leaf, of all but seven, of all but fourteen, and so on.
+/// Roots of over 50 rows of one leaf, of all but seven, of all but fourteen, and so on.
 fn show_long_leaf<R: Threads + Sync + Print>(rt: &R, alloc: Global, lines: &[&str]) -> Option<()> {
     let mut all = 50 < lines.len();
     for sevens in 1..lines.len() / 7 + 1 {
@@ -104,7 +104,7 @@ fn show_long_leaf<R: Threads + Sync + Print>(rt: &R, alloc: Global, lines: &[&st
     Some(())
 }
 
-/// Whether the roots of more than 200 rows that look random agree.
+/// Whether the roots of over 200 pseudo-random rows agree.
 fn agree_on_random<R: Threads + Sync>(rt: &R, alloc: Global, seed: u64) -> Option<bool> {
     let text = random_rows(alloc, &mut Dice { state: seed }, 400)?;
     let lines = lines_of(alloc, &text)?;

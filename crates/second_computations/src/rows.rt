@@ -1,5 +1,5 @@
-//! Rows as lines of text: a line has the number of the row's kind, the columns of its key, and its other columns, in the order in
-//! which they are hashed. Whether an order line was delivered is a column of its own before the moment; no carrier is 0.
+//! Rows as lines of text: the number of the row's kind, the columns of its key, then its other columns in the order in which
+//! they are hashed. Whether an order line is delivered is a column before the date; 0 is no carrier.
 use crate::columns::{byte, column, long, short, signed, word};
 use crate::format::code;
 use pages::RowStore;
@@ -174,7 +174,7 @@ fn has_code(lines: &[&str], wanted: u64) -> bool {
     false
 }
 
-/// The lines of a text, each key's first.
+/// The lines of a text, only the first of each key.
 pub fn lines_of(alloc: Global, text: &str) -> Option<Vec<&str>> {
     let mut lines = Vec::new(alloc);
     for line in text.lines() {

@@ -1,4 +1,4 @@
-//! The tokens of two batches, one after the other, and of one against the second computation.
+//! The tokens of two consecutive batches, and one against the second computation.
 use crate::drawn::{Dice, random_rows};
 use crate::printing::{print_agreeing, print_hash};
 use crate::roots::{EVERY_KIND, ONE_LEAF, tree_root};
@@ -12,11 +12,11 @@ use token::{TokenParts, reply_digest};
 use tpcc_rows::id::CustomerId;
 use tpcc_rows::number::Cents;
 
-/// The bytes of the replies to the first batch, numbered 1 and 2: a count of 7, and an unknown key.
+/// The bytes of the replies to the first batch, numbered 1 and 2: a count of 7 and an unknown key.
 const FIRST: &[u8] =
     b"\x00\x00\x00\x00\x00\x00\x00\x01\x05\x00\x00\x00\x00\x07\x00\x00\x00\x00\x00\x00\x00\x02\x02\x02";
 
-/// The digest of the replies to the first batch.
+/// Digest of the replies to the first batch.
 fn first_replies() -> [u8; 32] {
     let replies = [
         Reply::StockLevel(StockLevelReply { low_stock: 7 }),
@@ -28,7 +28,7 @@ fn first_replies() -> [u8; 32] {
     reply_digest(1, &replies)
 }
 
-/// The digest of the reply to the second batch, a payment of customer 45.
+/// Digest of the reply to the second batch, a payment by customer 45.
 fn second_replies() -> Option<[u8; 32]> {
     let reply = Reply::Payment(PaymentReply {
         customer: CustomerId::new(45)?,
@@ -38,13 +38,13 @@ fn second_replies() -> Option<[u8; 32]> {
     Some(reply_digest(3, &[reply]))
 }
 
-/// The bytes from 0 to 31.
+/// Bytes 0 to 31.
 const CATALOG: [u8; 32] = [
     0, 1, 2, 3, 4, 5, 6, 7, 8, 9, 10, 11, 12, 13, 14, 15, 16, 17, 18, 19, 20, 21, 22, 23, 24, 25,
     26, 27, 28, 29, 30, 31,
 ];
 
-/// The token of a batch, where the catalog's digest is the bytes from 0 to 31.
+/// The token of a batch, for a catalog whose digest is bytes 0 to 31.
 fn batch_token(sequence: u64, prior: [u8; 32], root: [u8; 32], replies: [u8; 32]) -> [u8; 32] {
     let parts = TokenParts {
         sequence,
@@ -60,7 +60,7 @@ fn root_of<R: Threads + Sync>(rt: &R, alloc: Global, text: &str) -> Option<[u8; 
     tree_root(rt, alloc, &lines_of(alloc, text)?)
 }
 
-/// Whether the tokens of 100 rows that look random, or of some fewer, agree.
+/// Whether the tokens of about 100 pseudo-random rows agree.
 fn agree<R: Threads + Sync>(rt: &R, alloc: Global) -> Option<bool> {
     let text = random_rows(alloc, &mut Dice { state: 9 }, 100)?;
     let lines = lines_of(alloc, &text)?;

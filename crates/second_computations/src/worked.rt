@@ -1,5 +1,4 @@
-//! Worked batches on made databases: what requests are declared to touch, into which levels a batch is cut, which of its places
-//! stray, and what requests do on loans.
+//! Worked batches on generated databases: footprints, levels, strays, and what requests do on loans.
 use crate::columns::part;
 use crate::database::{Scene, scene_of};
 use crate::granules::{print_granules, touch_of};
@@ -13,9 +12,9 @@ use std::alloc::Global;
 use std::thread::Threads;
 use tpcc_rows::footprint::Footprint;
 
-/// What is shown of a batch, of how many warehouses the database is made, what the batch is, the requests that are executed before,
-/// and the requests of the batch. Of two deliveries the later one declares the second order; stock levels declare the items of
-/// their own batch; a delivery strays whose order is of its own batch.
+/// A case a line: what is printed, the number of warehouses, a title, the requests executed before, and the batch. Of two
+/// deliveries the later one declares the second order; stock levels declare items of orders of their batch; a delivery strays
+/// if its order is of its own batch.
 const CASES: &str = "\
 footprint|1|a delivery of no order|nothing|delivery
 footprint|1|a delivery of seven orders|seven orders|delivery
@@ -68,7 +67,7 @@ loans|1|a stock level|order|stock level
 loans|1|an order with an item that is no one's|nothing|no last item
 ";
 
-/// The requests under a name.
+/// The requests of a name.
 fn requests(name: &str) -> &'static str {
     for section in REQUESTS.split("# ") {
         if let Some((title, lines)) = section.split_once('\n') {
@@ -89,7 +88,7 @@ fn show_footprint(rt: &impl Print, alloc: Global, footprint: &Footprint) -> Opti
     Some(())
 }
 
-/// Shows the places of each level, with a bar behind it, as in ` 0 1 | 2 |`.
+/// Prints the places of each level, with a bar after it: ` 0 1 | 2 |`.
 fn show_cut(rt: &impl Print, cut: &Cut) {
     let _ = print!(rt; " cut into");
     for level in 0..cut.depth() {
@@ -98,7 +97,7 @@ fn show_cut(rt: &impl Print, cut: &Cut) {
     }
 }
 
-/// Shows the bits of what a request is declared to write.
+/// Prints the bits of what a request declares to write.
 fn show_bits(rt: &impl Print, footprint: &Footprint) {
     for granule in footprint.writes() {
         let bit = granule_bit(granule);
@@ -147,7 +146,7 @@ fn show_case<R: Threads + Sync + Print>(rt: &R, alloc: Global, case: &str) -> Op
     show_scene(rt, alloc, case, &mut scene)
 }
 
-/// Shows the cases of which this is shown.
+/// Prints the cases of this kind.
 pub fn show<R: Threads + Sync + Print>(rt: &R, alloc: Global, shown: &str) -> Option<()> {
     for case in CASES.lines() {
         if part(case, '|', 0) == shown {

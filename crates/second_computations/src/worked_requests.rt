@@ -1,6 +1,6 @@
-//! Worked requests, each of them a record on a line of its own.
+//! Worked requests, a record a line.
 
-/// Under the name of each batch its requests.
+/// Each batch's name and requests.
 pub const REQUESTS: &str = "\
 # order
 N,1,1,1,1,1,1,2,1,1,3,1,1,4,1,1,5,1,1

@@ -1,5 +1,5 @@
-//! What the requests of a batch declare on a made database, computed a second time: from their lines, from the database's rows by
-//! their keys, and from the numbers that it was made of.
+//! What the requests of a batch declare on a generated database, computed a second time: from their lines, from look-ups of
+//! rows by key, and from the numbers that the database was generated with.
 use crate::columns::{byte, column, short, word};
 use crate::granules::{BOOK, CUSTOMER, NEXT, STOCK, Touch, WAREHOUSE, YTD, packed};
 use rollback::PointedStore;
@@ -7,14 +7,14 @@ use std::alloc::Global;
 use tpcc_rows::id::{DistrictId, LineNumber, OrderId, WarehouseId};
 use tpcc_rows::key::RowKey;
 
-/// The rows of a database that was made of so many warehouses, 45 customers in each district, and 100 items.
+/// A generated database with 45 customers a district and 100 items.
 #[derive(Clone, Copy)]
-pub struct Books<'a> {
+pub struct Declarations<'a> {
     pub warehouses: u8,
     pub store: &'a PointedStore,
 }
 
-/// A request of a batch: its line, and the batch's lines, of which so many come before it.
+/// A request: its line, its batch's lines, and its place among them.
 #[derive(Clone, Copy)]
 struct Placed<'a> {
     line: &'a str,
@@ -23,7 +23,7 @@ struct Placed<'a> {
 }
 
 impl Placed<'_> {
-    /// How many deliveries of the same warehouse come before it.
+    /// Number of earlier deliveries of the same warehouse.
     fn earlier_deliveries(&self) -> usize {
         let mut count = 0usize;
         for (place, other) in self.batch.lines().enumerate() {
@@ -35,15 +35,15 @@ impl Placed<'_> {
         count
     }
 
-    /// Whether the line of a place is an earlier order's of the same district.
+    /// Whether the line at a place is an earlier new order of the same district.
     fn is_earlier_order(&self, place: usize, other: &str) -> bool {
         let is_near = byte(other, 1) == byte(self.line, 1) && byte(other, 2) == byte(self.line, 2);
         place < self.place && column(other, 0) == "N" && is_near
     }
 }
 
-impl Books<'_> {
-    /// What the request of a place of the batch declares, in order.
+impl Declarations<'_> {
+    /// What the request at a place declares, in order.
     pub fn declared(&self, alloc: Global, batch: &str, place: usize, line: &str) -> Option<Touch> {
         let mut touch = Touch::new(alloc);
         let request = Placed { line, batch, place };
@@ -65,10 +65,10 @@ impl Books<'_> {
         }
     }
 
-    /// The lines are of known items and warehouses.
+    /// Whether the customer, and each line's item and warehouse, are known.
     fn are_known(&self, line: &str) -> bool {
-        for place in 1..16usize {
-            if 100 < word(line, 3 * place + 1) || self.warehouses < byte(line, 3 * place + 2) {
+        for number in 1..16usize {
+            if 100 < word(line, 3 * number + 1) || self.warehouses < byte(line, 3 * number + 2) {
                 return false;
             }
         }
@@ -81,10 +81,10 @@ impl Books<'_> {
         }
         touch.write(packed(NEXT, byte(line, 1), byte(line, 2), 0))?;
         touch.write(packed(BOOK, byte(line, 1), byte(line, 2), 0))?;
-        for place in 1..16usize {
-            let item = word(line, 3 * place + 1);
+        for number in 1..16usize {
+            let item = word(line, 3 * number + 1);
             if item != 0 {
-                touch.write(packed(STOCK, byte(line, 3 * place + 2), 0, item))?;
+                touch.write(packed(STOCK, byte(line, 3 * number + 2), 0, item))?;
             }
         }
         Some(())
@@ -119,7 +119,7 @@ impl Books<'_> {
         self.store.get(&key).is_some()
     }
 
-    /// The customer, O_C_ID, of the new order of a district before which there are so many others, 0 where there is none.
+    /// O_C_ID of the district's new order that comes after `others` new orders, or 0.
     fn customer_behind(
         &self,
         warehouse: WarehouseId,
@@ -160,7 +160,7 @@ impl Books<'_> {
         Some(())
     }
 
-    /// OL_I_ID of each line of an order.
+    /// Reads the stock of each of an order's items.
     fn look_at(
         &self,
         warehouse: WarehouseId,
@@ -183,13 +183,13 @@ impl Books<'_> {
         Some(())
     }
 
-    /// The items of an earlier order, which have stocks in each warehouse.
+    /// Reads the stocks of the items of an earlier new order of the batch.
     fn look_ahead(&self, warehouse: u8, order: &str, touch: &mut Touch) -> Option<()> {
         if !self.are_known(order) {
             return Some(());
         }
-        for place in 1..16usize {
-            let item = word(order, 3 * place + 1);
+        for number in 1..16usize {
+            let item = word(order, 3 * number + 1);
             if item != 0 {
                 touch.read(packed(STOCK, warehouse, 0, item))?;
             }
@@ -224,17 +224,17 @@ fn tell(alloc: Global, line: &str, touch: &mut Touch) -> Option<()> {
     touch.read(packed(BOOK, byte(line, 1), byte(line, 2), 0))
 }
 
-/// The number of the customer whom a request means at these columns, 0 where there is none.
-fn chosen(alloc: Global, line: &str, place: usize) -> Option<u32> {
-    let name = column(line, place.saturating_add(1));
-    if column(line, place) == "L" {
+/// The customer that a request chooses by the columns from `first` on, or 0.
+fn chosen(alloc: Global, line: &str, first: usize) -> Option<u32> {
+    let name = column(line, first.saturating_add(1));
+    if column(line, first) == "L" {
         return middle(alloc, name.strip_prefix("NAME")?.parse().ok()?);
     }
     let customer = name.parse().ok()?;
     Some(if customer <= 45 { customer } else { 0 })
 }
 
-/// Of the customers whose last name ends with this number, by first name and number, the one in the middle, 0 where there is none.
+/// Of the customers whose last name has this ending, by first name and number, the middle one, or 0.
 fn middle(alloc: Global, ending: u32) -> Option<u32> {
     let mut holders = Vec::new(alloc);
     for customer in 1..46u32 {
