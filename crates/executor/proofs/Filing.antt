@@ -14,7 +14,7 @@ use Rattle.requests.specs.declared.reply.Reply.{Reply}
 use Rattle.gather.specs.Books.{Book, Expects, HasFiled, with_reply}
 use Rattle.gather.specs.declared.reply_book.FileError.{FileError}
 use Rattle.gather.specs.declared.reply_book.FileError.TheVariants as file_error
-use Rattle.workers.specs.declared.placed_request.PlaceOutcome.{PlaceOutcome}
+use Rattle.workers.specs.declared.job.Done.{Done}
 use Rattle.executor.specs.Filing.{Awaits, FilesEach, reply_at}
 
 or_none : {X : Type 0} (o : Option X) → option_or o None ≡ o
@@ -80,8 +80,8 @@ not_filed book number place numbered awaited has =
     let no : None ≡ Some has.1 = sym awaited.1 ∙ ap (λ i. get_or book.replies i None) same ∙ get_or_from_slice_get book.replies (number - book.first) (Some has.1) None has.2 in
     cc
 
-pub first_awaited : (book : Book) (one : PlaceOutcome) (outcomes left : List PlaceOutcome) → outcomes ≡ one ∷ left → All (λ done. Awaits book done.place) outcomes → Awaits book one.place
-first_awaited book one outcomes left are awaited = subst (λ (ds : List PlaceOutcome). All (λ done. Awaits book done.place) ds) are awaited 0 one (omega arith)
+pub first_awaited : (book : Book) (one : Done) (outcomes left : List Done) → outcomes ≡ one ∷ left → All (λ done. Awaits book done.place) outcomes → Awaits book one.place
+first_awaited book one outcomes left are awaited = subst (λ (ds : List Done). All (λ done. Awaits book done.place) ds) are awaited 0 one (omega arith)
 
 -- it is filed
 pub is_ok_where_awaited : (book : Book) (number place : ℕ) (result : Result (Unit {0}) FileError) → number ≡ book.first + place → Awaits book place
@@ -105,23 +105,23 @@ awaits_on old new number place later reply numbered is low awaited = (
 )
 
 -- and so are all behind it
-pub awaited_behind : (old new : Book) (number : ℕ) (reply : Reply) (one : PlaceOutcome) (outcomes left : List PlaceOutcome) → number ≡ old.first + one.place → new ≡ with_reply old number reply → outcomes ≡ one ∷ left
+pub awaited_behind : (old new : Book) (number : ℕ) (reply : Reply) (one : Done) (outcomes left : List Done) → number ≡ old.first + one.place → new ≡ with_reply old number reply → outcomes ≡ one ∷ left
     → AllPairs (λ place later. place < later) (map (λ done. done.place) outcomes) → All (λ done. Awaits old done.place) outcomes → All (λ done. Awaits new done.place) left
 awaited_behind old new number reply one outcomes left numbered is are rise awaited k done below =
-    let place : PlaceOutcome → ℕ = λ d. d.place in
+    let place : Done → ℕ = λ d. d.place in
     let counted = length-map left place in
-    let low : one.place < get_or (map place left) k done.place = subst (λ (ds : List PlaceOutcome). AllPairs (λ p later. p < later) (map place ds)) are rise 0 (suc k) done.place (omega arith) (omega (arith, below, counted)) in
+    let low : one.place < get_or (map place left) k done.place = subst (λ (ds : List Done). AllPairs (λ p later. p < later) (map place ds)) are rise 0 (suc k) done.place (omega arith) (omega (arith, below, counted)) in
     let at = get_or-map place left k done done.place below in
     awaits_on old new number one.place (get_or left k done).place reply numbered is (omega (arith, low, at))
-    (all_behind (λ (d : PlaceOutcome). Awaits old d.place) outcomes left one are awaited k done below)
+    (all_behind (λ (d : Done). Awaits old d.place) outcomes left one are awaited k done below)
 
-pub rising_behind : (one : PlaceOutcome) (outcomes left : List PlaceOutcome) → outcomes ≡ one ∷ left → AllPairs (λ place later. place < later) (map (λ done. done.place) outcomes)
-    → AllPairs (λ place later. place < later) (map (λ (done : PlaceOutcome). done.place) left)
+pub rising_behind : (one : Done) (outcomes left : List Done) → outcomes ≡ one ∷ left → AllPairs (λ place later. place < later) (map (λ done. done.place) outcomes)
+    → AllPairs (λ place later. place < later) (map (λ (done : Done). done.place) left)
 rising_behind one outcomes left are rise i j d low below =
-    subst (λ (ds : List PlaceOutcome). AllPairs (λ p later. p < later) (map (λ done. done.place) ds)) are rise (suc i) (suc j) d (omega (arith, low)) (omega (arith, below))
+    subst (λ (ds : List Done). AllPairs (λ p later. p < later) (map (λ done. done.place) ds)) are rise (suc i) (suc j) d (omega (arith, low)) (omega (arith, below))
 
 -- a place that isn't one of these has no reply among theirs
-not_told : (first place : ℕ) (outcomes : List PlaceOutcome) → (Has (map (λ done. done.place) outcomes) place → ⊥) → find nat_cmp (first + place) (map (λ done. (first + done.place, done.reply)) outcomes) ≡ None
+not_told : (first place : ℕ) (outcomes : List Done) → (Has (map (λ done. done.place) outcomes) place → ⊥) → find nat_cmp (first + place) (map (λ done. (first + done.place, done.reply)) outcomes) ≡ None
 not_told first place [] apart = refl
 not_told first place (one ∷ outcomes) apart = elim (cases_Bool (eq_by_cmp nat_cmp (first + place) (first + one.place))) [
   | inl t ↦ absurd (apart (inl (let here = same_key nat_cmp-IsAntisymmetric (first + place) (first + one.place) t in let same : one.place ≡ place = omega (arith, here) in same)))
@@ -131,14 +131,14 @@ not_told first place (one ∷ outcomes) apart = elim (cases_Bool (eq_by_cmp nat_
 ]
 
 -- the book awaits the replies to all others still
-pub awaits_others : (first : ℕ) (places : List ℕ) (outcomes : List PlaceOutcome) (old new : Book) → old.first ≡ first → map (λ done. done.place) outcomes ≡ places
+pub awaits_others : (first : ℕ) (places : List ℕ) (outcomes : List Done) (old new : Book) → old.first ≡ first → map (λ done. done.place) outcomes ≡ places
     → FilesEach (map (λ done. (first + done.place, done.reply)) outcomes) old new → (place : ℕ) → (Has places place → ⊥) → Awaits old place → Awaits new place
 awaits_others first places outcomes old new of_batch are each place apart awaited =
-    let none : (Has (map (λ (done : PlaceOutcome). done.place) outcomes) place → ⊥) = λ has. apart (subst (λ ps. Has ps place) are has) in (
+    let none : (Has (map (λ (done : Done). done.place) outcomes) place → ⊥) = λ has. apart (subst (λ ps. Has ps place) are has) in (
       subst (λ n. place < n) (sym each.size) awaited.0,
       each.replies place awaited.0
-          ∙ ap (λ o. option_or o (find nat_cmp (old.first + place) (map (λ (done : PlaceOutcome). (first + done.place, done.reply)) outcomes))) awaited.1
-          ∙ ap (λ n. find nat_cmp (n + place) (map (λ (done : PlaceOutcome). (first + done.place, done.reply)) outcomes)) of_batch
+          ∙ ap (λ o. option_or o (find nat_cmp (old.first + place) (map (λ (done : Done). (first + done.place, done.reply)) outcomes))) awaited.1
+          ∙ ap (λ n. find nat_cmp (n + place) (map (λ (done : Done). (first + done.place, done.reply)) outcomes)) of_batch
           ∙ not_told first place outcomes none,
     )
 

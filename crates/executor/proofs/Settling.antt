@@ -8,10 +8,10 @@ use Rattle.serializability.proofs.Changes.{apply-append}
 use Rattle.tpcc_rows.specs.Changing.{after}
 use Rattle.tpcc_rows.specs.RowMap.{Rows}
 use Rattle.gather.specs.Merged.{after_each}
-use Rattle.workers.specs.declared.placed_request.PlaceOutcome.{PlaceOutcome}
+use Rattle.workers.specs.declared.job.Done.{Done}
 
 -- the changes of each outcome in turn are all of them
-pub after_outcomes : (outcomes : List PlaceOutcome) (rows : Rows) → after_each rows (map (λ done. done.changes) outcomes) ≡ apply (flat_map (λ done. entries done.changes) outcomes) rows
+pub after_outcomes : (outcomes : List Done) (rows : Rows) → after_each rows (map (λ done. done.changes) outcomes) ≡ apply (flat_map (λ done. entries done.changes) outcomes) rows
 unfolding after
 after_outcomes [] rows = refl
 after_outcomes (done ∷ outcomes) rows =
@@ -19,13 +19,13 @@ after_outcomes (done ∷ outcomes) rows =
     ∙ sym (apply-append (entries done.changes) (flat_map (λ later. entries later.changes) outcomes) rows)
 
 -- what holds of all places holds of those of the outcomes
-pub of_places : (P : ℕ → Type 0) (outcomes : List PlaceOutcome) (places : List ℕ) → map (λ done. done.place) outcomes ≡ places → All P places → All (λ done. P done.place) outcomes
+pub of_places : (P : ℕ → Type 0) (outcomes : List Done) (places : List ℕ) → map (λ done. done.place) outcomes ≡ places → All P places → All (λ done. P done.place) outcomes
 of_places P outcomes places is all i done below =
-    let there : i < length places = subst (λ (ps : List ℕ). i < length ps) is (omega (arith, below, length-map outcomes (λ (d : PlaceOutcome). d.place))) in
-    subst P (ap (λ (ps : List ℕ). get_or ps i done.place) (sym is) ∙ get_or-map (λ (d : PlaceOutcome). d.place) outcomes i done done.place below) (all i done.place there)
+    let there : i < length places = subst (λ (ps : List ℕ). i < length ps) is (omega (arith, below, length-map outcomes (λ (d : Done). d.place))) in
+    subst P (ap (λ (ps : List ℕ). get_or ps i done.place) (sym is) ∙ get_or-map (λ (d : Done). d.place) outcomes i done done.place below) (all i done.place there)
 
 -- their numbers are within the limit where their places are those of the batch
-pub numbers_within : (outcomes : List PlaceOutcome) (places : List ℕ) (first count : ℕ) → map (λ done. done.place) outcomes ≡ places → All (λ place. place < count) places → first + count ≤ 1000000000000000 → All (λ done. first + done.place < 1000000000000000) outcomes
+pub numbers_within : (outcomes : List Done) (places : List ℕ) (first count : ℕ) → map (λ done. done.place) outcomes ≡ places → All (λ place. place < count) places → first + count ≤ 1000000000000000 → All (λ done. first + done.place < 1000000000000000) outcomes
 numbers_within outcomes places first count is within high i done below =
     let low = of_places (λ place. place < count) outcomes places is within i done below in
     omega (arith, low, high)

@@ -17,7 +17,7 @@ use Rattle.tpcc_model.specs.Steps.{replies, rows_after}
 use Rattle.executor.specs.LevelRuns.{declared_footprints, strays_by}
 use Rattle.executor.specs.States.{AreWithinLimits}
 use Rattle.executor.specs.declared.in_order.Declared.{Declared}
-use Rattle.executor.specs.declared.level.Plan.{Plan}
+use Rattle.workers.specs.declared.plan.Plan.{Plan}
 
 -- a request of a batch as a job
 abbrev pub job_of : Declared → Job Granule Request

@@ -9,7 +9,6 @@ ghost use Rattle.rollback.specs.Pointed.{KeepsCleanLeaves};
 ghost use Rattle.tpcc_model.specs.Roots.{root};
 ghost use Rattle.tpcc_model.specs.Tokens.{replies_digest, token_of};
 
-use crate::crew::Crew;
 use crate::engine::Engine;
 use crate::in_order::Pass;
 use crate::next_batch::{LAST_NUMBER, NextBatch};
@@ -27,7 +26,7 @@ use token::{TokenParts, reply_digest};
 use tpcc_rows::id::END_OF_NUMBERS;
 use tpcc_rows::memory::Memory;
 use transactions::Stop;
-use workers::{Gate, Workers};
+use workers::{Gate, Runtime, Workers};
 
 /// Saves the present rows as the newest point, for which there is capacity.
 fn mark(store: &mut PointedStore)
@@ -104,8 +103,13 @@ impl Engine {
             let replies = execute_sequential(alloc, &self.catalog, &mut self.store, next, gate)?;
             return Ok((replies, Path::Verdict));
         }
-        let crew = Crew { rt, workers, gate };
-        let path = match execute_parallel(alloc, &crew, &self.catalog, &mut self.store, next) {
+        let runtime = Runtime {
+            rt,
+            alloc,
+            workers,
+            gate,
+        };
+        let path = match execute_parallel(&runtime, &self.catalog, &mut self.store, next) {
             Ok(Pass { replies, strayed }) => match next.batch.verdict {
                 Verdict::Commit => return Ok((replies, path_of(strayed))),
                 Verdict::Rerun => Path::Verdict,

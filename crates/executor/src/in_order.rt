@@ -8,7 +8,6 @@ ghost use Rattle.tpcc_model.specs.Machine.{tpcc};
 ghost use Rattle.tpcc_model.specs.Steps.{step};
 ghost use Rattle.transactions.specs.Outcomes.{IsOutcome};
 
-use crate::level::Plan;
 use crate::sequential::executed;
 use catalog::Catalog;
 use requests::reply::Reply;
@@ -22,6 +21,7 @@ use tpcc_rows::memory::Memory;
 use tpcc_rows::number::Moment;
 use transactions::{Stop, execute};
 use worker_rows::Loan;
+use workers::Plan;
 
 /// The replies to a batch, in order, and whether it strays.
 #[derive(Drop)]

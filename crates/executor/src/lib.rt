@@ -5,12 +5,10 @@
 #![tactic(auto)]
 
 mod batch;
-mod crew;
 mod engine;
 mod executor;
 mod in_order;
 pub mod laws;
-mod level;
 mod limits;
 mod next_batch;
 mod opening;

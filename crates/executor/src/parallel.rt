@@ -6,17 +6,15 @@ ghost use Rattle.std.specs.Ordering.{nat_cmp};
 ghost use Rattle.executor.specs.Filing.{Awaits, FilesEach, reply_at};
 ghost use Rattle.executor.specs.LevelRuns.{IsCutBySome, IsCutOf, strays};
 ghost use Rattle.executor.specs.Lines.{state_of};
-ghost use Rattle.executor.specs.PlannedLevels.{AwaitsOthers, level_replies, level_rows, level_strays, plan_replies, plan_rows, plan_strays};
+ghost use Rattle.executor.specs.PlannedLevels.{AwaitsOthers, plan_replies, plan_rows, plan_strays};
 ghost use Rattle.executor.specs.States.{IsSoundState};
 ghost use Rattle.gather.specs.Merged.{after_each};
 ghost use Rattle.rollback.specs.Pointed.{KeepsCleanLeaves};
 ghost use Rattle.tpcc_model.specs.Serial.{batch_replies, batch_rows};
-ghost use Rattle.workers.specs.LevelEnds.{StraysWhere};
+ghost use Rattle.workers.specs.LevelEnds.{StraysWhere, level_replies, level_rows, level_strays};
 
-use crate::crew::Crew;
 use crate::in_order::{Pass, execute_in_order};
 use crate::laws::{cuts, declared_levels, strays_in_turn};
-use crate::level::{Level, Plan};
 use crate::next_batch::NextBatch;
 use catalog::Catalog;
 use gather::ReplyBook;
@@ -31,13 +29,13 @@ use tpcc_rows::footprint::Footprint;
 use tpcc_rows::id::{END_OF_NUMBERS, RequestNumber};
 use tpcc_rows::memory::Memory;
 use transactions::Stop;
-use workers::{Gate, LevelEnd, PlaceOutcome, run_level};
+use workers::{Db, Done, Gate, Level, Plan, Runtime, run_level};
 
 /// Files the replies of a level, where `first` is the number of the batch's first request; returns the changes, in order.
 fn file_replies(
     alloc: Global,
     first: u64,
-    outcomes: Vec<PlaceOutcome>,
+    outcomes: Vec<Done>,
     book: &mut ReplyBook,
 ) -> Result<Vec<Delta>, Memory>
     requires low { 1 ≤ first }
@@ -71,8 +69,7 @@ fn apply_each(store: &mut PointedStore, deltas: Vec<Delta>) -> Result<(), Memory
 
 /// Executes a level, files its replies and applies its changes. If a request strays, nothing is changed.
 fn settle_level<R: Threads + Sync, G: Gate>(
-    alloc: Global,
-    crew: &Crew<'_, R, G>,
+    runtime: &Runtime<'_, R, G>,
     catalog: &Catalog,
     store: &mut PointedStore,
     level: &Level<'_>,
@@ -88,26 +85,11 @@ fn settle_level<R: Threads + Sync, G: Gate>(
     ensures points { store.new.points ≡ store.old.points }
     ensures clean { KeepsCleanLeaves store.old store.new }
 {
-    let plan = level.plan;
-    match run_level(
-        crew.rt,
-        alloc,
-        catalog,
-        store,
-        plan.batch,
-        plan.first,
-        level.places,
-        plan.footprints,
-        crew.workers,
-        crew.gate,
-    )? {
-        LevelEnd::Strayed(_) => Err(Stop::Strayed),
-        LevelEnd::Done(outcomes) => {
-            let deltas = file_replies(alloc, plan.first, outcomes, book)?;
-            apply_each(store, deltas)?;
-            Ok(())
-        }
-    }
+    let db = Db { catalog, store };
+    let outcomes = run_level(runtime, db, level)?;
+    let deltas = file_replies(runtime.alloc, level.plan.first, outcomes, book)?;
+    apply_each(store, deltas)?;
+    Ok(())
 }
 
 /// Minimum average level size for which threads pay: starting one takes as long as executing a dozen requests or more, and
@@ -140,22 +122,20 @@ fn paying_cut(
 
 /// The levels to execute a batch by: those by signatures if a gate listens, else those by granules, or `None` if threads don't pay.
 fn cut_of<R, G: Gate>(
-    alloc: Global,
-    crew: &Crew<'_, R, G>,
+    runtime: &Runtime<'_, R, G>,
     plan: &Plan<'_>,
 ) -> Result<Option<Cut>, Memory>
     ensures { IfOk result (λ cut. IfSome cut (λ cut. IsCutBySome plan.now.footprints.now cut)) }
 {
-    if crew.gate.is_told() {
-        return Ok(Some(mix(alloc, plan.footprints)?));
+    if runtime.gate.is_told() {
+        return Ok(Some(mix(runtime.alloc, plan.footprints)?));
     }
-    paying_cut(alloc, plan.footprints, crew.workers.count())
+    paying_cut(runtime.alloc, plan.footprints, runtime.workers.count())
 }
 
 /// Executes the levels of a batch one after the other, until a request strays.
 fn run_levels<R: Threads + Sync, G: Gate>(
-    alloc: Global,
-    crew: &Crew<'_, R, G>,
+    runtime: &Runtime<'_, R, G>,
     catalog: &Catalog,
     store: &mut PointedStore,
     plan: &Plan<'_>,
@@ -172,14 +152,15 @@ fn run_levels<R: Threads + Sync, G: Gate>(
     ensures clean { KeepsCleanLeaves store.old store.new }
 {
     let number = RequestNumber::new(plan.first).unwrap();
-    let mut book = ReplyBook::new(alloc, number, plan.batch.requests.len())?;
+    let mut book = ReplyBook::new(runtime.alloc, number, plan.batch.requests.len())?;
+    runtime.gate.levels(cut.depth());
     for index in 0..cut.depth() {
         let places = cut.level(index).unwrap();
         let level = Level {
             plan: *plan,
             places,
         };
-        settle_level(alloc, crew, catalog, store, &level, &mut book)?;
+        settle_level(runtime, catalog, store, &level, &mut book)?;
     }
     Ok(book)
 }
@@ -188,8 +169,7 @@ fn run_levels<R: Threads + Sync, G: Gate>(
 /// strays; then, and if an allocation fails, the rows are in no defined state. If threads don't pay and no gate listens, the
 /// batch is executed in order instead, to its end.
 pub(crate) fn execute_parallel<R: Threads + Sync, G: Gate>(
-    alloc: Global,
-    crew: &Crew<'_, R, G>,
+    runtime: &Runtime<'_, R, G>,
     catalog: &Catalog,
     store: &mut PointedStore,
     next: &NextBatch<'_>,
@@ -204,7 +184,7 @@ pub(crate) fn execute_parallel<R: Threads + Sync, G: Gate>(
 {
     if next.batch.requests.is_empty() {
         return Ok(Pass {
-            replies: Vec::new(alloc),
+            replies: Vec::new(runtime.alloc),
             strayed: false,
         });
     }
@@ -213,17 +193,17 @@ pub(crate) fn execute_parallel<R: Threads + Sync, G: Gate>(
     strays_in_turn();
     next.keep_within();
     let requests = next.batch.requests.as_slice();
-    let threads = crew.workers.count();
-    let footprints = declare_batch(crew.rt, alloc, catalog, requests, store, threads)?;
+    let threads = runtime.workers.count();
+    let footprints = declare_batch(runtime.rt, runtime.alloc, catalog, requests, store, threads)?;
     let plan = Plan {
         batch: next.batch,
         first: next.stamp.next,
         footprints: footprints.as_slice(),
     };
-    let Some(cut) = cut_of(alloc, crew, &plan)? else {
-        return Ok(execute_in_order(alloc, catalog, store, &plan)?);
+    let Some(cut) = cut_of(runtime, &plan)? else {
+        return Ok(execute_in_order(runtime.alloc, catalog, store, &plan)?);
     };
-    let book = run_levels(alloc, crew, catalog, store, &plan, &cut)?;
+    let book = run_levels(runtime, catalog, store, &plan, &cut)?;
     Ok(Pass {
         replies: book.in_order().unwrap(),
         strayed: false,

@@ -1,7 +1,8 @@
-//! Gates that count, and gates that wait.
+//! Gates that count, that keep strays, and that wait.
 
 use std::hint::spin_loop;
 use std::sync::atomic::{AtomicBool, AtomicU64, Ordering};
+use tpcc_rows::granule::Granule;
 use workers::Gate;
 
 /// Counts the calls for each of three places.
@@ -45,6 +46,49 @@ impl CountingGate {
     /// How often each place was entered, and how often it was left.
     pub fn counts(&self) -> ([u64; 3], [u64; 3]) {
         (values(&self.entered), values(&self.left))
+    }
+}
+
+/// Keeps the place that strayed last, and the number of the customer that it hadn't declared: 0 for another granule.
+#[derive(Drop)]
+pub struct StrayGate {
+    place: AtomicU64,
+    customer: AtomicU64,
+}
+
+/// A customer's number, or 0.
+fn customer_of(granule: Option<Granule>) -> u64 {
+    match granule {
+        Some(Granule::Customer { customer, .. }) => u64::from(customer.number()),
+        _ => 0,
+    }
+}
+
+impl Gate for StrayGate {
+    fn enter(&self, _: usize) {}
+
+    fn leave(&self, _: usize) {}
+
+    fn strayed(&self, place: usize, granule: Option<Granule>) {
+        self.place.store(place as u64, Ordering::SeqCst);
+        self.customer.store(customer_of(granule), Ordering::SeqCst);
+    }
+}
+
+impl StrayGate {
+    pub fn new() -> StrayGate {
+        StrayGate {
+            place: AtomicU64::new(u64::MAX),
+            customer: AtomicU64::new(0),
+        }
+    }
+
+    pub fn place(&self) -> u64 {
+        self.place.load(Ordering::SeqCst)
+    }
+
+    pub fn customer(&self) -> u64 {
+        self.customer.load(Ordering::SeqCst)
     }
 }
 

@@ -7,7 +7,7 @@ ghost use Rattle.tickets.specs.declared.size.TheConstants.{MOST_PLACES};
 
 use crate::batches::ORDER_AND_DELIVERY;
 use crate::database::{Database, batch_of};
-use crate::gates::{CountingGate, MeetingGate};
+use crate::gates::{CountingGate, MeetingGate, StrayGate};
 use requests::request::Batch;
 use requests::write_reply;
 use rollback::PointedStore;
@@ -18,7 +18,8 @@ use tickets::{Desk, Seat};
 use tpcc_rows::footprint::Footprint;
 use tpcc_rows::id::RequestNumber;
 use tpcc_rows::key::RowKey;
-use workers::{Gate, LevelEnd, NoGate, PlaceOutcome, Workers, run_level, run_seat};
+use transactions::Stop;
+use workers::{Db, Done, Gate, Level, NoGate, Plan, Runtime, Workers, run_level, run_seat};
 
 const TWO_PAYMENTS: &str = "P,1,1,1,1,I,1,1000\nP,2,3,2,3,I,2,1000";
 
@@ -89,48 +90,47 @@ fn declared_itself<R: Threads + Sync>(
 
 /// The requests at some places of a batch.
 fn run_at<R: Threads + Sync, G: Gate>(
-    rt: &R,
-    alloc: Global,
+    runtime: &Runtime<'_, R, G>,
     database: &Database,
     declared: &Declared,
     places: &[usize],
-    workers: Workers,
-    gate: &G,
-) -> Option<LevelEnd>
+) -> Result<Vec<Done>, Stop>
     requires some { 1 ≤ length places.now }
     requires few { length places.now ≤ MOST_PLACES }
     requires rising { IsStrictlyIncreasing places.now }
     requires there { All (λ place. place < length declared.now.batch.requests) places.now }
     requires each { length declared.now.footprints.items ≡ length declared.now.batch.requests }
+    requires requests { 1 ≤ length declared.now.batch.requests }
     requires short { length declared.now.batch.requests ≤ MOST_PLACES }
 {
-    let Declared { batch, footprints } = declared;
-    let (catalog, store) = (&database.catalog, &database.store);
-    run_level(
-        rt, alloc, catalog, store, batch, 7, places, footprints, workers, gate,
-    )
-    .ok()
+    let db = Db {
+        catalog: &database.catalog,
+        store: &database.store,
+    };
+    let plan = Plan {
+        batch: &declared.batch,
+        first: 7,
+        footprints: declared.footprints.as_slice(),
+    };
+    run_level(runtime, db, &Level { plan, places })
 }
 
 /// All requests of a batch of two, three or nine, in one level.
 fn run_all<R: Threads + Sync, G: Gate>(
-    rt: &R,
-    alloc: Global,
+    runtime: &Runtime<'_, R, G>,
     database: &Database,
     declared: &Declared,
-    workers: Workers,
-    gate: &G,
-) -> Option<LevelEnd> {
+) -> Option<Result<Vec<Done>, Stop>> {
     let count = declared.batch.requests.len();
     if declared.footprints.len() != count {
         return None;
     }
     if count == 2 {
-        run_at(rt, alloc, database, declared, &[0, 1], workers, gate)
+        Some(run_at(runtime, database, declared, &[0, 1]))
     } else if count == 3 {
-        run_at(rt, alloc, database, declared, &[0, 1, 2], workers, gate)
+        Some(run_at(runtime, database, declared, &[0, 1, 2]))
     } else if count == 9 {
-        run_at(rt, alloc, database, declared, &NINE, workers, gate)
+        Some(run_at(runtime, database, declared, &NINE))
     } else {
         None
     }
@@ -144,42 +144,54 @@ fn run_one<R: Threads + Sync, G: Gate>(
     declared: &Declared,
     place: usize,
     gate: &G,
-) -> Option<LevelEnd> {
+) -> Option<Result<Vec<Done>, Stop>> {
     if declared.batch.requests.len() != 2 || declared.footprints.len() != 2 || 1 < place {
         return None;
     }
-    let workers = Workers::new(64)?;
-    run_at(rt, alloc, database, declared, &[place], workers, gate)
+    let runtime = Runtime {
+        rt,
+        alloc,
+        workers: Workers::new(64)?,
+        gate,
+    };
+    Some(run_at(&runtime, database, declared, &[place]))
 }
 
 // ---- what is shown
 
 /// The reply's record, and whether the changes have a row of HISTORY with the request's number.
-fn show_outcome(rt: &impl Print, alloc: Global, outcome: &PlaceOutcome) -> Option<()> {
-    let number = RequestNumber::new((outcome.place as u64).saturating_add(7))?;
+fn show_done(rt: &impl Print, alloc: Global, done: &Done) -> Option<()> {
+    let number = RequestNumber::new((done.place as u64).saturating_add(7))?;
     let mut out = Vec::new(alloc);
-    write_reply(alloc, number, &outcome.reply, &mut out).ok()?;
+    write_reply(alloc, number, &done.reply, &mut out).ok()?;
     let _ = rt.write_all(out.as_slice());
-    let has_history = outcome.changes.get(&RowKey::History { number }).is_some();
+    let has_history = done.changes.get(&RowKey::History { number }).is_some();
     let _ = println!(rt; "with a row of HISTORY: {has_history}");
     Some(())
 }
 
-fn show_outcomes(rt: &impl Print, alloc: Global, outcomes: &[PlaceOutcome]) -> Option<()> {
-    for outcome in outcomes {
-        show_outcome(rt, alloc, outcome)?;
+fn show_all_done(rt: &impl Print, alloc: Global, all: &[Done]) -> Option<()> {
+    for done in all {
+        show_done(rt, alloc, done)?;
     }
     Some(())
 }
 
-fn show_end(rt: &impl Print, alloc: Global, end: &LevelEnd) -> Option<()> {
+fn show_end(rt: &impl Print, alloc: Global, end: &Result<Vec<Done>, Stop>) -> Option<()> {
     match end {
-        LevelEnd::Done(outcomes) => show_outcomes(rt, alloc, outcomes)?,
-        LevelEnd::Strayed(place) => {
-            let _ = println!(rt; "place {place} strays");
+        Ok(all) => show_all_done(rt, alloc, all)?,
+        Err(Stop::Strayed) => {
+            let _ = println!(rt; "strays");
         }
+        Err(Stop::Memory) => return None,
     }
     Some(())
+}
+
+/// Which place strayed, and the customer that it hadn't declared.
+fn show_stray(rt: &impl Print, gate: &StrayGate) {
+    let (place, customer) = (gate.place(), gate.customer());
+    let _ = println!(rt; "place {place} strays at customer {customer}");
 }
 
 /// How often each place was entered, and how often it was left.
@@ -197,8 +209,13 @@ fn show_all<R: Threads + Sync + Print, G: Gate>(
     count: usize,
     gate: &G,
 ) -> Option<()> {
-    let workers = Workers::new(count)?;
-    let end = run_all(rt, alloc, database, declared, workers, gate)?;
+    let runtime = Runtime {
+        rt,
+        alloc,
+        workers: Workers::new(count)?,
+        gate,
+    };
+    let end = run_all(&runtime, database, declared)?;
     show_end(rt, alloc, &end)
 }
 
@@ -213,6 +230,20 @@ fn show_counted<R: Threads + Sync + Print>(
     let gate = CountingGate::new();
     show_all(rt, alloc, database, declared, count, &gate)?;
     show_counts(rt, &gate);
+    Some(())
+}
+
+/// All requests of a batch, one of which strays.
+fn show_strayed<R: Threads + Sync + Print>(
+    rt: &R,
+    alloc: Global,
+    database: &Database,
+    declared: &Declared,
+    count: usize,
+) -> Option<()> {
+    let gate = StrayGate::new();
+    show_all(rt, alloc, database, declared, count, &gate)?;
+    show_stray(rt, &gate);
     Some(())
 }
 
@@ -242,7 +273,7 @@ fn show_payments<R: Threads + Sync + Print>(
     for count in &WORKERS {
         let _ = println!(rt; "by {count} workers");
         show_counted(rt, alloc, database, declared, *count)?;
-        show_all(rt, alloc, database, other, *count, &NoGate)?;
+        show_strayed(rt, alloc, database, other, *count)?;
     }
     let gate = CountingGate::new();
     show_one(rt, alloc, database, declared, 1, &gate)?;
@@ -250,11 +281,9 @@ fn show_payments<R: Threads + Sync + Print>(
     Some(())
 }
 
-fn apply(store: &mut PointedStore, end: LevelEnd) -> Option<()> {
-    if let LevelEnd::Done(outcomes) = end {
-        for outcome in outcomes {
-            store.apply(outcome.changes).ok()?;
-        }
+fn apply(store: &mut PointedStore, end: Result<Vec<Done>, Stop>) -> Option<()> {
+    for done in end.ok()? {
+        store.apply(done.changes).ok()?;
     }
     Some(())
 }
@@ -280,7 +309,10 @@ fn show_delivery<R: Threads + Sync + Print>(
     let both = declared_itself(rt, alloc, database, ORDER_AND_DELIVERY)?;
     show_one(rt, alloc, database, &both, 1, &NoGate)?;
     apply_order(rt, alloc, database, &both)?;
-    show_one(rt, alloc, database, &both, 1, &NoGate)
+    let gate = StrayGate::new();
+    show_one(rt, alloc, database, &both, 1, &gate)?;
+    show_stray(rt, &gate);
+    Some(())
 }
 
 // ---- one worker, and strays
@@ -304,11 +336,12 @@ fn show_strays<R: Threads + Sync + Print>(
     for others in &STRAYS {
         let three = declared_as(rt, alloc, database, THREE_PAYMENTS, *others)?;
         show_counted(rt, alloc, database, &three, 1)?;
+        show_strayed(rt, alloc, database, &three, 1)?;
     }
     Some(())
 }
 
-/// Whatever the number of workers, the answer is a place that strays.
+/// Whatever the number of workers, the gate is told of a place that strays.
 fn show_any_stray<R: Threads + Sync + Print>(
     rt: &R,
     alloc: Global,
@@ -316,9 +349,15 @@ fn show_any_stray<R: Threads + Sync + Print>(
     declared: &Declared,
 ) -> Option<()> {
     for count in &WORKERS {
-        let workers = Workers::new(*count)?;
-        let end = run_all(rt, alloc, database, declared, workers, &NoGate)?;
-        let strays = matches!(end, LevelEnd::Strayed(0) | LevelEnd::Strayed(1));
+        let gate = StrayGate::new();
+        let runtime = Runtime {
+            rt,
+            alloc,
+            workers: Workers::new(*count)?,
+            gate: &gate,
+        };
+        let end = run_all(&runtime, database, declared)?;
+        let strays = matches!(end, Err(Stop::Strayed)) && gate.place() < 2;
         let _ = println!(rt; "one of the first two strays by {count} workers: {strays}");
     }
     Some(())
@@ -343,17 +382,26 @@ fn drawn_by_each<R: Threads + Sync, G: Gate>(
     requires requests { length declared.now.batch.requests ≡ 2 }
     requires footprints { length declared.now.footprints.items ≡ 2 }
 {
-    let Declared { batch, footprints } = declared;
-    let (catalog, store) = (&database.catalog, &database.store);
+    let db = Db {
+        catalog: &database.catalog,
+        store: &database.store,
+    };
+    let plan = Plan {
+        batch: &declared.batch,
+        first: 7,
+        footprints: declared.footprints.as_slice(),
+    };
+    let level = Level {
+        plan,
+        places: &BOTH,
+    };
     thread::map_vec(
         rt,
         seats,
         &|mut seat: Seat| -> Option<usize>
-            requires { IsNewSeatOf desk.now seat × (places_of desk.now ≡ 2) × (length batch.now.requests ≡ 2) × (length footprints.now.items ≡ 2) }
+            requires { IsNewSeatOf desk.now seat × (places_of desk.now ≡ length level.places.now) }
         {
-            let part = run_seat(
-                alloc, catalog, store, batch, 7, &BOTH, footprints, desk, &mut seat, gate,
-            );
+            let part = run_seat(alloc, db, &level, desk, &mut seat, gate);
             Some(part.ok()?.len())
         },
     )

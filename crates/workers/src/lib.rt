@@ -3,15 +3,20 @@
 #![tactic(auto)]
 
 mod alone;
-mod batch_level;
 mod filing;
 mod gate;
+mod job;
 mod level;
 mod part;
-mod placed_request;
+mod plan;
+mod runtime;
+mod stray;
 
 pub use gate::{Gate, NoGate};
-pub use level::{LevelEnd, run_level};
-pub use part::{Outcome, run_seat};
-pub use placed_request::PlaceOutcome;
+pub use job::{Done, Job};
+pub use level::run_level;
+pub use part::run_seat;
+pub use plan::{Db, Level, Plan};
+pub use runtime::Runtime;
+pub use stray::tell_stray;
 pub use tickets::Workers;

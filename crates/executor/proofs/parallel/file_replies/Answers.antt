@@ -2,7 +2,7 @@ use Rattle.std.proofs.Common.{rules, ◌≡◌, ◌+◌, ◌<◌, ◌≤◌, Lis
 use Rattle.gather.specs.Books.{with_reply}
 use Rattle.requests.specs.declared.reply.Reply.{Reply}
 use Rattle.tpcc_rows.specs.declared.id.TheConstants.{END_OF_NUMBERS}
-use Rattle.workers.specs.declared.placed_request.PlaceOutcome.{PlaceOutcome}
+use Rattle.workers.specs.declared.job.Done.{Done}
 use Rattle.executor.specs.Filing.{Awaits, FilesEach}
 use Rattle.executor.proofs.Filing.{FilesRest, all_behind, awaited_behind, file_one, files_more, first_awaited, is_ok_where_awaited, kept_more, not_filed, rising_behind, where_ok}
 use Rattle.executor.proofs.parallel.file_replies.Goals as goal
@@ -20,7 +20,7 @@ unwrap-requires c =
 
 pub loop-outcome-preserved : goal.loop-outcome-preserved
 loop-outcome-preserved c =
-    let told : List PlaceOutcome → List (ℕ × Reply) = map (λ (done : PlaceOutcome). (c.args.first + done.place, done.reply)) in
+    let told : List Done → List (ℕ × Reply) = map (λ (done : Done). (c.args.first + done.place, done.reply)) in
     let one = c.in-Some.outcome in
     let book = c.loop-outcome.book in
     let before = c.loop-outcome.outcome-iterator.rest.items in
@@ -39,11 +39,11 @@ loop-outcome-preserved c =
     let told_here : FilesEach ((c.args.first + one.place, one.reply) ∷ []) book c.file.new.self =
     subst (λ (n : ℕ). FilesEach ((n, one.reply) ∷ []) book c.file.new.self) numbered filed in
     record {
-      within = all_behind (λ (done : PlaceOutcome). c.args.first + done.place < END_OF_NUMBERS) before left one are c.loop-outcome.invariant.within;
+      within = all_behind (λ (done : Done). c.args.first + done.place < END_OF_NUMBERS) before left one are c.loop-outcome.invariant.within;
       rising = rising_behind one before left are c.loop-outcome.invariant.rising;
       awaited = awaited_behind book c.file.new.self c.unwrap-number.result one.reply one before left here is are c.loop-outcome.invariant.rising c.loop-outcome.invariant.awaited;
       filed =
           files_more (told c.args.outcomes.items) ((c.args.first + one.place, one.reply) ∷ []) (told left) c.args.book.now book c.file.new.self told_here
-          (subst (λ (xs : List PlaceOutcome). FilesRest (told c.args.outcomes.items) (told xs) c.args.book.now book) are c.loop-outcome.invariant.filed);
-      changes = kept_more (λ (done : PlaceOutcome). done.changes) c.loop-outcome.deltas.items c.push.new.self.items _ before left one c.in_ok-push.ensures.items are c.loop-outcome.invariant.changes;
+          (subst (λ (xs : List Done). FilesRest (told c.args.outcomes.items) (told xs) c.args.book.now book) are c.loop-outcome.invariant.filed);
+      changes = kept_more (λ (done : Done). done.changes) c.loop-outcome.deltas.items c.push.new.self.items _ before left one c.in_ok-push.ensures.items are c.loop-outcome.invariant.changes;
     }
