@@ -23,8 +23,8 @@ pub file_replies-requires-clause-awaited : goal.file_replies-requires-clause-awa
 file_replies-requires-clause-awaited g c =
     of_places (Awaits c.args.book.now) c.in_ok-outcomes.outcomes.items c.args.level.now.places.now c.in_ok-outcomes.ensures.in_order c.requires.awaited
 
-pub returns-in_ok-apply_each-clause-rows : goal.returns-in_ok-apply_each-clause-rows
-returns-in_ok-apply_each-clause-rows g c =
+pub returns-clause-rows : goal.returns-clause-rows
+returns-clause-rows g c =
     let rows = c.args.store.now.rows in
     let outcomes = c.in_ok-outcomes.outcomes.items in
     c.in_ok-apply_each.ensures.rows
@@ -32,7 +32,7 @@ returns-in_ok-apply_each-clause-rows g c =
     ∙ after_outcomes outcomes rows
     ∙ rows_after_level c.args.catalog.now rows c.args.level.now outcomes c.in_ok-outcomes.ensures
 
-pub returns-in_ok-apply_each-clause-others : goal.returns-in_ok-apply_each-clause-others
-returns-in_ok-apply_each-clause-others g c =
+pub returns-clause-others : goal.returns-clause-others
+returns-clause-others g c =
     let level = c.args.level.now in
     awaits_others level.plan.first level.places.now c.in_ok-outcomes.outcomes.items c.args.book.now c.file_replies.new.book c.requires.book c.in_ok-outcomes.ensures.in_order c.in_ok-deltas.ensures.filed
