@@ -17,3 +17,4 @@ pub mod Headlines
 pub mod CleanLeaves
 pub mod SerialLines
 pub mod Returns
+pub mod InTurn

@@ -1,4 +1,4 @@
--- A batch executed in order, each request within what it declared.
+-- A batch executed in order, each request within what is told of it, or within what it touches by the cards if nothing is.
 use Rattle.std.specs.Prelude.{◌≡◌, ℕ, Bool, List}
 use Rattle.serializability.specs.InTurn.{strays_in_turn}
 use Rattle.serializability.specs.Levels as levels
@@ -9,6 +9,7 @@ use Rattle.catalog.specs.CardMap.{Cards}
 use Rattle.requests.specs.declared.reply.Reply.{Reply}
 use Rattle.requests.specs.declared.request.Batch.{Batch}
 use Rattle.requests.specs.declared.request.Request.{Request}
+use Rattle.profiles.specs.Moving.{completed, completed_at}
 use Rattle.tpcc_model.specs.Database.{database}
 use Rattle.tpcc_model.specs.Machine.{tpcc}
 use Rattle.tpcc_model.specs.Serial.{State}
@@ -16,24 +17,24 @@ use Rattle.tpcc_model.specs.Soundness.{IsSound}
 use Rattle.tpcc_model.specs.Steps.{replies, rows_after}
 use Rattle.executor.specs.LevelRuns.{declared_footprints, strays_by}
 use Rattle.executor.specs.States.{AreWithinLimits}
-use Rattle.executor.specs.declared.in_order.Declared.{Declared}
-use Rattle.workers.specs.declared.plan.Plan.{Plan}
+use Rattle.executor.specs.declared.turn.PlanInTurn.{PlanInTurn}
+use Rattle.executor.specs.declared.turn.Told.{Told}
 
--- a request of a batch as a job
-abbrev pub job_of : Declared → Job Granule Request
-job_of declared = record { number = declared.number; request = declared.request.now; declared = declared.footprint.now }
+-- a request of a batch as a job, by what is told of it
+abbrev pub told_job : Cards → Told → Job Granule Request
+told_job cards told = record { number = told.number; request = told.request.now; declared = completed_at cards told.request.now told.footprint.now }
 
 -- the replies and rows of a planned batch, executed in order
-abbrev pub plan_replies_in_turn : Cards → Rows → Plan → List Reply
+abbrev pub plan_replies_in_turn : Cards → Rows → PlanInTurn → List Reply
 plan_replies_in_turn cards rows plan = replies (database cards rows) plan.batch.now.moment plan.first plan.batch.now.requests
 
-abbrev pub plan_rows_in_turn : Cards → Rows → Plan → Rows
+abbrev pub plan_rows_in_turn : Cards → Rows → PlanInTurn → Rows
 plan_rows_in_turn cards rows plan = rows_after (database cards rows) plan.batch.now.moment plan.first plan.batch.now.requests
 
--- some request touches more than it declared, on the rows that those before it leave
-abbrev pub plan_strays_in_turn : Cards → Rows → Plan → Bool
+-- some request touches more than was told of it, on the rows that those before it leave
+abbrev pub plan_strays_in_turn : Cards → Rows → PlanInTurn → Bool
 plan_strays_in_turn cards rows plan
-    = strays_in_turn (tpcc cards plan.batch.now.moment) rows (levels.jobs plan.first plan.batch.now.requests plan.footprints.now)
+    = strays_in_turn (tpcc cards plan.batch.now.moment) rows (levels.jobs plan.first plan.batch.now.requests (completed cards plan.batch.now.requests plan.told.now))
 
 -- the law: exactly then the batch strays, by its requests' declared footprints and any numbers of granules
 abbrev pub StraysAreInTurn : Type 0

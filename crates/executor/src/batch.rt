@@ -127,12 +127,13 @@ impl Engine {
 
     /// The token of a batch that met the state with this stamp, gave these replies and left the present rows. Hashes the dirty
     /// leaves, on at most `threads` threads, after which none is dirty.
-    fn token_of<R: Threads + Sync>(
+    fn token_of<R: Threads + Sync, G: Gate>(
         &mut self,
         rt: &R,
         stamp: &Stamp,
         replies: &[Reply],
         threads: usize,
+        gate: &G,
     ) -> [u8; 32]
         requires sequence { stamp.now.sequence < LAST_NUMBER }
         requires numbers { stamp.now.next + length replies.now ≤ END_OF_NUMBERS }
@@ -143,6 +144,7 @@ impl Engine {
         ensures cards { self.new.catalog ≡ self.old.catalog }
     {
         let dirty = self.store.take_dirty();
+        gate.refreshes(&dirty);
         self.tree.refresh(rt, &self.store, &dirty, threads);
         let parts = TokenParts {
             sequence: stamp.sequence + 1,
@@ -174,7 +176,7 @@ impl Engine {
     {
         let threads = threads_of(&workers);
         let (replies, path) = self.replies_of(rt, alloc, next, workers, gate, point)?;
-        let token = self.token_of(rt, &next.stamp, &replies, threads);
+        let token = self.token_of(rt, &next.stamp, &replies, threads, gate);
         Ok(Record {
             sequence: next.stamp.sequence + 1,
             first: next.stamp.next,

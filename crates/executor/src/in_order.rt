@@ -1,27 +1,27 @@
-//! Executes a batch in order on one thread, each request on the rows that it declared.
+//! Executes a batch in order on one thread, each request on the rows that it declared, or on all rows if it can't stray.
 ghost use Rattle.std.specs.Prelude.{◌≡◌, ◌||◌, IfOk, OnOk};
 ghost use Rattle.serializability.specs.Levels.{job_strays};
-ghost use Rattle.executor.specs.InOrder.{job_of, plan_replies_in_turn, plan_rows_in_turn, plan_strays_in_turn};
+ghost use Rattle.executor.specs.InOrder.{plan_replies_in_turn, plan_rows_in_turn, plan_strays_in_turn, told_job};
 ghost use Rattle.rollback.specs.Pointed.{KeepsCleanLeaves};
 ghost use Rattle.tpcc_model.specs.Database.{database};
 ghost use Rattle.tpcc_model.specs.Machine.{tpcc};
 ghost use Rattle.tpcc_model.specs.Steps.{step};
 ghost use Rattle.transactions.specs.Outcomes.{IsOutcome};
+ghost use Rattle.workers.specs.LevelEnds.{job_of};
 
 use crate::sequential::executed;
+use crate::turn::{PlanInTurn, Told};
 use catalog::Catalog;
 use requests::reply::Reply;
-use requests::request::Request;
 use rollback::PointedStore;
-use std::alloc::Global;
+use std::thread::Threads;
 use tpcc_rows::delta::Delta;
-use tpcc_rows::footprint::Footprint;
 use tpcc_rows::id::RequestNumber;
 use tpcc_rows::memory::Memory;
 use tpcc_rows::number::Moment;
 use transactions::{Stop, execute};
 use worker_rows::Loan;
-use workers::Plan;
+use workers::{Db, Gate, Job, Runtime, tell_stray};
 
 /// The replies to a batch, in order, and whether it strays.
 #[derive(Drop)]
@@ -30,51 +30,80 @@ pub(crate) struct Pass {
     pub strayed: bool,
 }
 
-/// A request of a batch, with its number, moment and declared footprint.
-#[derive(Clone, Copy)]
-struct Declared<'a> {
-    number: RequestNumber,
-    moment: Moment,
-    request: &'a Request,
-    footprint: &'a Footprint,
-}
-
 /// The outcome of a request: on the rows that it declared, or on all rows once one has strayed, itself included.
-fn executed_within(
-    alloc: Global,
+fn executed_within<R: Threads + Sync, G: Gate>(
+    runtime: &Runtime<'_, R, G>,
     catalog: &Catalog,
-    declared: &Declared<'_>,
+    job: &Job<'_>,
     store: &PointedStore,
     strayed: &mut bool,
 ) -> Result<(Reply, Delta), Memory>
-    ensures outcome { IfOk result (IsOutcome (step (database catalog.now store.now.rows) declared.now.request.now declared.now.number declared.now.moment)) }
-    ensures strayed { OnOk result (strayed.new ≡ (strayed.old || job_strays (tpcc catalog.now declared.now.moment) store.now.rows (job_of declared.now))) }
+    ensures outcome { IfOk result (IsOutcome (step (database catalog.now store.now.rows) job.now.request.now job.now.number job.now.moment)) }
+    ensures strayed { OnOk result (strayed.new ≡ (strayed.old || job_strays (tpcc catalog.now job.now.moment) store.now.rows (job_of job.now))) }
 {
-    let Declared {
+    let Job {
         number,
         moment,
         request,
         footprint,
-    } = *declared;
+        ..
+    } = *job;
+    let alloc = runtime.alloc;
     if !*strayed {
         let loan = Loan { store, footprint };
         match execute(alloc, catalog, request, number, moment, &loan) {
             Ok(done) => return Ok(done),
             Err(Stop::Memory) => return Err(Memory),
-            Err(Stop::Strayed) => *strayed = true,
+            Err(Stop::Strayed) => {
+                *strayed = true;
+                tell_stray(runtime, Db { catalog, store }, job);
+            }
         }
     }
     executed(alloc, catalog, request, number, moment, store)
 }
 
+/// The outcome of a request: on the rows that it declared; on all rows if nothing is told of it, or once one has strayed.
+fn executed_as_told<R: Threads + Sync, G: Gate>(
+    runtime: &Runtime<'_, R, G>,
+    catalog: &Catalog,
+    told: &Told<'_>,
+    store: &PointedStore,
+    strayed: &mut bool,
+) -> Result<(Reply, Delta), Memory>
+    ensures outcome { IfOk result (IsOutcome (step (database catalog.now store.now.rows) told.now.request.now told.now.number told.now.moment)) }
+    ensures strayed { OnOk result (strayed.new ≡ (strayed.old || job_strays (tpcc catalog.now told.now.moment) store.now.rows (told_job catalog.now told.now))) }
+{
+    let Told {
+        place,
+        number,
+        moment,
+        request,
+        footprint,
+    } = *told;
+    match footprint {
+        Some(footprint) => {
+            let job = Job {
+                place,
+                number,
+                moment,
+                request,
+                footprint,
+            };
+            executed_within(runtime, catalog, &job, store, strayed)
+        }
+        None => executed(runtime.alloc, catalog, request, number, moment, store),
+    }
+}
+
 /// Executes the requests of a batch one after the other, and applies the changes of each before the next. If an allocation
 /// fails, some of the changes have been applied.
 #[tactic(auto, unfolding(tpcc_rows::specs::Changing::after))]
-pub(crate) fn execute_in_order(
-    alloc: Global,
+pub(crate) fn execute_in_order<R: Threads + Sync, G: Gate>(
+    runtime: &Runtime<'_, R, G>,
     catalog: &Catalog,
     store: &mut PointedStore,
-    plan: &Plan<'_>,
+    plan: &PlanInTurn<'_>,
 ) -> Result<Pass, Memory>
     ensures replies { IfOk result (λ pass. pass.replies.items ≡ plan_replies_in_turn catalog.now store.old.rows plan.now) }
     ensures rows { OnOk result (store.new.rows ≡ plan_rows_in_turn catalog.now store.old.rows plan.now) }
@@ -82,16 +111,17 @@ pub(crate) fn execute_in_order(
     ensures points { store.new.points ≡ store.old.points }
     ensures clean { KeepsCleanLeaves store.old store.new }
 {
-    let mut replies = Vec::with_capacity(alloc, plan.batch.requests.len())?;
+    let mut replies = Vec::with_capacity(runtime.alloc, plan.batch.requests.len())?;
     let mut strayed = false;
     for (place, request) in plan.batch.requests.as_slice().iter().enumerate() {
-        let declared = Declared {
+        let told = Told {
+            place,
             number: RequestNumber::new(plan.first + place as u64).unwrap(),
             moment: plan.batch.moment,
             request,
-            footprint: &plan.footprints[place],
+            footprint: &plan.told[place],
         };
-        let (reply, delta) = executed_within(alloc, catalog, &declared, store, &mut strayed)?;
+        let (reply, delta) = executed_as_told(runtime, catalog, &told, store, &mut strayed)?;
         store.apply(delta)?;
         replies.push(reply)?;
     }

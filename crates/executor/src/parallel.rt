@@ -13,19 +13,20 @@ ghost use Rattle.rollback.specs.Pointed.{KeepsCleanLeaves};
 ghost use Rattle.tpcc_model.specs.Serial.{batch_replies, batch_rows};
 ghost use Rattle.workers.specs.LevelEnds.{StraysWhere, level_replies, level_rows, level_strays};
 
-use crate::in_order::{Pass, execute_in_order};
+use crate::in_order::Pass;
 use crate::laws::{cuts, declared_levels, strays_in_turn};
 use crate::next_batch::NextBatch;
+use crate::paying::{may_pay, paying_cut};
+use crate::told::{execute_declared, execute_moving};
 use catalog::Catalog;
 use gather::ReplyBook;
-use mixer::{Cut, mix, mix_exactly};
+use mixer::{Cut, mix};
 use profiles::declare_batch;
 use requests::reply::Reply;
 use rollback::PointedStore;
 use std::alloc::Global;
 use std::thread::Threads;
 use tpcc_rows::delta::Delta;
-use tpcc_rows::footprint::Footprint;
 use tpcc_rows::id::{END_OF_NUMBERS, RequestNumber};
 use tpcc_rows::memory::Memory;
 use transactions::Stop;
@@ -92,45 +93,14 @@ fn settle_level<R: Threads + Sync, G: Gate>(
     Ok(())
 }
 
-/// Minimum average level size for which threads pay: starting one takes as long as executing a dozen requests or more, and
-/// each level starts its own.
-const REQUESTS_A_LEVEL: usize = 128;
-
-/// Whether the levels are too small for threads to pay.
-fn is_thin(cut: &Cut, requests: usize) -> bool {
-    cut.depth() > requests / REQUESTS_A_LEVEL
-}
-
-/// The levels to execute a batch by; `None` if threads don't pay.
-fn paying_cut(
-    alloc: Global,
-    footprints: &[Footprint],
-    workers: usize,
-) -> Result<Option<Cut>, Memory>
-    requires { length footprints.now ≤ 1024 }
-    ensures { IfOk result (λ cut. IfSome cut (λ cut. IsCutBySome footprints.now cut)) }
-{
-    if workers == 1 || footprints.len() < REQUESTS_A_LEVEL {
-        return Ok(None);
-    }
-    let cut = mix_exactly(alloc, footprints)?;
-    if is_thin(&cut, footprints.len()) {
-        return Ok(None);
-    }
-    Ok(Some(cut))
-}
-
 /// The levels to execute a batch by: those by signatures if a gate listens, else those by granules, or `None` if threads don't pay.
-fn cut_of<R, G: Gate>(
-    runtime: &Runtime<'_, R, G>,
-    plan: &Plan<'_>,
-) -> Result<Option<Cut>, Memory>
+fn cut_of<R, G: Gate>(runtime: &Runtime<'_, R, G>, plan: &Plan<'_>) -> Result<Option<Cut>, Memory>
     ensures { IfOk result (λ cut. IfSome cut (λ cut. IsCutBySome plan.now.footprints.now cut)) }
 {
     if runtime.gate.is_told() {
         return Ok(Some(mix(runtime.alloc, plan.footprints)?));
     }
-    paying_cut(runtime.alloc, plan.footprints, runtime.workers.count())
+    paying_cut(runtime.alloc, plan.footprints)
 }
 
 /// Executes the levels of a batch one after the other, until a request strays.
@@ -167,7 +137,7 @@ fn run_levels<R: Threads + Sync, G: Gate>(
 
 /// Executes a batch level by level, by the footprints that its requests declare on the rows that it meets. Stops if a request
 /// strays; then, and if an allocation fails, the rows are in no defined state. If threads don't pay and no gate listens, the
-/// batch is executed in order instead, to its end.
+/// batch is executed in order instead, to its end; if that is plain beforehand, its moving requests alone declare.
 pub(crate) fn execute_parallel<R: Threads + Sync, G: Gate>(
     runtime: &Runtime<'_, R, G>,
     catalog: &Catalog,
@@ -194,6 +164,9 @@ pub(crate) fn execute_parallel<R: Threads + Sync, G: Gate>(
     next.keep_within();
     let requests = next.batch.requests.as_slice();
     let threads = runtime.workers.count();
+    if !runtime.gate.is_told() && !may_pay(requests, threads) {
+        return Ok(execute_moving(runtime, catalog, store, next)?);
+    }
     let footprints = declare_batch(runtime.rt, runtime.alloc, catalog, requests, store, threads)?;
     let plan = Plan {
         batch: next.batch,
@@ -201,7 +174,7 @@ pub(crate) fn execute_parallel<R: Threads + Sync, G: Gate>(
         footprints: footprints.as_slice(),
     };
     let Some(cut) = cut_of(runtime, &plan)? else {
-        return Ok(execute_in_order(runtime.alloc, catalog, store, &plan)?);
+        return Ok(execute_declared(runtime, catalog, store, next, footprints)?);
     };
     let book = run_levels(runtime, catalog, store, &plan, &cut)?;
     Ok(Pass {

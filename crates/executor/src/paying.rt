@@ -1,0 +1,70 @@
+//! Whether threads pay. It only chooses between two ways that have one result, so no contract here says when they do.
+ghost use Rattle.std.specs.Prelude.{◌<◌, ◌≤◌, IfOk, IfSome, length};
+ghost use Rattle.executor.specs.LevelRuns.{IsCutBySome};
+
+use mixer::{Cut, mix_exactly};
+use requests::request::Request;
+use std::alloc::Global;
+use tpcc_rows::footprint::Footprint;
+use tpcc_rows::memory::Memory;
+
+/// Minimum average level size for which threads pay: starting one takes as long as executing a dozen requests or more, and
+/// each level starts its own.
+const REQUESTS_A_LEVEL: usize = 128;
+
+/// The most levels of so many requests for which threads pay.
+fn most_levels(requests: usize) -> usize {
+    requests / REQUESTS_A_LEVEL
+}
+
+/// Warehouses stand from 1 on, and the districts of each at ten times its number and 100 more.
+const ROWS: usize = 1_111;
+
+/// The row that a request writes and any other of its kind there: a Payment its warehouse's, a New-Order its district's with
+/// the next order number.
+fn shared_row(request: &Request) -> Option<usize>
+    ensures { IfSome result (λ row. row < ROWS) }
+{
+    match request {
+        Request::Payment(p) => Some(usize::from(p.warehouse.number())),
+        Request::NewOrder(p) => {
+            let warehouse = usize::from(p.warehouse.number());
+            Some(100 + warehouse * 10 + usize::from(p.district.number()))
+        }
+        _ => None,
+    }
+}
+
+/// Whether no row is sure to have more writers than this, of which each is on a level of its own. A request counts that is
+/// refused, and so writes nothing.
+fn is_shallow(requests: &[Request], most: usize) -> bool {
+    let mut writers = [0u16; ROWS];
+    for request in requests {
+        if let Some(row) = shared_row(request) {
+            writers[row] = writers[row].saturating_add(1);
+            if usize::from(writers[row]) > most {
+                return false;
+            }
+        }
+    }
+    true
+}
+
+/// Whether threads may pay for these requests, told before any declares.
+pub(crate) fn may_pay(requests: &[Request], workers: usize) -> bool {
+    workers > 1
+        && requests.len() >= REQUESTS_A_LEVEL
+        && is_shallow(requests, most_levels(requests.len()))
+}
+
+/// The levels to execute a batch by; `None` if they are too small for threads to pay.
+pub(crate) fn paying_cut(alloc: Global, footprints: &[Footprint]) -> Result<Option<Cut>, Memory>
+    requires { length footprints.now ≤ 1024 }
+    ensures { IfOk result (λ cut. IfSome cut (λ cut. IsCutBySome footprints.now cut)) }
+{
+    let cut = mix_exactly(alloc, footprints)?;
+    if cut.depth() > most_levels(footprints.len()) {
+        return Ok(None);
+    }
+    Ok(Some(cut))
+}

@@ -1,0 +1,102 @@
+//! Executes a batch in order, by what is told of its requests as it begins.
+ghost use Rattle.std.specs.Prelude.{◌≡◌, IfOk, OnOk, Some, length, map};
+ghost use Rattle.executor.specs.LevelRuns.{declared_footprints, strays};
+ghost use Rattle.executor.specs.Lines.{state_of};
+ghost use Rattle.executor.specs.States.{IsSoundState};
+ghost use Rattle.profiles.specs.Moving.{TellsMoving, completed};
+ghost use Rattle.rollback.specs.Pointed.{KeepsCleanLeaves};
+ghost use Rattle.tpcc_model.specs.Serial.{batch_replies, batch_rows};
+
+use crate::in_order::{Pass, execute_in_order};
+use crate::laws::strays_in_turn;
+use crate::next_batch::NextBatch;
+use crate::turn::PlanInTurn;
+use catalog::Catalog;
+use profiles::declare_moving;
+use rollback::PointedStore;
+use std::alloc::Global;
+use std::thread::Threads;
+use tpcc_rows::footprint::Footprint;
+use tpcc_rows::memory::Memory;
+use workers::{Gate, Runtime};
+
+/// Executes a batch in order, where this is told of its requests.
+fn execute_told<R: Threads + Sync, G: Gate>(
+    runtime: &Runtime<'_, R, G>,
+    catalog: &Catalog,
+    store: &mut PointedStore,
+    next: &NextBatch<'_>,
+    told: &[Option<Footprint>],
+) -> Result<Pass, Memory>
+    requires sound { IsSoundState catalog.now (state_of store.old.rows next.now.stamp) }
+    requires each { length told.now ≡ length next.now.batch.now.requests }
+    requires moving { TellsMoving next.now.batch.now.requests told.now }
+    requires declared { completed catalog.now next.now.batch.now.requests told.now ≡ declared_footprints catalog.now (state_of store.old.rows next.now.stamp) next.now.batch.now }
+    ensures strayed { IfOk result (λ pass. pass.strayed ≡ strays catalog.now (state_of store.old.rows next.now.stamp) next.now.batch.now) }
+    ensures replies { IfOk result (λ pass. pass.replies.items ≡ batch_replies catalog.now (state_of store.old.rows next.now.stamp) next.now.batch.now) }
+    ensures rows { OnOk result (store.new.rows ≡ batch_rows catalog.now (state_of store.old.rows next.now.stamp) next.now.batch.now) }
+    ensures points { store.new.points ≡ store.old.points }
+    ensures clean { KeepsCleanLeaves store.old store.new }
+{
+    strays_in_turn();
+    next.keep_within();
+    let plan = PlanInTurn {
+        batch: next.batch,
+        first: next.stamp.next,
+        told,
+    };
+    execute_in_order(runtime, catalog, store, &plan)
+}
+
+/// Executes a batch in order, where its moving requests alone declare. If an allocation fails, the rows are in no defined state.
+pub(crate) fn execute_moving<R: Threads + Sync, G: Gate>(
+    runtime: &Runtime<'_, R, G>,
+    catalog: &Catalog,
+    store: &mut PointedStore,
+    next: &NextBatch<'_>,
+) -> Result<Pass, Memory>
+    requires sound { IsSoundState catalog.now (state_of store.old.rows next.now.stamp) }
+    ensures strayed { IfOk result (λ pass. pass.strayed ≡ strays catalog.now (state_of store.old.rows next.now.stamp) next.now.batch.now) }
+    ensures replies { IfOk result (λ pass. pass.replies.items ≡ batch_replies catalog.now (state_of store.old.rows next.now.stamp) next.now.batch.now) }
+    ensures rows { OnOk result (store.new.rows ≡ batch_rows catalog.now (state_of store.old.rows next.now.stamp) next.now.batch.now) }
+    ensures points { store.new.points ≡ store.old.points }
+    ensures clean { KeepsCleanLeaves store.old store.new }
+{
+    let requests = next.batch.requests.as_slice();
+    let threads = runtime.workers.count();
+    let told = declare_moving(runtime.rt, runtime.alloc, catalog, requests, store, threads)?;
+    execute_told(runtime, catalog, store, next, told.as_slice())
+}
+
+/// Each footprint, as it is told of its request.
+fn each_told(alloc: Global, footprints: Vec<Footprint>) -> Result<Vec<Option<Footprint>>, Memory>
+    ensures { IfOk result (λ told. told.items ≡ map Some footprints.items) }
+{
+    let mut told = Vec::with_capacity(alloc, footprints.len())?;
+    for footprint in footprints {
+        told.push(Some(footprint))?;
+    }
+    Ok(told)
+}
+
+/// Executes a batch in order, where each request has declared its footprint. If an allocation fails, the rows are in no defined
+/// state.
+pub(crate) fn execute_declared<R: Threads + Sync, G: Gate>(
+    runtime: &Runtime<'_, R, G>,
+    catalog: &Catalog,
+    store: &mut PointedStore,
+    next: &NextBatch<'_>,
+    footprints: Vec<Footprint>,
+) -> Result<Pass, Memory>
+    requires sound { IsSoundState catalog.now (state_of store.old.rows next.now.stamp) }
+    requires each { length footprints.items ≡ length next.now.batch.now.requests }
+    requires declared { footprints.items ≡ declared_footprints catalog.now (state_of store.old.rows next.now.stamp) next.now.batch.now }
+    ensures strayed { IfOk result (λ pass. pass.strayed ≡ strays catalog.now (state_of store.old.rows next.now.stamp) next.now.batch.now) }
+    ensures replies { IfOk result (λ pass. pass.replies.items ≡ batch_replies catalog.now (state_of store.old.rows next.now.stamp) next.now.batch.now) }
+    ensures rows { OnOk result (store.new.rows ≡ batch_rows catalog.now (state_of store.old.rows next.now.stamp) next.now.batch.now) }
+    ensures points { store.new.points ≡ store.old.points }
+    ensures clean { KeepsCleanLeaves store.old store.new }
+{
+    let told = each_told(runtime.alloc, footprints)?;
+    execute_told(runtime, catalog, store, next, told.as_slice())
+}

@@ -1,0 +1,35 @@
+//! A batch to execute in order, and what is told of its requests.
+ghost use Rattle.std.specs.Prelude.{◌≡◌, ◌+◌, ◌≤◌, None, length, true};
+ghost use Rattle.executor.specs.declared.next_batch.TheConstants.{MOST_REQUESTS};
+ghost use Rattle.profiles.specs.Moving.{TellsMoving, is_settled};
+ghost use Rattle.tpcc_rows.specs.declared.id.TheConstants.{END_OF_NUMBERS};
+
+use requests::request::{Batch, Request};
+use tpcc_rows::footprint::Footprint;
+use tpcc_rows::id::RequestNumber;
+use tpcc_rows::number::Moment;
+
+/// A batch, the number of its first request, and what is told of each request: the footprint that it declared, or nothing, if
+/// cards alone settle what it touches.
+#[derive(Clone, Copy)]
+pub(crate) struct PlanInTurn<'a> {
+    pub batch: &'a Batch,
+    pub first: u64,
+    pub told: &'a [Option<Footprint>],
+    pub ghost few: { length batch.now.requests ≤ MOST_REQUESTS },
+    pub ghost each: { length told.now ≡ length batch.now.requests },
+    pub ghost moving: { TellsMoving batch.now.requests told.now },
+    pub ghost low: { 1 ≤ first },
+    pub ghost high: { first + length batch.now.requests ≤ END_OF_NUMBERS },
+}
+
+/// The request at `place` in a batch, with its number, its moment and what is told of it.
+#[derive(Clone, Copy)]
+pub(crate) struct Told<'a> {
+    pub place: usize,
+    pub number: RequestNumber,
+    pub moment: Moment,
+    pub request: &'a Request,
+    pub footprint: &'a Option<Footprint>,
+    pub ghost moving: { footprint.now ≡ None → is_settled request.now ≡ true },
+}
