@@ -13,7 +13,7 @@ use Rattle.executor.proofs.LevelResults.{as_many, cut_levels, filed_in_order, no
 use Rattle.executor.proofs.parallel.execute_parallel.Goals as goal
 
 pub execute_declared-requires-clause-declared : goal.execute_declared-requires-clause-declared
-execute_declared-requires-clause-declared g c =
+execute_declared-requires-clause-declared g c κs lives =
     let cards = c.args.catalog.now in
     let state = state_of c.args.store.now.rows c.args.next.now.stamp in
     c.in_ok-footprints.ensures.declared c.requires.sound.database ∙ ap (declared (database cards state.rows)) c.as_slice-requests.ensures

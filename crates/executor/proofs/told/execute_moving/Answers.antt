@@ -9,7 +9,7 @@ use Rattle.tpcc_model.specs.Database.{database}
 use Rattle.executor.proofs.told.execute_moving.Goals as goal
 
 pub execute_told-requires-clause-each : goal.execute_told-requires-clause-each
-execute_told-requires-clause-each g c =
+execute_told-requires-clause-each g c κs lives =
     let requests = c.args.next.now.batch.now.requests in
     let told = c.in_ok-told.told.items in
     let moving : map is_none told ≡ map is_settled requests = c.in_ok-told.ensures.moving ∙ ap (map is_settled) c.as_slice-requests.ensures in
@@ -19,14 +19,14 @@ execute_told-requires-clause-each g c =
     ∙ length-map requests is_settled
 
 pub execute_told-requires-clause-moving : goal.execute_told-requires-clause-moving
-execute_told-requires-clause-moving g c =
+execute_told-requires-clause-moving g c κs lives =
     let requests = c.args.next.now.batch.now.requests in
     let told = c.in_ok-told.told.items in
     let moving : map is_none told ≡ map is_settled requests = c.in_ok-told.ensures.moving ∙ ap (map is_settled) c.as_slice-requests.ensures in
     subst (TellsMoving requests) (sym c.as_slice.ensures.value) (tells_moving requests told moving)
 
 pub execute_told-requires-clause-declared : goal.execute_told-requires-clause-declared
-execute_told-requires-clause-declared g c =
+execute_told-requires-clause-declared g c κs lives =
     let cards = c.args.catalog.now in
     let requests = c.args.next.now.batch.now.requests in
     let rows = c.args.store.now.rows in
