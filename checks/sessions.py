@@ -1,12 +1,15 @@
 #!/usr/bin/env python3
-"""sessions.py PROGRAM: runs the sessions of README.md, docs/, examples/ and the helps, and compares what they print line by line.
+"""sessions.py PROGRAM: runs the sessions of README.md, docs/, examples/ and the helps, and compares what they print line by line; and
+runs the program with `--stats`.
 
 PROGRAM is the built eve-tpcc. A session is a block indented by four spaces (in a help by two) that begins with `$ `; each such line is a
 command, and the lines up to the next one are what it prints. The sessions of a document share a folder, in which `examples` and `crates`
 are the repository's, `requests.csv` is that of the examples, and `eve-tpcc` is the program. `cat` of a missing file creates it with the lines
-shown. A command has a minute. Then each `old:` line of every wrong body must occur once in its file, as `rt must-fail` requires. Prints
+shown. A command has a minute. With `--stats` a command writes the same bytes, and its statistics agree with them. Then each `old:` line of every wrong body must occur once in its file, as `rt must-fail` requires. Prints
 what failed, then `N passed, M failed`. Ends with status 1 if anything failed."""
+import csv
 import glob
+import json
 import os
 import re
 import shutil
@@ -17,6 +20,11 @@ import tempfile
 TOP = os.path.dirname(os.path.dirname(os.path.abspath(__file__)))
 HELPS = 'for name in make check run serve; do eve-tpcc $name --help; done'
 SECONDS = 60
+KINDS = ['new-order', 'payment', 'order-status', 'delivery', 'stock-level']
+REFUSALS = ['Item number is not valid', 'Unknown key', 'Limit reached']
+PATHS = ['parallel', 'reran', 'verdict', 'sequential']
+PARTS = ['load', 'read', 'execute', 'hash', 'write', 'store']
+MEMBERS = ['batches', 'requests', 'replies', 'paths', 'levels', 'strays', 'first_stray', 'dirty_leaves', 'seconds', 'peak_memory_bytes']
 
 
 def blocks(lines, indent):
@@ -81,6 +89,51 @@ def sessions(document, program):
                 yield None if got == wanted else f'{name}: $ {command}\n  wanted {wanted}\n  got    {got}'
 
 
+def counted(text):
+    """The part of the statistics that a text of replies tells."""
+    rows = [row for row in csv.reader(text.splitlines()) if len(row) > 2]
+    replies = [(row[1], row[4] if row[2] == 'refused' else None) for row in rows if row[0].isdigit()]
+    paths = [row[2] for row in rows if row[0] == 'batch']
+    return {'batches': len(paths), 'requests': len(replies),
+            'replies': {kind: {'done': replies.count((kind, None)),
+                               'refused': {refusal: replies.count((kind, refusal)) for refusal in REFUSALS}} for kind in KINDS},
+            'paths': {path: paths.count(path) for path in PATHS}}
+
+
+def statistics_fault(program, words, stdin, folder):
+    """What is wrong with the statistics of a command, or nothing."""
+    plain, told = [subprocess.run([program, *words, *more], cwd=folder, input=stdin, capture_output=True, timeout=SECONDS, check=False)
+                   for more in ([], ['--stats'])]
+    if (plain.stdout, plain.returncode) != (told.stdout, told.returncode):
+        return 'another output or status'
+    lines = told.stderr.decode().splitlines()
+    if lines[:-1] != plain.stderr.decode().splitlines():
+        return f'other lines before the object: {lines}'
+    found, wanted = json.loads(lines[-1]), counted(told.stdout.decode())
+    if [*found] != MEMBERS or [*found['seconds']] != PARTS:
+        return f'other members: {found}'
+    if not 0 < found['peak_memory_bytes'] < 1 << 32 or not 0 < sum(found['seconds'].values()) < SECONDS:
+        return f'no time or memory: {found}'
+    return None if {name: found[name] for name in wanted} == wanted else f'wanted {wanted}, got {found}'
+
+
+def statistics(program):
+    """Runs commands with and without `--stats`; for each, what is wrong, or nothing."""
+    with tempfile.TemporaryDirectory() as folder:
+        make_room(folder, program)
+        with open(os.path.join(folder, 'small.csv'), 'wb') as file:
+            file.write(subprocess.run([program, 'make', '1', '7', '5'], capture_output=True, timeout=SECONDS, check=True).stdout)
+        with open(os.path.join(folder, 'requests.csv'), 'rb') as file:
+            text = file.read()
+        stamp = ['--from', '1,7,' + 64 * 'a']
+        for words, stdin in ((['run', 'small.csv', 'requests.csv'], b''), (['run', 'small.csv', '-', '--workers', '2'], 9 * text),
+                             (['run', 'small.csv', 'requests.csv', '--store', 'later.csv'], b''),
+                             (['run', 'small.csv', 'requests.csv', *stamp, '--at'], b''), (['run', 'small.csv', '-'], text + b'B,1,commit'),
+                             (['serve', 'small.csv'], text + b'R,0\nT\nC\nX\n' + text), (['serve', 'small.csv', *stamp], text + b'C\nB')):
+            fault = statistics_fault(program, words, stdin, folder)
+            yield fault and f'{" ".join(words)} --stats: {fault}'
+
+
 def wrong_bodies():
     """For each wrong body, what is wrong with its `old:` lines, or nothing."""
     for edit in sorted(glob.glob(f'{TOP}/crates/*/must-fail/*.edit') + glob.glob(f'{TOP}/checks/wrong_bodies/*/*.edit')):
@@ -104,7 +157,7 @@ def wrong_bodies():
 def main(program):
     documents = [f'{TOP}/README.md', *sorted(glob.glob(f'{TOP}/docs/*.md') + glob.glob(f'{TOP}/examples/**/*.md', recursive=True))]
     told = [fault for document in [*documents, None] for fault in sessions(document, os.path.abspath(program))]
-    told += wrong_bodies()
+    told += [*statistics(os.path.abspath(program)), *wrong_bodies()]
     faults = [fault for fault in told if fault]
     for fault in faults:
         print(fault)

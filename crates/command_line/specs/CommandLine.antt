@@ -81,10 +81,17 @@ at_rule = record (new_rule (codes "at")) {
   action = Some SetTrue;
 }
 
--- run IMAGE BATCHES [--workers N] [--store FILE] [--from SEQ,NEXT,TOKEN] [--at]
+-- the flag `--stats`
+abbrev pub stats_rule : Rule
+stats_rule = record (new_rule (codes "stats")) {
+  long = Some (codes "stats");
+  action = Some SetTrue;
+}
+
+-- run IMAGE BATCHES [--workers N] [--store FILE] [--from SEQ,NEXT,TOKEN] [--at] [--stats]
 abbrev pub run_app : App
-run_app = with_rule (with_rule (with_rule (with_rule (with_rule (with_rule (new_app (codes "run")) image_rule) batches_rule)
-    workers_rule) store_rule) from_rule) at_rule
+run_app = with_rule (with_rule (with_rule (with_rule (with_rule (with_rule (with_rule (new_app (codes "run")) image_rule) batches_rule)
+    workers_rule) store_rule) from_rule) at_rule) stats_rule
 
 -- check IMAGE
 abbrev pub check_app : App
@@ -95,9 +102,9 @@ abbrev pub make_app : App
 make_app = with_rule (with_rule (with_rule (new_app (codes "make")) warehouses_rule) customers_rule)
     items_rule
 
--- serve IMAGE [--workers N] [--from SEQ,NEXT,TOKEN]
+-- serve IMAGE [--workers N] [--from SEQ,NEXT,TOKEN] [--stats]
 abbrev pub serve_app : App
-serve_app = with_rule (with_rule (with_rule (new_app (codes "serve")) image_rule) workers_rule) from_rule
+serve_app = with_rule (with_rule (with_rule (with_rule (new_app (codes "serve")) image_rule) workers_rule) from_rule) stats_rule
 
 -- the program without its subcommands, one of which has to be given; it has a version
 abbrev pub bare_app : App
@@ -152,28 +159,30 @@ HasNumber rows id number = IsSomeAnd (first_of id rows) (λ text. Spells text nu
 
 -- the line is that of the subcommand that was met, by its name and its rows
 abbrev pub IsLineOf : Line → Text × List Row → Type 0
-IsLineOf (Run image batches workers store from at) met =
+IsLineOf (Run image batches workers store from at stats) met =
     (met.0 ≡ codes "run") × HasText met.1 (codes "IMAGE") image
     × HasText met.1 (codes "BATCHES") batches
     × HasNumber met.1 (codes "workers") workers
     × HasOption met.1 (codes "store") store
     × HasOption met.1 (codes "from") from
     × HasFlag met.1 (codes "at") at
+    × HasFlag met.1 (codes "stats") stats
 IsLineOf (Check image) met = (met.0 ≡ codes "check") × HasText met.1 (codes "IMAGE") image
 IsLineOf (Make warehouses customers items) met =
     (met.0 ≡ codes "make") × HasNumber met.1 (codes "W") warehouses
     × HasNumber met.1 (codes "C") customers × HasNumber met.1 (codes "I") items
-IsLineOf (Serve image workers from) met =
+IsLineOf (Serve image workers from stats) met =
     (met.0 ≡ codes "serve") × HasText met.1 (codes "IMAGE") image × HasNumber met.1 (codes "workers") workers
     × HasOption met.1 (codes "from") from
+    × HasFlag met.1 (codes "stats") stats
 
 -- the numbers of the line are within their bounds
 abbrev pub IsWithinBounds : Line → Type 0
-IsWithinBounds (Run image batches workers store from at) = IsInRange 1 64 workers
+IsWithinBounds (Run image batches workers store from at stats) = IsInRange 1 64 workers
 IsWithinBounds (Check image) = ⊤
 IsWithinBounds (Make warehouses customers items) =
     IsInRange 1 100 warehouses × IsInRange 1 3000 customers × IsInRange 1 100000 items
-IsWithinBounds (Serve image workers from) = IsInRange 1 64 workers
+IsWithinBounds (Serve image workers from stats) = IsInRange 1 64 workers
 
 -- ---- why the words are no line
 

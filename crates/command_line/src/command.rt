@@ -4,7 +4,7 @@ ghost use Rattle.clap.specs.Words.{new_app};
 ghost use Rattle.clap.specs.declared.builder.value_parser.ValueParser.TheVariants.{Signed};
 ghost use Rattle.command_line.specs.CommandLine.{IsArgument, IsCommand, Joins, at_rule, bare_app, check_app, from_rule, make_app};
 ghost use Rattle.command_line.specs.CommandLine.{number_rule, program_app, ranged_rule, required_rule, run_app};
-ghost use Rattle.command_line.specs.CommandLine.{serve_app, store_rule, workers_rule};
+ghost use Rattle.command_line.specs.CommandLine.{serve_app, stats_rule, store_rule, workers_rule};
 
 use crate::help::{CHECK, MAKE, PROGRAM, RUN, SERVE};
 use clap::builder::ValueParser;
@@ -78,7 +78,7 @@ fn from<'a>(alloc: Global) -> Arg<'a>
     Arg::new(alloc, "from")
         .long("from")
         .value_name("SEQ,NEXT,TOKEN")
-        .help("Where the image's state stands, as --at or the command A told it")
+        .help("The stamp to resume at, as --at or the command A prints it")
 }
 
 fn at<'a>(alloc: Global) -> Arg<'a>
@@ -87,7 +87,16 @@ fn at<'a>(alloc: Global) -> Arg<'a>
     Arg::new(alloc, "at")
         .long("at")
         .action(ArgAction::SetTrue)
-        .help("Tells on standard error where the last state stands: at,SEQ,NEXT,TOKEN")
+        .help("Prints the stamp of the last state on standard error: at,SEQ,NEXT,TOKEN")
+}
+
+fn stats<'a>(alloc: Global) -> Arg<'a>
+    ensures { IsArgument stats_rule result }
+{
+    Arg::new(alloc, "stats")
+        .long("stats")
+        .action(ArgAction::SetTrue)
+        .help("Prints statistics on standard error at the end: a JSON object on one line")
 }
 
 /// A subcommand, with its help.
@@ -111,7 +120,8 @@ fn run<'a>(alloc: Global) -> Result<Command<'a>, AllocError>
     .arg(workers(alloc))?
     .arg(store(alloc))?
     .arg(from(alloc))?
-    .arg(at(alloc))
+    .arg(at(alloc))?
+    .arg(stats(alloc))
 }
 
 fn check<'a>(alloc: Global) -> Result<Command<'a>, AllocError>
@@ -147,7 +157,8 @@ fn serve<'a>(alloc: Global) -> Result<Command<'a>, AllocError>
     )
     .arg(required(alloc, "IMAGE", SERVED_IMAGE))?
     .arg(workers(alloc))?
-    .arg(from(alloc))
+    .arg(from(alloc))?
+    .arg(stats(alloc))
 }
 
 /// The program without its subcommands. Usage shows its name as given here, whatever the first word is.

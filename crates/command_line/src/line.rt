@@ -28,6 +28,8 @@ pub enum Line {
         from: Option<String>,
         /// Whether to print the stamp of the last state.
         at: bool,
+        /// Whether to print statistics.
+        stats: bool,
     },
     /// Checks the image of a database.
     Check {
@@ -51,6 +53,8 @@ pub enum Line {
         workers: Workers,
         /// The stamp of the image's state, `SEQ,NEXT,TOKEN`; by default the state is one before any batch.
         from: Option<String>,
+        /// Whether to print statistics.
+        stats: bool,
     },
 }
 

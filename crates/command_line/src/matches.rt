@@ -83,6 +83,7 @@ fn run_in(alloc: Global, matches: &ArgMatches) -> Option<Line>
         store: option_of(alloc, matches, "store").ok()?,
         from: option_of(alloc, matches, "from").ok()?,
         at: flag_of(matches, "at")?,
+        stats: flag_of(matches, "stats")?,
     })
 }
 
@@ -114,6 +115,7 @@ fn serve_in(alloc: Global, matches: &ArgMatches) -> Option<Line>
         image: text_of(alloc, matches, "IMAGE")?,
         workers: Workers::new(workers as usize)?,
         from: option_of(alloc, matches, "from").ok()?,
+        stats: flag_of(matches, "stats")?,
     })
 }
 

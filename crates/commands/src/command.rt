@@ -9,11 +9,11 @@ pub enum Control {
     Commit,
     /// Rolls back to the state after the batch of this number.
     RollbackTo(u64),
-    /// Prints the present state's number and token.
+    /// Asks for the present state's number and token.
     State,
-    /// Writes the image of the present state.
+    /// Asks for the image of the present state.
     Image,
-    /// Prints the present stamp.
+    /// Asks for the present state's stamp.
     At,
 }
 
@@ -25,7 +25,7 @@ pub enum Command {
     Control(Control),
 }
 
-/// What is wrong with a record, and the record's number.
+/// The fault of a record, and the record's number.
 #[derive(Clone, Copy)]
 pub struct RecordFault {
     pub number: u64,

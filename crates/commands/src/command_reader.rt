@@ -22,7 +22,7 @@ enum Standing {
 }
 
 /// Reads commands one by one, each as soon as its last record's line end has come. A faulty record counts as a command, and the
-/// records behind it are skipped up to the next that names a command.
+/// records after it are skipped up to the next that names a command.
 #[derive(Drop)]
 pub struct CommandReader {
     records: RecordReader,

@@ -1,5 +1,4 @@
-//! The commands of a session, as the records of a text that is read as it comes: batches to execute, commits, rollbacks and
-//! questions.
+//! Reads the commands of a session from a text as its bytes come: batches to execute, commits, rollbacks and queries.
 #![tactic(auto)]
 
 mod chunk;

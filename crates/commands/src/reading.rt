@@ -17,7 +17,7 @@ use requests::request::{Batch, Requests};
 use requests::request_record::request;
 use std::alloc::Global;
 
-/// Reads the first record of a command: the next one, or behind a fault the next that names a command. Returns the number of bytes
+/// Reads the first record of a command: the next one, or after a fault the next that names a command. Returns the number of bytes
 /// of the command read so far.
 fn next_opening<S: Source>(
     records: &mut RecordReader,

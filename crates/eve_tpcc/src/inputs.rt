@@ -1,14 +1,14 @@
-//! The files that a line of the command line names to be read, of which one may be standard input.
+//! Input files as the command line names them: `-` is standard input.
 
 /// The name of standard input.
 const STANDARD_INPUT: &str = "-";
 
-/// Whether standard input is named.
+/// Whether a name stands for standard input.
 pub fn is_standard_input(name: &str) -> bool {
     name == STANDARD_INPUT
 }
 
-/// The path of the file that is named.
+/// The path of a named file.
 pub fn path_of<'a>(name: &'a str) -> &'a str {
     if is_standard_input(name) {
         "/dev/stdin"

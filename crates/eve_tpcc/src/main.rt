@@ -2,21 +2,32 @@
 //! command line, opens files, and prints what the crates below return.
 #![tactic(auto)]
 
+ghost use Rattle.std.specs.Prelude.{IfSome};
+ghost use Rattle.executor.specs.Stamps.{IsWithinLimits};
 ghost use Rattle.tpcc_rows.specs.Limits.{IsBetween};
 
 mod inputs;
+mod peak_memory;
 mod progress;
 mod resuming;
+mod statistics;
+mod stopwatch;
 mod store_file;
+mod summary;
+mod tally;
 
 use crate::inputs::{is_standard_input, path_of};
 use crate::progress::{Shown, shown_batches, shown_bytes};
-use crate::resuming::{Asked, run_asked, serve_from, stamp_from};
+use crate::resuming::{RunOptions, run_resumed, serve_from, stamp_from};
+use crate::statistics::Statistics;
 use crate::store_file::open_store;
 use command_line::{Line, LineFault, WordsFault, line_of, line_status, words_of};
+use executor::Stamp;
 use hashers::Host;
 use records::io::Counting;
-use runner::{StoredRunFault, check_text, make_text, run_and_store, run_text, stored_line};
+use runner::{
+    Observer, StoredRunFault, check_text, make_text, run_and_store, run_text, stored_line,
+};
 use session::serve;
 use std::io::Input;
 use std::process::ExitCode;
@@ -25,7 +36,7 @@ use std::thread::Threads;
 use std::time::Clock;
 use std::{fs, io, str};
 use telling::Telling;
-use workers::{NoGate, Workers};
+use workers::Workers;
 
 /// What is counted while the image is read.
 const IMAGE_READ: &str = "bytes of the image read";
@@ -55,12 +66,13 @@ fn report(rt: &impl Eprint, fault: &StoredRunFault) -> ExitCode {
 }
 
 #[inline(never)]
-fn run<R: Files + Print + Eprint + AllocGlobal + Clock + Host>(
+fn run<R: Files + Print + Eprint + AllocGlobal + Clock + Host, G: Observer>(
     rt: &R,
     image: &str,
     batches: &str,
     workers: Workers,
     shown: Shown,
+    observer: &G,
 ) -> ExitCode
 where
     R::File: Drop,
@@ -88,7 +100,7 @@ where
         &mut batches_source,
         &mut output,
         workers,
-        &NoGate,
+        observer,
     );
     match ran {
         Ok(_) => ExitCode::SUCCESS,
@@ -98,13 +110,14 @@ where
 
 /// Runs batches, and writes the image of the last state to the file at `path`.
 #[inline(never)]
-fn run_stored<R: Files + Print + Eprint + AllocGlobal + Clock + Host>(
+fn run_stored<R: Files + Print + Eprint + AllocGlobal + Clock + Host, G: Observer>(
     rt: &R,
     image: &str,
     batches: &str,
     workers: Workers,
     path: &str,
     shown: Shown,
+    observer: &G,
 ) -> ExitCode
 where
     R::File: Drop,
@@ -137,7 +150,7 @@ where
         &mut output,
         &mut tables,
         workers,
-        &NoGate,
+        observer,
     );
     match ran {
         Ok(_) => ExitCode::SUCCESS,
@@ -192,10 +205,11 @@ fn make<R: Print + Eprint + AllocGlobal + Clock>(
 }
 
 #[inline(never)]
-fn serve_commands<R: Files + Input + Print + Eprint + AllocGlobal + Host>(
+fn serve_commands<R: Files + Input + Print + Eprint + AllocGlobal + Host, G: Observer>(
     rt: &R,
     image: &str,
     workers: Workers,
+    observer: &G,
 ) -> ExitCode
 where
     R::File: Drop,
@@ -213,7 +227,7 @@ where
         &mut input,
         &mut output,
         workers,
-        &NoGate,
+        observer,
     );
     match served {
         Ok(()) => ExitCode::SUCCESS,
@@ -240,7 +254,7 @@ fn explain<R: Print + Eprint>(rt: &R, fault: &LineFault) -> ExitCode {
     ExitCode::from(line_status(fault))
 }
 
-/// Says that standard input can be read for one thing alone.
+/// Reports that standard input is named twice, or already has the commands.
 fn input_taken(rt: &impl Eprint) -> ExitCode {
     let _ = eprintln!(rt; "eve-tpcc: command line: standard input is taken already");
     ExitCode::from(2)
@@ -253,82 +267,83 @@ fn text_of(text: &Option<String>) -> Option<&str> {
     }
 }
 
-/// Runs batches from the stamp given as `from`, if any, and prints the last state's stamp if `at`.
-fn run_from<R: Files + Print + Eprint + AllocGlobal + Host>(
+/// Runs batches with these options from a stamp on, if there is one.
+fn run_with<R: Files + Print + Eprint + AllocGlobal + Clock + Host, G: Observer>(
     rt: &R,
-    image: &str,
-    batches: &str,
-    workers: Workers,
-    store: Option<&str>,
-    from: Option<&str>,
-    at: bool,
+    options: &RunOptions<'_>,
+    from: &Option<Stamp>,
+    shown: Shown,
+    observer: &G,
 ) -> ExitCode
 where
     R::File: Drop,
+    requires { IfSome from.now IsWithinLimits }
 {
-    match stamp_from(rt, from) {
-        Ok(from) => run_asked(
-            rt,
-            &Asked {
-                image,
-                batches,
-                workers,
-                store,
-                at,
-            },
-            &from,
-        ),
-        Err(status) => status,
+    let (image, batches, workers) = (options.image, options.batches, options.workers);
+    match (options.store, from, options.at) {
+        (None, None, false) => run(rt, image, batches, workers, shown, observer),
+        (Some(path), None, false) => {
+            run_stored(rt, image, batches, workers, path, shown, observer)
+        }
+        _ => run_resumed(rt, options, from, observer),
     }
 }
 
-/// Runs batches on the database of an image, as the line asks. One of the two may be standard input.
+/// Runs batches on the database of an image, and then prints statistics if wanted. One of the two files may be standard input.
 fn run_line<R: Files + Print + Eprint + AllocGlobal + Clock + Host>(
     rt: &R,
-    image: &str,
-    batches: &str,
-    workers: Workers,
-    store: Option<&str>,
+    options: &RunOptions<'_>,
     from: Option<&str>,
-    at: bool,
+    stats: bool,
     shown: Shown,
 ) -> ExitCode
 where
     R::File: Drop,
 {
-    if is_standard_input(image) && is_standard_input(batches) {
+    if is_standard_input(options.image) && is_standard_input(options.batches) {
         return input_taken(rt);
     }
-    let (image, batches) = (path_of(image), path_of(batches));
-    match (store, from, at) {
-        (None, None, false) => run(rt, image, batches, workers, shown),
-        (Some(path), None, false) => run_stored(rt, image, batches, workers, path, shown),
-        (store, from, at) => run_from(rt, image, batches, workers, store, from, at),
-    }
+    let from = match stamp_from(rt, from) {
+        Ok(from) => from,
+        Err(status) => return status,
+    };
+    let options = RunOptions {
+        image: path_of(options.image),
+        batches: path_of(options.batches),
+        ..*options
+    };
+    let statistics = Statistics::new(rt, stats);
+    let status = run_with(rt, &options, &from, shown, &statistics);
+    statistics.print();
+    status
 }
 
-/// Answers commands from the stamp that a word gives.
-fn serve_resumed<R: Files + Input + Print + Eprint + AllocGlobal + Host>(
+/// Answers commands on the database of an image from a stamp on, if there is one.
+fn serve_with<R: Files + Input + Print + Eprint + AllocGlobal + Host, G: Observer>(
     rt: &R,
     image: &str,
     workers: Workers,
-    word: &str,
+    from: &Option<Stamp>,
+    observer: &G,
 ) -> ExitCode
 where
     R::File: Drop,
+    requires { IfSome from.now IsWithinLimits }
 {
-    match stamp_from(rt, Some(word)) {
-        Ok(from) => serve_from(rt, image, workers, &from),
-        Err(status) => status,
+    match from {
+        None => serve_commands(rt, image, workers, observer),
+        Some(_) => serve_from(rt, image, workers, from, observer),
     }
 }
 
-/// Answers commands on the database of an image, which standard input can't be, since it has the commands.
-fn serve_line<R: Files + Input + Print + Eprint + AllocGlobal + Host>(
+/// Answers commands on the database of an image, and then prints statistics if wanted. The image can't be standard input, which
+/// has the commands.
+fn serve_line<R: Files + Input + Print + Eprint + AllocGlobal + Clock + Host>(
     rt: &R,
     image: &str,
     workers: Workers,
     from: Option<&str>,
+    stats: bool,
 ) -> ExitCode
 where
     R::File: Drop,
@@ -336,10 +351,14 @@ where
     if is_standard_input(image) {
         return input_taken(rt);
     }
-    match from {
-        None => serve_commands(rt, image, workers),
-        Some(word) => serve_resumed(rt, image, workers, word),
-    }
+    let from = match stamp_from(rt, from) {
+        Ok(from) => from,
+        Err(status) => return status,
+    };
+    let statistics = Statistics::new(rt, stats);
+    let status = serve_with(rt, image, workers, &from, &statistics);
+    statistics.print();
+    status
 }
 
 fn main(rt: HostRuntime) -> ExitCode {
@@ -357,15 +376,19 @@ fn main(rt: HostRuntime) -> ExitCode {
                 store,
                 from,
                 at,
+                stats,
             },
         ) => run_line(
             &rt,
-            image.as_str(),
-            batches.as_str(),
-            workers,
-            text_of(&store),
+            &RunOptions {
+                image: image.as_str(),
+                batches: batches.as_str(),
+                workers,
+                store: text_of(&store),
+                at,
+            },
             text_of(&from),
-            at,
+            stats,
             shown,
         ),
         Ok(Line::Check { image }) => check(&rt, path_of(image.as_str()), shown),
@@ -381,8 +404,9 @@ fn main(rt: HostRuntime) -> ExitCode {
                 image,
                 workers,
                 from,
+                stats,
             },
-        ) => serve_line(&rt, image.as_str(), workers, text_of(&from)),
+        ) => serve_line(&rt, image.as_str(), workers, text_of(&from), stats),
         Err(fault) => explain(&rt, &fault),
     }
 }

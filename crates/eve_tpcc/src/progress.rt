@@ -1,8 +1,8 @@
-//! How far the work is: a line on standard error, once a second from the second second on.
+//! Progress: a line on standard error about once a second.
 use std::io::{IsTerminal, Read, Result, Write};
 use std::time::{Clock, Instant};
 
-/// Whether the progress of the work is shown.
+/// Whether progress is shown.
 #[derive(Clone, Copy)]
 pub struct Shown {
     is_shown: bool,
@@ -17,14 +17,14 @@ impl Shown {
     }
 }
 
-/// What is counted of work that goes on, and shown.
+/// A count that is shown as it grows.
 #[derive(Drop)]
 struct Progress<'a, R> {
     rt: &'a R,
     /// What is counted.
     what: &'a str,
     count: u64,
-    /// When the work began, or the last line was shown; none where no line is.
+    /// When the work began or the last line was shown; `None` if none is to be shown.
     since: Option<Instant>,
 }
 
@@ -91,6 +91,7 @@ impl<R: Eprint + Clock, T: Write> Write for ShownBytes<'_, R, T> {
     }
 }
 
+/// A reader or a writer that shows how many bytes passed.
 pub fn shown_bytes<'a, R: Eprint + Clock, T>(
     rt: &'a R,
     inner: T,
@@ -112,6 +113,7 @@ pub struct ShownBatches<'a, R, T> {
     is_first: bool,
 }
 
+/// A writer of replies that shows how many batches passed.
 pub fn shown_batches<'a, R: Eprint + Clock, T>(
     rt: &'a R,
     inner: T,

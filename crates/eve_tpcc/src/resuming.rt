@@ -9,16 +9,18 @@ use executor::{Executor, NumbersTaken, Stamp};
 use hashers::Host;
 use records::io::Counting;
 use runner::stamp_text::{stamp_line, stamp_of};
-use runner::{ResumedFault, RunFault, StoredRunFault, load_told, run_and_store_on, run_from};
+use runner::{
+    Observer, Phase, ResumedFault, RunFault, StoredRunFault, load_told, run_and_store_on, run_from,
+};
 use session::serve_on;
 use std::io::Input;
 use std::process::ExitCode;
 use std::rt::Files;
 use std::{fs, io, str};
 use telling::Telling;
-use workers::{NoGate, Workers};
+use workers::Workers;
 
-/// The stamp that the word of `--from` gives, if any; another word is refused.
+/// Parses the word of `--from`, if there is one; a malformed word is reported.
 pub fn stamp_from(rt: &impl Eprint, word: Option<&str>) -> Result<Option<Stamp>, ExitCode>
     ensures { IfOk result (λ from. IfSome from IsWithinLimits) }
 {
@@ -36,7 +38,7 @@ pub fn stamp_from(rt: &impl Eprint, word: Option<&str>) -> Result<Option<Stamp>,
     }
 }
 
-/// Says that requests of the image's history have the numbers from which it was to go on.
+/// Reports that a request in the history has the stamp's next number or a greater one.
 fn refuse(rt: &impl Eprint, taken: NumbersTaken) -> ExitCode {
     let _ = eprintln!(rt; "eve-tpcc: command line: --from: {taken}");
     ExitCode::from(2)
@@ -68,9 +70,9 @@ fn tell(rt: &impl Eprint, stamp: &Stamp) {
     }
 }
 
-/// A run with its options.
-#[derive(Drop)]
-pub struct Asked<'a> {
+/// The options of a run.
+#[derive(Clone, Copy)]
+pub struct RunOptions<'a> {
     pub image: &'a str,
     pub batches: &'a str,
     pub workers: Workers,
@@ -81,12 +83,13 @@ pub struct Asked<'a> {
 
 /// Runs batches from the executor's present state on, and stores the last state in a file.
 #[inline(never)]
-fn run_and_store_batches<R: Files + Print + AllocGlobal + Host>(
+fn run_and_store_batches<R: Files + Print + AllocGlobal + Host, G: Observer>(
     rt: &R,
     executor: &mut Executor,
     batches: R::File,
     store: StoreFile<R::File>,
     workers: Workers,
+    observer: &G,
 ) -> Result<u64, StoredRunFault>
 where
     R::File: Drop,
@@ -105,7 +108,7 @@ where
         &mut output,
         &mut tables,
         workers,
-        &NoGate,
+        observer,
     )
 }
 
@@ -119,13 +122,14 @@ fn is_left_whole(ran: &Result<u64, StoredRunFault>) -> bool {
 }
 
 /// Runs batches on a loaded executor, and prints the last state's stamp if asked.
-fn run_loaded<R: Files + Print + Eprint + AllocGlobal + Host>(
+fn run_loaded<R: Files + Print + Eprint + AllocGlobal + Host, G: Observer>(
     rt: &R,
     executor: &mut Executor,
     batches: R::File,
     store: StoreFile<R::File>,
-    asked: &Asked<'_>,
+    options: &RunOptions<'_>,
     from: &Option<Stamp>,
+    observer: &G,
 ) -> ExitCode
 where
     R::File: Drop,
@@ -137,8 +141,8 @@ where
     if let Err(status) = resume(rt, executor, from) {
         return status;
     }
-    let ran = run_and_store_batches(rt, executor, batches, store, asked.workers);
-    if asked.at && is_left_whole(&ran) {
+    let ran = run_and_store_batches(rt, executor, batches, store, options.workers, observer);
+    if options.at && is_left_whole(&ran) {
         tell(rt, &executor.stamp());
     }
     match ran {
@@ -161,14 +165,15 @@ fn store_of<R: Files + Eprint>(
     }
 }
 
-/// Runs batches from where the image's state is told to stand, and prints the last state's stamp if asked.
+/// Runs batches on the database of an image from a stamp on, if there is one, and prints the last state's stamp if asked.
 #[inline(never)]
-fn run_resumed<R: Files + Print + Eprint + AllocGlobal + Host>(
+fn run_unstored<R: Files + Print + Eprint + AllocGlobal + Host, G: Observer>(
     rt: &R,
     image: R::File,
     batches: R::File,
-    asked: &Asked<'_>,
+    options: &RunOptions<'_>,
     from: &Option<Stamp>,
+    observer: &G,
 ) -> ExitCode
 where
     R::File: Drop,
@@ -184,10 +189,10 @@ where
         *from,
         &mut batches_source,
         &mut output,
-        asked.workers,
-        &NoGate,
+        options.workers,
+        observer,
     );
-    if let (true, Some(stamp)) = (asked.at, resumed.at) {
+    if let (true, Some(stamp)) = (options.at, resumed.at) {
         tell(rt, &stamp);
     }
     match resumed.ran {
@@ -201,40 +206,43 @@ where
 
 /// Runs batches on the database of an image, whose state has the given stamp; without one it is a state before any batch.
 #[inline(never)]
-pub fn run_asked<R: Files + Print + Eprint + AllocGlobal + Host>(
+pub fn run_resumed<R: Files + Print + Eprint + AllocGlobal + Host, G: Observer>(
     rt: &R,
-    asked: &Asked<'_>,
+    options: &RunOptions<'_>,
     from: &Option<Stamp>,
+    observer: &G,
 ) -> ExitCode
 where
     R::File: Drop,
     requires { IfSome from.now IsWithinLimits }
 {
-    let Ok(image) = fs::open(rt, asked.image) else {
-        return cannot_open(rt, asked.image);
+    let Ok(image) = fs::open(rt, options.image) else {
+        return cannot_open(rt, options.image);
     };
-    let Ok(batches) = fs::open(rt, asked.batches) else {
-        return cannot_open(rt, asked.batches);
+    let Ok(batches) = fs::open(rt, options.batches) else {
+        return cannot_open(rt, options.batches);
     };
-    let store = match store_of(rt, asked.store) {
+    let store = match store_of(rt, options.store) {
         Ok(Some(store)) => store,
-        Ok(None) => return run_resumed(rt, image, batches, asked, from),
+        Ok(None) => return run_unstored(rt, image, batches, options, from, observer),
         Err(status) => return status,
     };
     let mut image_source = Telling::new(Counting::new(image));
+    observer.begins(Phase::Load);
     let mut loaded = load_told(rt, rt.alloc(), &mut image_source);
     match &mut loaded {
-        Ok(executor) => run_loaded(rt, executor, batches, store, asked, from),
+        Ok(executor) => run_loaded(rt, executor, batches, store, options, from, observer),
         Err(fault) => report(rt, &StoredRunFault::Run(*fault)),
     }
 }
 
 /// Answers commands on a loaded executor.
-fn serve_loaded<R: Input + Print + Eprint + AllocGlobal + Host>(
+fn serve_loaded<R: Input + Print + Eprint + AllocGlobal + Host, G: Observer>(
     rt: &R,
     executor: &mut Executor,
     workers: Workers,
     from: &Option<Stamp>,
+    observer: &G,
 ) -> ExitCode
     requires alone { executor.old.earlier ≡ [] }
     requires sound { IsSoundState executor.old.cards executor.old.present }
@@ -253,7 +261,7 @@ fn serve_loaded<R: Input + Print + Eprint + AllocGlobal + Host>(
         &mut input,
         &mut output,
         workers,
-        &NoGate,
+        observer,
     );
     match served {
         Ok(()) => ExitCode::SUCCESS,
@@ -263,11 +271,12 @@ fn serve_loaded<R: Input + Print + Eprint + AllocGlobal + Host>(
 
 /// Answers commands on the database of an image, whose state has the given stamp.
 #[inline(never)]
-pub fn serve_from<R: Files + Input + Print + Eprint + AllocGlobal + Host>(
+pub fn serve_from<R: Files + Input + Print + Eprint + AllocGlobal + Host, G: Observer>(
     rt: &R,
     image: &str,
     workers: Workers,
     from: &Option<Stamp>,
+    observer: &G,
 ) -> ExitCode
 where
     R::File: Drop,
@@ -277,9 +286,10 @@ where
         return cannot_open(rt, image);
     };
     let mut image_source = Telling::new(Counting::new(image_file));
+    observer.begins(Phase::Load);
     let mut loaded = load_told(rt, rt.alloc(), &mut image_source);
     match &mut loaded {
-        Ok(executor) => serve_loaded(rt, executor, workers, from),
+        Ok(executor) => serve_loaded(rt, executor, workers, from, observer),
         Err(fault) => report(rt, &StoredRunFault::Run(*fault)),
     }
 }

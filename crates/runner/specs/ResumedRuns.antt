@@ -1,4 +1,4 @@
--- Runs that go on from where the state of an image stands: before any batch, or where a stamp tells.
+-- Runs that resume at the stamp of an image's state, or begin before any batch.
 use Rattle.std.specs.Prelude.{◌≡◌, ◌<◌, ◌≤◌, ℕ, Bool, false, List, Option, Some, None, Result, Ok, Err}
 use Rattle.std.specs.Io.KnownBytes.{Keeps}
 use Rattle.executor.specs.Lines.{Line, opening_line}
@@ -18,27 +18,27 @@ use Rattle.runner.specs.declared.resumed_fault.ResumedFault.TheVariants as resum
 use Rattle.tpcc_model.specs.Database.{Database}
 use Rattle.tpcc_model.specs.Serial.{serial}
 
--- ---- where it stands
--- the line whose present state stands where it is told
+-- ---- the stamp that a run resumes at
+-- the line whose present state has the stamp, if there is one
 abbrev pub stood : Line → Option Stamp → Line
 stood line None = line
 stood line (Some stamp) = resumed line stamp
 
--- the requests to come have numbers that no request had
+-- no request in the history has the stamp's next number or a greater one
 abbrev pub MayStand : Line → Option Stamp → Type 0
 MayStand line None = Unit {0}
 MayStand line (Some stamp) = line.present.next ≤ stamp.next
 
--- they don't, and the least is told that they may have
+-- one has, and this is the lowest next number that the history leaves free
 abbrev pub IsTaken : NumbersTaken → Line → Option Stamp → Type 0
 IsTaken taken line None = ⊥
 IsTaken taken line (Some stamp) = (stamp.next < line.present.next) × (taken.least ≡ line.present.next)
 
--- ---- where the last state stands
+-- ---- the stamp of the last state
 abbrev pub stamp_behind : Line → List Batch → Stamp
 stamp_behind line done = stamp_of (serial line.cards line.present done)
 
--- it is told, but where the output failed, of whose text nobody knows how much came through
+-- it is returned, unless the output failed, since it is then unknown how much of the text got through
 abbrev pub told_behind : RunFault → Stamp → Option Stamp
 told_behind run_fault.Write stamp = None
 told_behind (run_fault.Load e) stamp = Some stamp
@@ -46,47 +46,47 @@ told_behind (run_fault.Read e) stamp = Some stamp
 told_behind (run_fault.Exec r) stamp = Some stamp
 told_behind run_fault.Memory stamp = Some stamp
 
--- ---- a run from where a line stands
+-- ---- a run from a line's present state on
 -- all batches were executed and written
 abbrev pub RanAndTold : Line → List ℕ → Taken → Taken → ℕ → Option Stamp → Type 0
 RanAndTold line batch_bytes old new count at =
     RanFrom line.cards line.present batch_bytes old new count × (at ≡ Some (stamp_behind line (batches batch_bytes).0))
 
--- it ended early behind some batches
+-- it ended early after some batches
 abbrev pub LeavesAndTells : RunFault → Line → List ℕ → Taken → Taken → Option Stamp → Type 0
 LeavesAndTells e line batch_bytes old new at =
     (done : List Batch) × LeavesBehind e line.cards line.present batch_bytes done old new × (at ≡ told_behind e (stamp_behind line done))
 
--- ---- a run from where a line is told to stand
+-- ---- a run from a stamp on
 abbrev pub WentOn : Line → Option Stamp → List ℕ → Taken → Taken → ℕ → Option Stamp → Type 0
 WentOn line from batch_bytes old new count at = MayStand line from × RanAndTold (stood line from) batch_bytes old new count at
 
--- where numbers are taken, nothing is written or told
+-- a refused stamp: nothing is written, and no stamp is returned
 abbrev pub LeavesGoingOn : ResumedFault → Line → Option Stamp → List ℕ → Taken → Taken → Option Stamp → Type 0
 LeavesGoingOn (resumed_fault.Unopened e) line from batch_bytes old new at = ⊥
 LeavesGoingOn (resumed_fault.Taken taken) line from batch_bytes old new at = IsTaken taken line from × Keeps old new × (at ≡ None)
 LeavesGoingOn (resumed_fault.Ended e) line from batch_bytes old new at = MayStand line from × LeavesAndTells e (stood line from) batch_bytes old new at
 
 -- ---- from bytes to bytes
--- the image gives a database, on which the batches were run from where its state is told to stand
+-- the image loads as a database, on which the batches were run from the stamp on
 abbrev pub RanResumed : List ℕ → Option Stamp → List ℕ → Taken → Taken → ℕ → Option Stamp → Type 0
 RanResumed image_bytes from batch_bytes old new count at =
     (db : Database) × (image image_bytes ≡ Ok db) × WentOn (opening_line db.cards db.rows) from batch_bytes old new count at
 
--- where there is no executor, nothing is written or told
+-- without an executor nothing is written, and no stamp is returned
 abbrev pub LeavesResumed : ResumedFault → List ℕ → Option Stamp → List ℕ → Taken → Taken → Option Stamp → Type 0
 LeavesResumed (resumed_fault.Unopened e) image_bytes from batch_bytes old new at = IsUnopened e image_bytes × Keeps old new × (at ≡ None)
 LeavesResumed fault image_bytes from batch_bytes old new at =
     (db : Database) × (image image_bytes ≡ Ok db) × LeavesGoingOn fault (opening_line db.cards db.rows) from batch_bytes old new at
 
--- ---- the end that failed, by what the answer says of the run
+-- ---- the stream that failed, by the result of the run
 abbrev pub in_resumed : {A : Type 0} → (Result A RunFault → Bool) → Result A ResumedFault → Bool
 in_resumed fails (Ok a) = false
 in_resumed fails (Err (resumed_fault.Unopened e)) = fails (Err e)
 in_resumed fails (Err (resumed_fault.Taken taken)) = false
 in_resumed fails (Err (resumed_fault.Ended e)) = fails (Err e)
 
--- how it ends where it was ready
+-- the result of a resumed run that began
 abbrev pub ended : Result ℕ RunFault → Result ℕ ResumedFault
 ended (Ok count) = Ok count
 ended (Err e) = Err (resumed_fault.Ended e)

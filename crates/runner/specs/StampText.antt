@@ -1,4 +1,4 @@
--- Stamps as they are printed, and as they are given.
+-- Stamps as text.
 use Rattle.std.specs.Prelude.{◌≡◌, ℕ, List, Ok, ◌++◌, codes, decimal, length}
 use Rattle.hex.specs.Hex.{IsBytes, decode_sized}
 use Rattle.records.specs.Fields.{number_in}
@@ -12,7 +12,7 @@ use Rattle.runner.specs.Text.{token_digits}
 abbrev pub stamp_word : Stamp → List ℕ
 stamp_word stamp = decimal stamp.sequence ++ codes "," ++ decimal stamp.next ++ codes "," ++ token_digits stamp.token
 
--- `at,SEQ,NEXT,TOKEN`, in a line
+-- the line `at,SEQ,NEXT,TOKEN`
 abbrev pub at_text : Stamp → List ℕ
 at_text stamp = codes "at," ++ stamp_word stamp ++ codes "\n"
 

@@ -1,4 +1,4 @@
--- What a run leaves that stores the image of its last state. `old` and `new` are of the sink of the text, `empty` and `full` of the
+-- What a run that stores the image of its last state leaves. `old` and `new` are of the sink of the text, `empty` and `full` of the
 -- sink of the image, before and after the run.
 use Rattle.std.specs.Prelude.{◌≡◌, ◌⊎◌, ℕ, Bool, true, false, List, Result, Ok, Err}
 use Rattle.std.specs.Io.KnownBytes.{Appends, Keeps}
@@ -59,7 +59,7 @@ abbrev pub StoresBehind : RunFault → List ℕ → Taken → Taken → Type 0
 StoresBehind run_fault.Write text empty full = Keeps empty full
 StoresBehind _ text empty full = Appends empty full text
 
--- it was to be stored, and isn't, or not completely
+-- it was to be stored, but wasn't, or not completely
 abbrev pub LeavesBoth : RunFault → StoreFault → List ℕ → Taken → Taken → Type 0
 LeavesBoth run_fault.Write e text empty full = ⊥
 LeavesBoth _ e text empty full = LeavesStore e text empty full
@@ -70,8 +70,8 @@ StoredBehind fault (stored_fault.Run e) text empty full = (e ≡ fault) × Store
 StoredBehind fault (stored_fault.Store store) text empty full = ⊥
 StoredBehind fault (stored_fault.Both e store) text empty full = (e ≡ fault) × LeavesBoth fault store text empty full
 
--- a run from a state ended early behind some batches, and the image is that of the state which these leave, whose token was written last;
--- or it ended well, and only the image isn't written whole
+-- a run from a state ended early after some batches, and the image is that of the state that they leave, whose token was written last;
+-- or it completed, and only the image wasn't written completely
 abbrev pub LeavesStoredState : StoredRunFault → Cards → State → List ℕ → Taken → Taken → Taken → Taken → Type 0
 LeavesStoredState (stored_fault.Run e) cards state batch_bytes old new empty full =
     (done : List Batch) × LeavesBehind e cards state batch_bytes done old new × StoresBehind e (image_behind cards state done) empty full
@@ -91,7 +91,7 @@ IsOfStoredDatabase (stored_fault.Run e) = IsOfDatabase e
 IsOfStoredDatabase (stored_fault.Store e) = Unit {0}
 IsOfStoredDatabase (stored_fault.Both e store) = IsOfDatabase e
 
--- what is left before any batch: the image doesn't load, or there was no memory for an executor
+-- what is left before any batch: the image can't be loaded, or there is no memory for an executor
 abbrev pub LeavesUnopened : StoredRunFault → List ℕ → Taken → Taken → Taken → Taken → Type 0
 LeavesUnopened (stored_fault.Run e) image_bytes old new empty full = IsUnopened e image_bytes × Keeps old new × Keeps empty full
 LeavesUnopened _ image_bytes old new empty full = ⊥
@@ -102,7 +102,7 @@ LeavesStoredRun fault image_bytes batch_bytes old new empty full =
     LeavesUnopened fault image_bytes old new empty full
     ⊎ ((db : Database) × (image image_bytes ≡ Ok db) × LeavesStoredDatabase fault db batch_bytes old new empty full)
 
--- ---- the end that failed
+-- ---- the stream that failed
 -- one of the run, by what its own answer says
 abbrev pub in_run : {A : Type 0} → (Result A RunFault → Bool) → Result A StoredRunFault → Bool
 in_run fails (Ok a) = false

@@ -1,4 +1,4 @@
-//! `check`: from the bytes of an image to a line that sums it up.
+//! `check`: loads an image and prints a line about it.
 ghost use Rattle.std.specs.Prelude.{◌≡◌, ◌+◌, ◌<◌, ◌^◌, true, IfErr, IfOk, OnOk, if◌then◌else◌};
 ghost use Rattle.std.specs.Io.KnownBytes.{Appends};
 ghost use Rattle.runner.specs.CheckTexts.{ChecksImage, LeavesCheck, check_text, warehouse_count};
@@ -34,7 +34,7 @@ fn warehouse_count(catalog: &Catalog) -> usize
     count
 }
 
-/// The line of a database before any batch.
+/// The line about a database before any batch.
 fn line_of(alloc: Global, executor: &Executor) -> Result<Vec<u8>, Memory>
     ensures { IfOk result (λ line. line.items ≡ check_text executor.now.cards executor.now.present) }
 {
@@ -54,7 +54,7 @@ fn line_of(alloc: Global, executor: &Executor) -> Result<Vec<u8>, Memory>
     Ok(line)
 }
 
-/// Loads an image, and writes a line with its numbers of warehouses and rows, and its token.
+/// Loads an image, and writes a line with the numbers of its warehouses and rows, and its token.
 pub fn check_text<R: Threads + Sync, I: TellingSource, S: Sink>(
     rt: &R,
     alloc: Global,

@@ -2,17 +2,18 @@
 #![tactic(auto)]
 
 mod check;
-mod crew;
 pub mod fault;
 pub mod laws;
 mod lines;
 mod loaded;
 mod make;
+mod observer;
 mod opening;
 mod reading;
 mod resumed;
 pub mod resumed_fault;
 mod run;
+mod runtime;
 mod serving;
 pub mod stamp_text;
 pub mod store_fault;
@@ -24,6 +25,7 @@ pub use fault::{RunFault, fault_line};
 pub use lines::{FaultLine, stored_line};
 pub use loaded::{run_and_store_on, run_on};
 pub use make::make_text;
+pub use observer::{Observer, Phase};
 pub use opening::{load_executor, load_told};
 pub use resumed::{Resumed, run_from};
 pub use resumed_fault::ResumedFault;

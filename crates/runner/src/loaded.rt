@@ -6,9 +6,10 @@ ghost use Rattle.runner.specs.StoredRuns.{IsOfStoredDatabase, LeavesStoredState,
 ghost use Rattle.runner.specs.WholeRuns.{IsOfDatabase, LeavesLine, RanFrom, is_batches_read, line_after};
 ghost use Rattle.telling.specs.Told.{OfSource};
 
-use crate::crew::Crew;
 use crate::fault::RunFault;
+use crate::observer::Observer;
 use crate::run::run_read;
+use crate::runtime::Runtime;
 use crate::store_fault::StoredRunFault;
 use crate::stored_run::store_read;
 use executor::Executor;
@@ -16,11 +17,11 @@ use hashers::Host;
 use records::io::Sink;
 use std::alloc::Global;
 use telling::TellingSource;
-use workers::{Gate, Workers};
+use workers::Workers;
 
 /// Reads all bytes of the batches; then parses, executes, commits and writes batch after batch, from the executor's present
 /// state on. Returns the number of batches.
-pub fn run_on<R: Host, B: TellingSource, S: Sink, G: Gate>(
+pub fn run_on<R: Host, B: TellingSource, S: Sink, G: Observer>(
     rt: &R,
     alloc: Global,
     executor: &mut Executor,
@@ -45,18 +46,18 @@ pub fn run_on<R: Host, B: TellingSource, S: Sink, G: Gate>(
     ensures batches_failures { B.failed batches.new ≡ B.failed batches.old + (if is_batches_read result then 1 else 0) }
     ensures sink_failures { S.failed sink.new ≡ S.failed sink.old + (if is_write result then 1 else 0) }
 {
-    let crew = Crew {
+    let runtime = Runtime {
         rt,
         alloc,
         workers,
         gate,
     };
-    run_read(&crew, executor, batches, sink)
+    run_read(&runtime, executor, batches, sink)
 }
 
-/// Runs batches as `run_on` does, and then writes the image of the state whose token was written last, which is then the
-/// executor's present one.
-pub fn run_and_store_on<R: Host, B: TellingSource, S: Sink, K: Sink, G: Gate>(
+/// Runs batches as `run_on` does, and then writes the image of the state whose token was written last, now the executor's
+/// present one.
+pub fn run_and_store_on<R: Host, B: TellingSource, S: Sink, K: Sink, G: Observer>(
     rt: &R,
     alloc: Global,
     executor: &mut Executor,
@@ -86,11 +87,11 @@ pub fn run_and_store_on<R: Host, B: TellingSource, S: Sink, K: Sink, G: Gate>(
     ensures sink_failures { S.failed sink.new ≡ S.failed sink.old + (if in_run is_write result then 1 else 0) }
     ensures tables_failures { K.failed tables.new ≡ K.failed tables.old + (if in_store result then 1 else 0) }
 {
-    let crew = Crew {
+    let runtime = Runtime {
         rt,
         alloc,
         workers,
         gate,
     };
-    store_read(&crew, executor, batches, sink, tables)
+    store_read(&runtime, executor, batches, sink, tables)
 }

@@ -1,4 +1,4 @@
-//! `make`: from three numbers to the bytes of an image.
+//! `make`: writes the image of a generated database.
 ghost use Rattle.std.specs.Prelude.{◌≡◌, ◌+◌, ◌<◌, ◌^◌, IfErr, IfOk, OnOk, if◌then◌else◌};
 ghost use Rattle.std.specs.Io.KnownBytes.{Appends};
 ghost use Rattle.made_database.specs.Made.{made};

@@ -1,4 +1,4 @@
-//! From the bytes of an image to an executor.
+//! Loads an image into an executor.
 ghost use Rattle.std.specs.Prelude.{◌≡◌, ◌+◌, ◌<◌, ◌≤◌, ◌^◌, [], true, IfErr, IfOk, IfSome, OnOk, if◌then◌else◌};
 ghost use Rattle.executor.specs.Lines.{opening_line};
 ghost use Rattle.executor.specs.States.{IsSoundState};
@@ -37,7 +37,7 @@ fn paged(alloc: Global, rows: UnpagedRows) -> Result<PointedStore, RunFault>
     }
 }
 
-/// An executor in a box: passed on by value, it would be on the stack several times, at 15 KB each.
+/// Rows and tree in a box: by value they would be on the stack several times, at 15 KB each.
 #[inline(never)]
 fn boxed(
     alloc: Global,
@@ -87,7 +87,7 @@ fn build<R: Threads + Sync>(
     boxed(alloc, store, tree)
 }
 
-/// The executor of a database. If there are many cards, they are hashed while the rows are put on pages and the tree is built.
+/// The executor of a database. If there are many cards, another thread hashes them while this one builds pages and tree.
 #[inline(never)]
 fn executor_of<R: Threads + Sync>(
     rt: &R,
@@ -142,7 +142,7 @@ pub fn load_executor<R: Threads + Sync, I: Source>(
     }
 }
 
-/// Loads the image that a source gives up to its end, and makes the executor of its database.
+/// Loads an image into an executor, from a source that traces what it gave.
 #[inline(never)]
 pub fn load_told<R: Threads + Sync, I: TellingSource>(
     rt: &R,

@@ -10,7 +10,7 @@ use telling::{TellingSource, slurp_told};
 /// Maximum size of the batches, in bytes.
 const MOST_BATCH_BYTES: usize = 1_073_741_824;
 
-/// All bytes of the batches that a source gives up to its end.
+/// Reads all bytes of the batches.
 pub(crate) fn read_batches<B: TellingSource>(
     alloc: Global,
     batches: &mut B,

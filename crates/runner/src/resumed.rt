@@ -1,4 +1,4 @@
-//! Runs that go on from where the state of an image stands.
+//! Runs that resume at the stamp of an image's state.
 ghost use Rattle.std.specs.Prelude.{◌≡◌, ◌+◌, ◌<◌, ◌≤◌, ◌^◌, [], false, true, IfErr, IfOk, IfSome, OnOk, if◌then◌else◌};
 ghost use Rattle.executor.specs.Stamps.{IsWithinLimits, stamp_of};
 ghost use Rattle.executor.specs.States.{IsSoundState};
@@ -8,28 +8,29 @@ ghost use Rattle.runner.specs.Runs.{is_write};
 ghost use Rattle.runner.specs.WholeRuns.{IsOfDatabase, is_batches_read, is_image_read};
 ghost use Rattle.telling.specs.Told.{OfSource};
 
-use crate::crew::Crew;
 use crate::fault::RunFault;
+use crate::observer::{Observer, Phase};
 use crate::opening::load_told;
 use crate::resumed_fault::ResumedFault;
 use crate::run::run_read;
+use crate::runtime::Runtime;
 use executor::{Executor, NumbersTaken, Stamp};
 use hashers::Host;
 use records::io::Sink;
 use std::alloc::Global;
 use telling::TellingSource;
-use workers::{Gate, Workers};
+use workers::Workers;
 
-/// What came of a run that goes on.
+/// The result of a resumed run.
 #[derive(Drop)]
 pub struct Resumed {
     /// The number of batches, or why it ended early.
     pub ran: Result<u64, ResumedFault>,
-    /// Where the state stands whose token was written last. It isn't told where the output failed, or there is none.
+    /// The stamp of the state whose token was written last; `None` if the output failed or there is no state.
     pub at: Option<Stamp>,
 }
 
-/// The state of an executor stands where it is told from now on, if it is told.
+/// Gives the executor's state the stamp, if there is one.
 fn stand(executor: &mut Executor, from: Option<Stamp>) -> Result<(), NumbersTaken>
     requires alone { executor.old.earlier ≡ [] }
     requires sound { IsSoundState executor.old.cards executor.old.present }
@@ -47,7 +48,7 @@ fn stand(executor: &mut Executor, from: Option<Stamp>) -> Result<(), NumbersTake
     }
 }
 
-/// Where the state of an executor stands behind which a run ended early, unless the output failed.
+/// The stamp of the state that a run left when it ended early, unless the output failed.
 fn told_at(executor: &Executor, fault: RunFault) -> Option<Stamp>
     ensures { result ≡ told_behind fault (stamp_of executor.now.present) }
 {
@@ -59,9 +60,9 @@ fn told_at(executor: &Executor, fault: RunFault) -> Option<Stamp>
     }
 }
 
-/// Reads and runs batches on the state that an executor has, and tells where the last one stands.
-fn run_and_tell<R: Host, B: TellingSource, S: Sink, G: Gate>(
-    crew: &Crew<'_, R, G>,
+/// Reads and runs batches from the executor's present state on, and returns the stamp of the last state.
+fn run_and_tell<R: Host, B: TellingSource, S: Sink, G: Observer>(
+    runtime: &Runtime<'_, R, G>,
     executor: &mut Executor,
     batches: &mut B,
     sink: &mut S,
@@ -80,13 +81,13 @@ fn run_and_tell<R: Host, B: TellingSource, S: Sink, G: Gate>(
     ensures batches_failures { B.failed batches.new ≡ B.failed batches.old + (if is_batches_read result.0 then 1 else 0) }
     ensures sink_failures { S.failed sink.new ≡ S.failed sink.old + (if is_write result.0 then 1 else 0) }
 {
-    match run_read(crew, executor, batches, sink) {
+    match run_read(runtime, executor, batches, sink) {
         Ok(count) => (Ok(count), Some(executor.stamp())),
         Err(fault) => (Err(fault), told_at(executor, fault)),
     }
 }
 
-/// How a run that goes on ends where it was ready.
+/// The result of a resumed run that began.
 fn ended(ran: Result<u64, RunFault>) -> Result<u64, ResumedFault>
     ensures { result ≡ ended ran }
 {
@@ -96,9 +97,9 @@ fn ended(ran: Result<u64, RunFault>) -> Result<u64, ResumedFault>
     }
 }
 
-/// Reads and runs batches from where the state of an executor is told to stand.
-fn go_on<R: Host, B: TellingSource, S: Sink, G: Gate>(
-    crew: &Crew<'_, R, G>,
+/// Reads and runs batches from a stamp on, if there is one.
+fn go_on<R: Host, B: TellingSource, S: Sink, G: Observer>(
+    runtime: &Runtime<'_, R, G>,
     executor: &mut Executor,
     from: Option<Stamp>,
     batches: &mut B,
@@ -128,17 +129,17 @@ fn go_on<R: Host, B: TellingSource, S: Sink, G: Gate>(
             };
         }
     }
-    let (ran, at) = run_and_tell(crew, executor, batches, sink);
+    let (ran, at) = run_and_tell(runtime, executor, batches, sink);
     Resumed {
         ran: ended(ran),
         at,
     }
 }
 
-/// Loads an image, and runs batches as `run_text` does, but from where the image's state is told to stand: its next request has the
-/// number of a stamp, and its batches the numbers and tokens behind the stamp's. A stamp whose number a request of the history has is
-/// refused, and nothing is read of the batches then. Where it isn't told, the state stands before any batch.
-pub fn run_from<R: Host, I: TellingSource, B: TellingSource, S: Sink, G: Gate>(
+/// Loads an image, and runs batches as `run_text` does, but from a stamp on: its batches, requests and tokens continue the stamp's.
+/// If a request in the history has the stamp's next number or a greater one, the stamp is refused, and no batches are read. Without
+/// a stamp the run begins before any batch.
+pub fn run_from<R: Host, I: TellingSource, B: TellingSource, S: Sink, G: Observer>(
     rt: &R,
     alloc: Global,
     image: &mut I,
@@ -160,21 +161,22 @@ pub fn run_from<R: Host, I: TellingSource, B: TellingSource, S: Sink, G: Gate>(
         OfSource (B.left batches.old) (B.given batches.old) (B.given batches.new) (λ batch_bytes.
         LeavesResumed e image_bytes from batch_bytes (S.taken sink.old) (S.taken sink.new) result.at))) }
 
-    // An end that failed is the reason of the answer, and every failure is answered.
+    // A stream is reported as failed exactly if it failed.
     ensures image_failures { I.failed image.new ≡ I.failed image.old + (if in_resumed is_image_read result.ran then 1 else 0) }
     ensures batches_failures { B.failed batches.new ≡ B.failed batches.old + (if in_resumed is_batches_read result.ran then 1 else 0) }
     ensures sink_failures { S.failed sink.new ≡ S.failed sink.old + (if in_resumed is_write result.ran then 1 else 0) }
 {
-    let crew = Crew {
+    let runtime = Runtime {
         rt,
         alloc,
         workers,
         gate,
     };
-    // The executor is used where it was made: moved, it would take its room on the stack twice.
+    // The executor stays where it was made: moved, it would be on the stack twice.
+    gate.begins(Phase::Load);
     let mut loaded = load_told(rt, alloc, image);
     match &mut loaded {
-        Ok(executor) => go_on(&crew, executor, from, batches, sink),
+        Ok(executor) => go_on(&runtime, executor, from, batches, sink),
         Err(fault) => Resumed {
             ran: Err(ResumedFault::Unopened(*fault)),
             at: None,

@@ -1,18 +1,18 @@
-//! Why a run that goes on from where the state of an image stands ends early.
+//! Why a resumed run ends early.
 use crate::fault::RunFault;
 use executor::NumbersTaken;
 use thiserror::Error;
 
-/// Why a run that goes on ends early.
+/// Why a resumed run ends early.
 #[derive(Clone, Copy, Debug, PartialEq, Eq, Error)]
 pub enum ResumedFault {
-    /// The image gave no database, or memory was refused for what executes batches on it.
+    /// The image can't be loaded, or there is no memory for its executor.
     #[error("{0}")]
     Unopened(RunFault),
-    /// Requests had the numbers from which it was to go on.
+    /// A request in the history has the stamp's next number or a greater one.
     #[error("{0}")]
     Taken(NumbersTaken),
-    /// The run itself ended early.
+    /// The run ended early after it was resumed.
     #[error("{0}")]
     Ended(RunFault),
 }

@@ -1,25 +1,26 @@
-//! `run`: from the bytes of image and batches to the bytes of the replies.
+//! `run`: executes the batches of a text on the database of an image.
 ghost use Rattle.std.specs.Prelude.{◌≡◌, ◌+◌, ◌<◌, ◌≤◌, ◌^◌, [], true, IfErr, IfOk, OnOk, if◌then◌else◌};
 ghost use Rattle.executor.specs.States.{IsSoundState};
 ghost use Rattle.runner.specs.Runs.{IsOfBatches, is_write};
 ghost use Rattle.runner.specs.WholeRuns.{IsOfDatabase, LeavesLine, LeavesRun, RanFrom, RanWhole, is_batches_read, is_image_read, line_after};
 ghost use Rattle.telling.specs.Told.{OfSource};
 
-use crate::crew::Crew;
 use crate::fault::RunFault;
+use crate::observer::{Observer, Phase};
 use crate::opening::load_told;
 use crate::reading::read_batches;
+use crate::runtime::Runtime;
 use crate::serving::run_batches;
 use executor::Executor;
 use hashers::Host;
 use records::io::Sink;
 use std::alloc::Global;
 use telling::TellingSource;
-use workers::{Gate, Workers};
+use workers::Workers;
 
 /// Starts helper threads, and runs the batches of a text from the executor's present state on.
-pub(crate) fn run_given<R: Host, S: Sink, G: Gate>(
-    crew: &Crew<'_, R, G>,
+pub(crate) fn run_given<R: Host, S: Sink, G: Observer>(
+    runtime: &Runtime<'_, R, G>,
     executor: &mut Executor,
     text: Vec<u8>,
     sink: &mut S,
@@ -35,13 +36,13 @@ pub(crate) fn run_given<R: Host, S: Sink, G: Gate>(
     ensures kinds { IfErr result IsOfBatches }
     ensures failures { S.failed sink.new ≡ S.failed sink.old + (if is_write result then 1 else 0) }
 {
-    executor.keep_threads(*crew.rt, crew.alloc, crew.workers);
-    run_batches(crew, executor, text.as_slice(), sink)
+    executor.keep_threads(*runtime.rt, runtime.alloc, runtime.workers);
+    run_batches(runtime, executor, text.as_slice(), sink)
 }
 
 /// Reads all bytes of the batches, starts helper threads, and runs the batches from the executor's present state on.
-pub(crate) fn run_read<R: Host, B: TellingSource, S: Sink, G: Gate>(
-    crew: &Crew<'_, R, G>,
+pub(crate) fn run_read<R: Host, B: TellingSource, S: Sink, G: Observer>(
+    runtime: &Runtime<'_, R, G>,
     executor: &mut Executor,
     batches: &mut B,
     sink: &mut S,
@@ -62,16 +63,17 @@ pub(crate) fn run_read<R: Host, B: TellingSource, S: Sink, G: Gate>(
     ensures batches_failures { B.failed batches.new ≡ B.failed batches.old + (if is_batches_read result then 1 else 0) }
     ensures sink_failures { S.failed sink.new ≡ S.failed sink.old + (if is_write result then 1 else 0) }
 {
-    let text = match read_batches(crew.alloc, batches) {
+    runtime.gate.begins(Phase::Read);
+    let text = match read_batches(runtime.alloc, batches) {
         Ok(text) => text,
         Err(error) => return Err(RunFault::Read(error)),
     };
-    run_given(crew, executor, text, sink)
+    run_given(runtime, executor, text, sink)
 }
 
 /// Loads an image, reads all bytes of the batches, and then parses, executes, commits and writes batch after batch. Returns the
-/// number of batches. The output is the same for every number of workers and every gate: the text of the bytes that the sources gave.
-pub fn run_text<R: Host, I: TellingSource, B: TellingSource, S: Sink, G: Gate>(
+/// number of batches. The output is the same for every number of workers and every observer.
+pub fn run_text<R: Host, I: TellingSource, B: TellingSource, S: Sink, G: Observer>(
     rt: &R,
     alloc: Global,
     image: &mut I,
@@ -96,15 +98,16 @@ pub fn run_text<R: Host, I: TellingSource, B: TellingSource, S: Sink, G: Gate>(
     ensures batches_failures { B.failed batches.new ≡ B.failed batches.old + (if is_batches_read result then 1 else 0) }
     ensures sink_failures { S.failed sink.new ≡ S.failed sink.old + (if is_write result then 1 else 0) }
 {
+    gate.begins(Phase::Load);
     let mut executor = match load_told(rt, alloc, image) {
         Ok(executor) => executor,
         Err(fault) => return Err(fault),
     };
-    let crew = Crew {
+    let runtime = Runtime {
         rt,
         alloc,
         workers,
         gate,
     };
-    run_read(&crew, &mut executor, batches, sink)
+    run_read(&runtime, &mut executor, batches, sink)
 }

@@ -1,4 +1,4 @@
-//! Reads, executes, commits and writes batch after batch.
+//! The loop of a run: reads, executes, commits and writes batch after batch.
 ghost use Rattle.std.specs.Prelude.{◌≡◌, ◌+◌, ◌<◌, ◌≤◌, ◌^◌, [], length, IfErr, IfOk, None, OnErr, OnOk, if◌then◌else◌};
 ghost use Rattle.std.specs.Io.KnownBytes.{Appends};
 ghost use Rattle.executor.specs.Lines.{committed, extended};
@@ -8,8 +8,9 @@ ghost use Rattle.runner.specs.Runs.{Completes, IsOfBatches, LeavesBatch, Ran, is
 ghost use Rattle.runner.specs.Text.{batch_text};
 ghost use Rattle.runner.specs.WholeRuns.{LeavesLine};
 
-use crate::crew::Crew;
 use crate::fault::RunFault;
+use crate::observer::{Observer, Phase};
+use crate::runtime::Runtime;
 use crate::text::batch_text;
 use executor::{Executor, MOST_REQUESTS};
 use records::io::Sink;
@@ -17,12 +18,11 @@ use records::slurp::push_all;
 use requests::batch_reader::BatchReader;
 use requests::request::Batch;
 use std::thread::Threads;
-use workers::Gate;
 
-/// Executes and commits a batch, all earlier ones being committed, and writes its replies and its record. If there is no memory
-/// for that text, the batch is rolled back.
-fn serve_batch<R: Threads + Sync, S: Sink, G: Gate>(
-    crew: &Crew<'_, R, G>,
+/// Executes and commits a batch after committed ones, and writes its replies and its record. If there is no memory for that text,
+/// the batch is rolled back.
+fn serve_batch<R: Threads + Sync, S: Sink, G: Observer>(
+    runtime: &Runtime<'_, R, G>,
     executor: &mut Executor,
     batch: &Batch,
     sink: &mut S,
@@ -38,11 +38,20 @@ fn serve_batch<R: Threads + Sync, S: Sink, G: Gate>(
     ensures failures { S.failed sink.new ≡ S.failed sink.old + (if is_write result then 1 else 0) }
 {
     let before = executor.sequence();
-    let record = match executor.execute(crew.rt, crew.alloc, batch, crew.workers, crew.gate) {
+    runtime.gate.begins(Phase::Execute);
+    let record = match executor.execute(
+        runtime.rt,
+        runtime.alloc,
+        batch,
+        runtime.workers,
+        runtime.gate,
+    ) {
         Ok(record) => record,
         Err(refusal) => return Err(RunFault::Exec(refusal)),
     };
-    let Ok(text) = batch_text(crew.alloc, &record) else {
+    runtime.gate.executed(batch, &record);
+    runtime.gate.begins(Phase::Write);
+    let Ok(text) = batch_text(runtime.alloc, &record) else {
         executor.rollback_to(before).unwrap();
         return Err(RunFault::Memory);
     };
@@ -54,8 +63,8 @@ fn serve_batch<R: Threads + Sync, S: Sink, G: Gate>(
 }
 
 /// Parses, executes, commits and writes the batches of a text, each before the next is parsed. Returns the number of batches.
-pub(crate) fn run_batches<R: Threads + Sync, S: Sink, G: Gate>(
-    crew: &Crew<'_, R, G>,
+pub(crate) fn run_batches<R: Threads + Sync, S: Sink, G: Observer>(
+    runtime: &Runtime<'_, R, G>,
     executor: &mut Executor,
     text: &[u8],
     sink: &mut S,
@@ -70,22 +79,24 @@ pub(crate) fn run_batches<R: Threads + Sync, S: Sink, G: Gate>(
     ensures kinds { IfErr result IsOfBatches }
     ensures failures { S.failed sink.new ≡ S.failed sink.old + (if is_write result then 1 else 0) }
 {
-    let mut reader = match BatchReader::new(crew.alloc, text) {
+    let mut reader = match BatchReader::new(runtime.alloc, text) {
         Ok(reader) => reader,
         Err(error) => return Err(RunFault::Read(error)),
     };
     let mut done: u64 = 0;
     'batches: loop {
-        let batch = match reader.next_batch(crew.alloc) {
+        runtime.gate.begins(Phase::Read);
+        let batch = match reader.next_batch(runtime.alloc) {
             Ok(Some(batch)) => batch,
             Ok(None) => break,
             Err(error) => return Err(RunFault::Read(error)),
         };
-        if let Err(fault) = serve_batch(crew, executor, &batch, sink) {
+        if let Err(fault) = serve_batch(runtime, executor, &batch, sink) {
             return Err(fault);
         }
         done += 1;
     }
+    runtime.gate.begins(Phase::Write);
     if sink.flush().is_err() {
         return Err(RunFault::Write);
     }

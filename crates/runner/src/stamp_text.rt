@@ -1,4 +1,4 @@
-//! Stamps as text: the line that prints one, and the word of the command line that gives one.
+//! Stamps as text: the line that a stamp is printed as, and the word that `--from` takes.
 ghost use Rattle.std.specs.Prelude.{◌≡◌, ◌≤◌, ◌+◌, ◌++◌, ℕ, IfSome, List, Ok, Some, length};
 ghost use Rattle.executor.specs.Stamps.{IsWithinLimits};
 ghost use Rattle.executor.specs.declared.stamp.Stamp.{Stamp};
@@ -57,7 +57,7 @@ fn word_of(stamp: &Stamp) -> StampLine
     word
 }
 
-/// The token that hexadecimal digits spell.
+/// Parses a token in hexadecimal digits.
 fn token_of(digits: &[u8]) -> Option<[u8; 32]>
     ensures { (token : List ℕ) → decode_sized digits.now 32 ≡ Ok token → result ≡ Some token }
 {
@@ -88,7 +88,7 @@ fn stamp_of_parts(sequence: &[u8], next: &[u8], token: &[u8]) -> Option<Stamp>
     })
 }
 
-/// The stamp that a word spells as `SEQ,NEXT,TOKEN`, if its numbers are within their limits.
+/// Parses a stamp, `SEQ,NEXT,TOKEN`; `None` if it is malformed or one of its numbers is outside its limits.
 pub fn stamp_of(word: &str) -> Option<Stamp>
     ensures told { IfSome result (Tells word.now) }
     ensures each { (stamp : Stamp) → Tells word.now stamp → result ≡ Some stamp }

@@ -43,8 +43,7 @@ impl StoreFault {
 /// Why a run that stores its last state fails.
 #[derive(Clone, Copy, Debug, PartialEq, Eq, Error)]
 pub enum StoredRunFault {
-    /// The run ended early. The image of its last state was written, unless its output failed or it ended before there was a
-    /// state.
+    /// The run ended early. The image of its last state was written, unless its output failed or there was no state yet.
     #[error("{0}")]
     Run(RunFault),
     /// The run completed, but the image of its last state wasn't written completely.

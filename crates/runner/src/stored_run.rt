@@ -1,4 +1,4 @@
-//! `run --store`: a run that ends by writing the image of its last state.
+//! `run --store`: a run that writes the image of its last state at the end.
 ghost use Rattle.std.specs.Prelude.{◌≡◌, ◌+◌, ◌<◌, ◌≤◌, ◌^◌, [], false, true, IfErr, IfOk, OnOk, if◌then◌else◌};
 ghost use Rattle.std.specs.Io.KnownBytes.{Appends};
 ghost use Rattle.executor.specs.States.{IsSoundState};
@@ -8,11 +8,12 @@ ghost use Rattle.runner.specs.StoredRuns.{in_run, in_store, is_of_tables, is_sto
 ghost use Rattle.runner.specs.WholeRuns.{IsOfDatabase, is_batches_read, is_image_read, line_after};
 ghost use Rattle.telling.specs.Told.{OfSource};
 
-use crate::crew::Crew;
 use crate::fault::RunFault;
+use crate::observer::{Observer, Phase};
 use crate::opening::load_told;
 use crate::reading::read_batches;
 use crate::run::run_given;
+use crate::runtime::Runtime;
 use crate::store_fault::{StoreFault, StoredRunFault};
 use executor::Executor;
 use hashers::Host;
@@ -22,7 +23,7 @@ use std::alloc::Global;
 use stored_image::store_image;
 use telling::TellingSource;
 use tpcc_rows::memory::Memory;
-use workers::{Gate, Workers};
+use workers::Workers;
 
 /// The image of the executor's present state.
 fn image_of(alloc: Global, executor: &Executor) -> Result<Vec<u8>, Memory>
@@ -58,8 +59,8 @@ fn store_state<K: Sink>(
     Ok(())
 }
 
-/// Writes the image of the state at which a run ended early; not if the output failed, since then it is unknown how much of
-/// the text got through.
+/// Writes the image of the state that a run left when it ended early; not if the output failed, since it is then unknown how
+/// much of the text got through.
 fn store_behind<K: Sink>(
     alloc: Global,
     executor: &Executor,
@@ -82,10 +83,10 @@ fn store_behind<K: Sink>(
     }
 }
 
-/// Runs the batches of a text from the executor's present state on, and then writes the image of the state after the last batch
-/// whose text was written.
-fn store_given<R: Host, S: Sink, K: Sink, G: Gate>(
-    crew: &Crew<'_, R, G>,
+/// Runs the batches of a text from the executor's present state on, and then writes the image of the last state whose token was
+/// written.
+fn store_given<R: Host, S: Sink, K: Sink, G: Observer>(
+    runtime: &Runtime<'_, R, G>,
     executor: &mut Executor,
     text: Vec<u8>,
     sink: &mut S,
@@ -106,19 +107,21 @@ fn store_given<R: Host, S: Sink, K: Sink, G: Gate>(
     ensures sink_failures { S.failed sink.new ≡ S.failed sink.old + (if in_run is_write result then 1 else 0) }
     ensures tables_failures { K.failed tables.new ≡ K.failed tables.old + (if in_store result then 1 else 0) }
 {
-    match run_given(crew, executor, text, sink) {
-        Ok(count) => match store_state(crew.alloc, executor, tables) {
+    let ran = run_given(runtime, executor, text, sink);
+    runtime.gate.begins(Phase::Store);
+    match ran {
+        Ok(count) => match store_state(runtime.alloc, executor, tables) {
             Ok(()) => Ok(count),
             Err(fault) => Err(StoredRunFault::Store(fault)),
         },
-        Err(fault) => Err(store_behind(crew.alloc, executor, fault, tables)),
+        Err(fault) => Err(store_behind(runtime.alloc, executor, fault, tables)),
     }
 }
 
-/// Reads all bytes of the batches, runs them from the executor's present state on, and then writes the image of the state after
-/// the last batch whose text was written.
-pub(crate) fn store_read<R: Host, B: TellingSource, S: Sink, K: Sink, G: Gate>(
-    crew: &Crew<'_, R, G>,
+/// Reads all bytes of the batches, runs them from the executor's present state on, and then writes the image of the last state
+/// whose token was written.
+pub(crate) fn store_read<R: Host, B: TellingSource, S: Sink, K: Sink, G: Observer>(
+    runtime: &Runtime<'_, R, G>,
     executor: &mut Executor,
     batches: &mut B,
     sink: &mut S,
@@ -144,15 +147,19 @@ pub(crate) fn store_read<R: Host, B: TellingSource, S: Sink, K: Sink, G: Gate>(
     ensures sink_failures { S.failed sink.new ≡ S.failed sink.old + (if in_run is_write result then 1 else 0) }
     ensures tables_failures { K.failed tables.new ≡ K.failed tables.old + (if in_store result then 1 else 0) }
 {
-    match read_batches(crew.alloc, batches) {
-        Ok(text) => store_given(crew, executor, text, sink, tables),
-        Err(error) => Err(store_behind(crew.alloc, executor, RunFault::Read(error), tables)),
+    runtime.gate.begins(Phase::Read);
+    match read_batches(runtime.alloc, batches) {
+        Ok(text) => store_given(runtime, executor, text, sink, tables),
+        Err(error) => {
+            runtime.gate.begins(Phase::Store);
+            Err(store_behind(runtime.alloc, executor, RunFault::Read(error), tables))
+        }
     }
 }
 
-/// Runs batches as `run_text` does, and then writes the image of the state whose token was written last, from which a later run
-/// can resume. It is written after a run that ended early, too, unless its output failed or it ended before there was a state.
-pub fn run_and_store<R: Host, I: TellingSource, B: TellingSource, S: Sink, K: Sink, G: Gate>(
+/// Runs batches as `run_text` does, and then writes the image of the last state whose token was written, for a later run to
+/// resume from. It is written even if the run ends early, unless its output failed or there was no state yet.
+pub fn run_and_store<R: Host, I: TellingSource, B: TellingSource, S: Sink, K: Sink, G: Observer>(
     rt: &R,
     alloc: Global,
     image: &mut I,
@@ -180,15 +187,16 @@ pub fn run_and_store<R: Host, I: TellingSource, B: TellingSource, S: Sink, K: Si
     ensures sink_failures { S.failed sink.new ≡ S.failed sink.old + (if in_run is_write result then 1 else 0) }
     ensures tables_failures { K.failed tables.new ≡ K.failed tables.old + (if in_store result then 1 else 0) }
 {
+    gate.begins(Phase::Load);
     let mut executor = match load_told(rt, alloc, image) {
         Ok(executor) => executor,
         Err(fault) => return Err(StoredRunFault::Run(fault)),
     };
-    let crew = Crew {
+    let runtime = Runtime {
         rt,
         alloc,
         workers,
         gate,
     };
-    store_read(&crew, &mut executor, batches, sink, tables)
+    store_read(&runtime, &mut executor, batches, sink, tables)
 }

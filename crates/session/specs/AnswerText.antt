@@ -1,4 +1,4 @@
--- The records that answer commands, beside those of a batch.
+-- The records of answers other than a batch's.
 use Rattle.std.specs.Prelude.{ℕ, List, [], ◌∷◌, ◌++◌, codes, decimal, length}
 use Rattle.catalog.specs.CardMap.{Cards}
 use Rattle.commands.specs.declared.command.RecordFault.{RecordFault}
@@ -41,7 +41,7 @@ image_fields sequence count = codes "image" ∷ decimal sequence ∷ decimal cou
 abbrev pub image_head : ℕ → ℕ → List ℕ
 image_head sequence count = text_of_record (image_fields sequence count)
 
--- and behind it the image
+-- and after it the image
 abbrev pub image_answer : Cards → State → List ℕ
 image_answer cards state =
     let image = state_image cards state in

@@ -34,13 +34,13 @@ AnswersCommit old new text =
     ((sequence : ℕ) × (slice_get (map (λ state. state.sequence) (states old)) 1 ≡ Some sequence) × (new ≡ committed old) × (text ≡ commit_text sequence))
     ⊎ ((old.earlier ≡ []) × Refuses (λ e. e ≡ refusal.NoSuchPoint) old new text)
 
--- the state of this number is the present one again; there may be none of this number
+-- the state with this number is the present one again; there may be none
 abbrev pub AnswersRollback : ℕ → Line → Line → List ℕ → Type 0
 AnswersRollback sequence old new text =
     (IsReturned sequence old new × (text ≡ rollback_text new.present))
     ⊎ (HasNone sequence old × Refuses (λ e. e ≡ refusal.NoSuchPoint) old new text)
 
--- the image of the present state is written, where there is memory for it
+-- the image of the present state is written, if there is memory for it
 abbrev pub AnswersImage : Line → Line → List ℕ → Type 0
 AnswersImage old new text =
     ((new ≡ old) × (text ≡ image_answer old.cards old.present))
@@ -55,7 +55,7 @@ AnswersCommand (command.Control control.State) old new text = (new ≡ old) × (
 AnswersCommand (command.Control control.Image) old new text = AnswersImage old new text
 AnswersCommand (command.Control control.At) old new text = (new ≡ old) × (text ≡ at_text (stamp_of old.present))
 
--- the same of what was heard: a fault is told, and leaves the line as it was
+-- the same of a command or a fault: a fault is answered, and leaves the line as it was
 abbrev pub Answers : Heard → Line → Line → List ℕ → Type 0
 Answers (heard.Command c) old new text = AnswersCommand c old new text
 Answers (heard.Fault f) old new text = (new ≡ old) × (text ≡ fault_text f)

@@ -1,4 +1,4 @@
--- What a session leaves behind, for each of its answers.
+-- What a session leaves, for each of its results.
 use Rattle.std.specs.Prelude.{◌≡◌, ◌⊎◌, ℕ, List, ◌++◌, Ok}
 use Rattle.std.specs.Io.KnownBytes.{Appends, Keeps}
 use Rattle.commands.specs.Commands.{Hearing, commands}
@@ -22,7 +22,7 @@ use Rattle.tpcc_model.specs.Database.{Database}
 abbrev pub Answered : List Heard → Line → Taken → Taken → Type 0
 Answered commands line old new = (last : Line) × (text : List ℕ) × AreAnswered commands line last text × Appends old new text
 
--- all commands were answered, and no fault came behind them
+-- all commands were answered, and no fault came after them
 abbrev pub Served : Line → Hearing → Taken → Taken → Type 0
 Served line hearing old new = (hearing.1 ≡ clean) × Answered hearing.0 line old new
 
@@ -30,7 +30,7 @@ Served line hearing old new = (hearing.1 ≡ clean) × Answered hearing.0 line o
 abbrev pub AnsweredSome : Line → List Heard → Taken → Taken → Type 0
 AnsweredSome line commands old new = (done rest : List Heard) × (commands ≡ done ++ rest) × Answered done line old new
 
--- a beginning of the answers to the first of the commands was written
+-- a prefix of the answers to the first of the commands was written
 abbrev pub AnsweredFront : Line → List Heard → Taken → Taken → Type 0
 AnsweredFront line commands old new =
     (done rest : List Heard) × (commands ≡ done ++ rest) × (last : Line) × (text : List ℕ) × AreAnswered done line last text × AppendsFront old new text
@@ -50,7 +50,7 @@ LeavesSession _ line hearing old new = ⊥
 abbrev pub IsAnswered : Heard → Line → Line → Taken → Taken → Type 0
 IsAnswered h line last old new = (text : List ℕ) × Answers h line last text × IsSoundState last.cards last.present × Appends old new text
 
--- what is left where it wasn't: nothing was written, or a beginning of the answer
+-- what is left if it wasn't: nothing was written, or a prefix of the answer
 abbrev pub LeavesAnswer : RunFault → Heard → Line → Taken → Taken → Type 0
 LeavesAnswer run_fault.Memory h line old new = Keeps old new
 LeavesAnswer run_fault.Write h line old new =
@@ -58,12 +58,12 @@ LeavesAnswer run_fault.Write h line old new =
 LeavesAnswer _ h line old new = ⊥
 
 -- ---- from the bytes of an image and of commands
--- the image gives a database, on which all commands were answered
+-- the image loads as a database, on which all commands were answered
 abbrev pub ServedWhole : List ℕ → List ℕ → Taken → Taken → Type 0
 ServedWhole image_bytes command_bytes old new =
     (db : Database) × (image image_bytes ≡ Ok db) × Served (opening_line db.cards db.rows) (commands command_bytes) old new
 
--- what is left where a session on an image ended early
+-- what a session on an image that ended early leaves
 abbrev pub LeavesWhole : RunFault → List ℕ → List ℕ → Taken → Taken → Type 0
 LeavesWhole (run_fault.Load e) image_bytes command_bytes old new = IsImageFault e image_bytes × Keeps old new
 LeavesWhole (run_fault.Exec refusal.Memory) image_bytes command_bytes old new = Keeps old new

@@ -1,4 +1,4 @@
-//! The records that answer commands, beside those of a batch.
+//! The records of answers other than a batch's.
 ghost use Rattle.std.specs.Prelude.{◌≡◌, ◌∷◌, [], IfOk, OnOk};
 ghost use Rattle.csv.specs.Records.{partial_of};
 ghost use Rattle.records.specs.Spelling.{AddsFields};
@@ -18,7 +18,7 @@ use runner::text::digits_of;
 use std::alloc::Global;
 use tpcc_rows::memory::Memory;
 
-/// Adds the fields of the record of a batch that was committed.
+/// Adds the fields of a commit's record.
 fn push_commit(fields: &mut ByteRecord, sequence: u64) -> Result<(), Memory>
     requires { partial_of fields.old ≡ [] }
     ensures { OnOk result (AddsFields fields.old fields.new (commit_fields sequence)) }
@@ -27,7 +27,7 @@ fn push_commit(fields: &mut ByteRecord, sequence: u64) -> Result<(), Memory>
     push_number(fields, sequence)
 }
 
-/// The record of a batch that was committed.
+/// The record of a commit.
 pub(crate) fn commit_text(alloc: Global, sequence: u64) -> Result<Vec<u8>, Memory>
     ensures { IfOk result (λ text. text.items ≡ commit_text sequence) }
 {
@@ -44,7 +44,7 @@ fn push_token(fields: &mut ByteRecord, token: &[u8; 32]) -> Result<(), Memory>
     push(fields, digits_of(token).as_slice())
 }
 
-/// Adds the fields of a record that tells of a state, which begin with this word.
+/// Adds the fields of a record of a state, which begins with this word.
 fn push_told(
     fields: &mut ByteRecord,
     word: &[u8],
@@ -59,7 +59,7 @@ fn push_told(
     push_token(fields, token)
 }
 
-/// The record that tells of a state, which begins with this word.
+/// The record of a state, which begins with this word.
 pub(crate) fn told_text(
     alloc: Global,
     word: &[u8],
@@ -73,7 +73,7 @@ pub(crate) fn told_text(
     record_text(alloc, &fields)
 }
 
-/// Adds the fields of the record that stands before an image.
+/// Adds the fields of the record that precedes an image.
 fn push_image(fields: &mut ByteRecord, sequence: u64, count: u64) -> Result<(), Memory>
     requires { partial_of fields.old ≡ [] }
     ensures { OnOk result (AddsFields fields.old fields.new (image_fields sequence count)) }
@@ -83,7 +83,7 @@ fn push_image(fields: &mut ByteRecord, sequence: u64, count: u64) -> Result<(), 
     push_number(fields, count)
 }
 
-/// The record that stands before an image of so many bytes.
+/// The record that precedes an image of `count` bytes.
 pub(crate) fn image_head(alloc: Global, sequence: u64, count: usize) -> Result<Vec<u8>, Memory>
     ensures { IfOk result (λ text. text.items ≡ image_head sequence count) }
 {

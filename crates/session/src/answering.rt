@@ -1,4 +1,4 @@
-//! A command, and its answer.
+//! The answer to each command.
 ghost use Rattle.std.specs.Prelude.{◌≡◌, ◌≤◌, IfOk};
 ghost use Rattle.executor.specs.Stamps.{stamp_of};
 ghost use Rattle.runner.specs.StampText.{at_text};
@@ -12,13 +12,15 @@ use executor::{Executor, Refusal};
 use requests::request::Batch;
 use runner::stamp_text::stamp_line;
 use runner::text::batch_text;
+use runner::{Observer, Phase};
 use std::alloc::Global;
 use std::thread::Threads;
 use stored_image::store_image;
 use tpcc_rows::memory::Memory;
-use workers::{Gate, Workers};
+use workers::Workers;
 
-fn answer_batch<R: Threads + Sync, G: Gate>(
+/// Executes a batch, and answers with its replies and record, or with the refusal.
+fn answer_batch<R: Threads + Sync, G: Observer>(
     rt: &R,
     alloc: Global,
     executor: &mut Executor,
@@ -30,12 +32,19 @@ fn answer_batch<R: Threads + Sync, G: Gate>(
     ensures text { IfOk result (λ text. AnswersBatch batch.now executor.old executor.new text.items) }
     ensures sound { IsSoundState executor.new.cards executor.new.present }
 {
-    match executor.execute(rt, alloc, batch, workers, gate) {
-        Ok(record) => batch_text(alloc, &record),
+    gate.begins(Phase::Execute);
+    let executed = executor.execute(rt, alloc, batch, workers, gate);
+    gate.begins(Phase::Write);
+    match executed {
+        Ok(record) => {
+            gate.executed(batch, &record);
+            batch_text(alloc, &record)
+        }
         Err(refusal) => refused_text(alloc, refusal),
     }
 }
 
+/// Commits the oldest uncommitted batch.
 fn answer_commit(alloc: Global, executor: &mut Executor) -> Result<Vec<u8>, Memory>
     requires { IsSoundState executor.old.cards executor.old.present }
     ensures text { IfOk result (λ text. AnswersCommit executor.old executor.new text.items) }
@@ -47,6 +56,7 @@ fn answer_commit(alloc: Global, executor: &mut Executor) -> Result<Vec<u8>, Memo
     }
 }
 
+/// Rolls back to the state after a batch.
 fn answer_rollback(alloc: Global, executor: &mut Executor, sequence: u64) -> Result<Vec<u8>, Memory>
     ensures text { IfOk result (λ text. AnswersRollback sequence executor.old executor.new text.items) }
     ensures sound { IsSoundState executor.new.cards executor.new.present }
@@ -57,7 +67,7 @@ fn answer_rollback(alloc: Global, executor: &mut Executor, sequence: u64) -> Res
     }
 }
 
-/// The image of the present state, behind the record of its length.
+/// The image of the present state, preceded by its record.
 fn image_answer(alloc: Global, executor: &Executor) -> Result<Vec<u8>, Memory>
     ensures { IfOk result (λ text. text.items ≡ image_answer executor.now.cards executor.now.present) }
 {
@@ -68,6 +78,7 @@ fn image_answer(alloc: Global, executor: &Executor) -> Result<Vec<u8>, Memory>
     Ok(text)
 }
 
+/// Answers with the present state's image, or refuses if there is no memory for it.
 fn answer_image(alloc: Global, executor: &Executor) -> Result<Vec<u8>, Memory>
     ensures { IfOk result (λ text. AnswersImage executor.now executor.now text.items) }
 {
@@ -77,7 +88,7 @@ fn answer_image(alloc: Global, executor: &Executor) -> Result<Vec<u8>, Memory>
     }
 }
 
-/// The line that tells where the present state stands.
+/// The stamp of the present state.
 fn at_text(alloc: Global, executor: &Executor) -> Result<Vec<u8>, Memory>
     ensures { IfOk result (λ text. text.items ≡ at_text (stamp_of executor.now.present)) }
 {
@@ -86,8 +97,8 @@ fn at_text(alloc: Global, executor: &Executor) -> Result<Vec<u8>, Memory>
     Ok(text)
 }
 
-/// Does what a command says, or refuses it, and answers it.
-fn answer_command<R: Threads + Sync, G: Gate>(
+/// Carries out a command or refuses it, and returns the answer.
+fn answer_command<R: Threads + Sync, G: Observer>(
     rt: &R,
     alloc: Global,
     executor: &mut Executor,
@@ -114,9 +125,8 @@ fn answer_command<R: Threads + Sync, G: Gate>(
     }
 }
 
-/// Does what a command says, or refuses it, and answers it; a fault is told. Where memory is refused for the answer, the command may have
-/// been done.
-pub(crate) fn answer<R: Threads + Sync, G: Gate>(
+/// Answers a command or a fault. If there is no memory for the answer, the command may have been carried out.
+pub(crate) fn answer<R: Threads + Sync, G: Observer>(
     rt: &R,
     alloc: Global,
     executor: &mut Executor,

@@ -1,8 +1,8 @@
-//! Laws of sessions, as contracts of functions that do nothing.
+//! Laws of sessions, stated as contracts of empty functions.
 ghost use Rattle.session.specs.Laws.{SessionsAreSerial};
 
-/// Whatever commands were answered, each on the line that those before it left: the states are those that one thread leaves after the
-/// batches that are kept, each answer is that of such states, and the database stays sound.
+/// After any commands, the line has the states that one thread leaves after the kept batches, each answer was that of such states,
+/// and the database stayed sound.
 pub fn serial()
     ensures { SessionsAreSerial }
 {}

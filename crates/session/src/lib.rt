@@ -1,4 +1,4 @@
-//! A session: commands come in one by one, and each is answered before the next is read.
+//! Sessions: each command is answered before the next is read.
 #![tactic(auto)]
 
 mod answer_text;

@@ -1,4 +1,4 @@
-//! Sessions on an executor that the caller has.
+//! Sessions on an executor that the caller owns.
 ghost use Rattle.std.specs.Prelude.{◌≡◌, ◌+◌, ◌<◌, ◌≤◌, ◌^◌, [], IfErr, IfSome, OnOk, if◌then◌else◌, option_map};
 ghost use Rattle.commands.specs.Commands.{commands};
 ghost use Rattle.executor.specs.States.{IsSoundState};
@@ -10,12 +10,12 @@ use crate::serving::serve_input;
 use executor::Executor;
 use hashers::Host;
 use records::io::{Sink, Source};
-use runner::RunFault;
+use runner::{Observer, RunFault};
 use std::alloc::Global;
-use workers::{Gate, Workers};
+use workers::Workers;
 
-/// Reads commands in turn, and answers each on the state that an executor has before the next is read.
-pub fn serve_on<R: Host, C: Source, S: Sink, G: Gate>(
+/// Reads commands, and answers each from the executor's present state on before it reads the next.
+pub fn serve_on<R: Host, C: Source, S: Sink, G: Observer>(
     rt: &R,
     alloc: Global,
     executor: &mut Executor,

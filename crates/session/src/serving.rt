@@ -1,4 +1,4 @@
-//! Commands in, answers out: each is answered, and its answer handed on, before the next is read.
+//! The loop of a session: reads a command, answers it and flushes the answer.
 ghost use Rattle.std.specs.Prelude.{◌≡◌, ◌+◌, ◌<◌, ◌≤◌, ◌^◌, [], false, None, IfErr, IfOk, IfSome, OnErr, OnOk, if◌then◌else◌, is_ok, option_map};
 ghost use Rattle.std.specs.Io.KnownBytes.{Appends};
 ghost use Rattle.commands.specs.Commands.{commands};
@@ -16,12 +16,12 @@ use executor::Executor;
 use hashers::Host;
 use records::io::{Failed, Sink, Source};
 use records::slurp::push_all;
-use runner::{RunFault, load_executor};
+use runner::{Observer, Phase, RunFault, load_executor};
 use std::alloc::Global;
 use std::thread::Threads;
-use workers::{Gate, Workers};
+use workers::Workers;
 
-/// Writes an answer, and hands it on.
+/// Writes and flushes an answer.
 fn send<S: Sink>(sink: &mut S, text: &[u8]) -> Result<(), Failed>
     requires { S.failed sink.old < 2 ^ 63 }
     ensures ok { OnOk result (Appends (S.taken sink.old) (S.taken sink.new) text.now) }
@@ -32,8 +32,8 @@ fn send<S: Sink>(sink: &mut S, text: &[u8]) -> Result<(), Failed>
     sink.flush()
 }
 
-/// Answers what was heard, and hands the answer on.
-fn respond<R: Threads + Sync, S: Sink, G: Gate>(
+/// Answers a command or a fault, and writes the answer.
+fn respond<R: Threads + Sync, S: Sink, G: Observer>(
     rt: &R,
     alloc: Global,
     executor: &mut Executor,
@@ -50,6 +50,7 @@ fn respond<R: Threads + Sync, S: Sink, G: Gate>(
     ensures no_read { is_batches_read result ≡ false }
     ensures failures { S.failed sink.new ≡ S.failed sink.old + (if is_write result then 1 else 0) }
 {
+    gate.begins(Phase::Write);
     let Ok(text) = answer(rt, alloc, executor, heard, workers, gate) else {
         return Err(RunFault::Memory);
     };
@@ -59,8 +60,8 @@ fn respond<R: Threads + Sync, S: Sink, G: Gate>(
     Ok(())
 }
 
-/// Reads commands in turn, and answers each before the next is read.
-fn serve_commands<R: Threads + Sync, C: Source, S: Sink, G: Gate>(
+/// Reads commands, and answers each before it reads the next.
+fn serve_commands<R: Threads + Sync, C: Source, S: Sink, G: Observer>(
     rt: &R,
     alloc: Global,
     executor: &mut Executor,
@@ -86,6 +87,7 @@ fn serve_commands<R: Threads + Sync, C: Source, S: Sink, G: Gate>(
     ensures sink_failures { S.failed sink.new ≡ S.failed sink.old + (if is_write result then 1 else 0) }
 {
     'commands: loop {
+        gate.begins(Phase::Read);
         let heard = match reader.next_heard(alloc, input) {
             Ok(Some(heard)) => heard,
             Ok(None) => return Ok(()),
@@ -97,7 +99,7 @@ fn serve_commands<R: Threads + Sync, C: Source, S: Sink, G: Gate>(
     }
 }
 
-/// Keeps threads for so many workers. Its frame has the room in which their texts are made.
+/// Starts helper threads. In a frame of its own, which is freed before the session begins.
 #[inline(never)]
 fn keep_threads<R: Host>(rt: &R, alloc: Global, executor: &mut Executor, workers: Workers)
     ensures { executor.new ≡ executor.old }
@@ -105,10 +107,10 @@ fn keep_threads<R: Host>(rt: &R, alloc: Global, executor: &mut Executor, workers
     executor.keep_threads(*rt, alloc, workers);
 }
 
-/// Reads the commands of a text in turn, and answers each before the next is read. Its frame has the reader's room, that of `serve`
-/// the executor's.
+/// Starts helper threads, reads commands, and answers each before it reads the next. Its frame holds the reader, that of `serve`
+/// the executor.
 #[inline(never)]
-pub(crate) fn serve_input<R: Host, C: Source, S: Sink, G: Gate>(
+pub(crate) fn serve_input<R: Host, C: Source, S: Sink, G: Observer>(
     rt: &R,
     alloc: Global,
     executor: &mut Executor,
@@ -135,11 +137,11 @@ pub(crate) fn serve_input<R: Host, C: Source, S: Sink, G: Gate>(
     serve_commands(rt, alloc, executor, &mut reader, input, sink, workers, gate)
 }
 
-/// Loads an image, and then reads commands in turn, each of which is answered before the next is read. A record at fault is answered by
-/// the fault, and changes nothing; those behind it are passed over up to the next that names a command. What is written is the same for
-/// every number of workers, whoever is told of the executions, and however the bytes of the commands come in pieces.
+/// Loads an image, and then reads commands, and answers each before it reads the next. A bad record is answered with its fault, and
+/// changes nothing; the records after it are skipped up to the next that names a command. The output is the same for every number of
+/// workers and every observer, and however the input is split into reads.
 #[inline(never)]
-pub fn serve<R: Host, I: Source, C: Source, S: Sink, G: Gate>(
+pub fn serve<R: Host, I: Source, C: Source, S: Sink, G: Observer>(
     rt: &R,
     alloc: Global,
     image: &mut I,
@@ -156,12 +158,13 @@ pub fn serve<R: Host, I: Source, C: Source, S: Sink, G: Gate>(
     ensures err { IfErr result (λ e. IfSome (I.left image.old) (λ image_bytes. IfSome (C.left input.old) (λ command_bytes.
         LeavesWhole e image_bytes command_bytes (S.taken sink.old) (S.taken sink.new)))) }
 
-    // An end that failed is the reason of the answer, and every failure is answered.
+    // A stream is reported as failed exactly if it failed.
     ensures image_failures { I.failed image.new ≡ I.failed image.old + (if is_image_read result then 1 else 0) }
     ensures input_failures { C.failed input.new ≡ C.failed input.old + (if is_batches_read result then 1 else 0) }
     ensures sink_failures { S.failed sink.new ≡ S.failed sink.old + (if is_write result then 1 else 0) }
 {
-    // The executor is used where it was made: moved, it would take its room on the stack twice.
+    // The executor stays where it was made: moved, it would be on the stack twice.
+    gate.begins(Phase::Load);
     let mut loaded = load_executor(rt, alloc, image);
     match &mut loaded {
         Ok(executor) => serve_input(rt, alloc, executor, input, sink, workers, gate),

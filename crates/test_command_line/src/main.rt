@@ -8,7 +8,7 @@ use std::env::FillError;
 use std::rt::Env;
 
 /// Lines that are taken, that are refused, and that ask for help or the version.
-const LINES: [&str; 89] = [
+const LINES: [&str; 94] = [
     "eve-tpcc run image.csv batches.csv",
     "eve-tpcc run - batches.csv",
     "eve-tpcc run image.csv - --workers 2",
@@ -23,6 +23,7 @@ const LINES: [&str; 89] = [
     "eve-tpcc run image.csv batches.csv --from 2,7,ab",
     "eve-tpcc run image.csv batches.csv --at",
     "eve-tpcc run --at --from=2,7,ab image.csv --store later.csv batches.csv",
+    "eve-tpcc run image.csv batches.csv --stats",
     "eve-tpcc check image.csv",
     "eve-tpcc check -",
     "eve-tpcc make 1 45 100",
@@ -52,8 +53,10 @@ const LINES: [&str; 89] = [
     "eve-tpcc run a b --from 1 --from 2",
     "eve-tpcc run a b --at --at",
     "eve-tpcc run a b --at=true",
+    "eve-tpcc run a b --stats --stats",
     "eve-tpcc check a --from 1",
     "eve-tpcc check a --at",
+    "eve-tpcc check a --stats",
     "eve-tpcc check a --store b",
     "eve-tpcc check",
     "eve-tpcc check a b",
@@ -92,11 +95,13 @@ const LINES: [&str; 89] = [
     "eve-tpcc serve --workers 8 image.csv",
     "eve-tpcc serve image.csv --from 2,7,ab",
     "eve-tpcc serve --from=2,7,ab --workers 8 image.csv",
+    "eve-tpcc serve --stats image.csv",
     "eve-tpcc serve",
     "eve-tpcc serve a b",
     "eve-tpcc serve a --workers 0",
     "eve-tpcc serve a --from",
     "eve-tpcc serve a --at",
+    "eve-tpcc serve a --stats=true",
     "eve-tpcc help serve",
 ];
 
@@ -183,6 +188,13 @@ fn print_option<R: Print>(rt: &R, before: &str, text: &Option<String>) {
     }
 }
 
+/// Prints a text if a flag was given.
+fn print_flag<R: Print>(rt: &R, text: &str, is_given: bool) {
+    if is_given {
+        let _ = print!(rt; "{text}");
+    }
+}
+
 fn print_line<R: Print>(rt: &R, line: &Line) {
     let _ = match line {
         Line::Run {
@@ -192,11 +204,14 @@ fn print_line<R: Print>(rt: &R, line: &Line) {
             store,
             from,
             at,
+            stats,
         } => {
             let _ = print!(rt; "run {image} {batches} {}", workers.count());
             print_option(rt, ", stored in ", store);
             print_option(rt, ", from ", from);
-            println!(rt; "{}", if *at { ", told at" } else { "" })
+            print_flag(rt, ", with its stamp", *at);
+            print_flag(rt, ", with statistics", *stats);
+            println!(rt; "")
         }
         Line::Check { image } => println!(rt; "check {image}"),
         Line::Make {
@@ -208,9 +223,11 @@ fn print_line<R: Print>(rt: &R, line: &Line) {
             image,
             workers,
             from,
+            stats,
         } => {
             let _ = print!(rt; "serve {image} {}", workers.count());
             print_option(rt, ", from ", from);
+            print_flag(rt, ", with statistics", *stats);
             println!(rt; "")
         }
     };

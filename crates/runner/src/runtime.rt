@@ -1,11 +1,11 @@
-//! What executes batches.
+//! What batches are executed with.
 
 use std::alloc::Global;
 use workers::Workers;
 
-/// The workers, their threads and allocator, and the gate that observes each execution.
+/// The threads, memory, workers and observer that batches are executed with.
 #[derive(Drop)]
-pub(crate) struct Crew<'a, R, G> {
+pub(crate) struct Runtime<'a, R, G> {
     pub rt: &'a R,
     pub alloc: Global,
     pub workers: Workers,
