@@ -7,11 +7,13 @@ use crate::summary::Summary;
 use crate::tally::Tally;
 use executor::Record;
 use requests::request::Batch;
+use rollback::Dirty;
 use runner::{Observer, Phase};
 use std::rt::Files;
 use std::sync::atomic::{AtomicU64, Ordering};
 use std::sync::{Mutex, MutexGuard};
 use std::time::{Clock, Instant};
+use tpcc_rows::codes::LEAVES;
 use tpcc_rows::granule::Granule;
 use workers::Gate;
 
@@ -64,6 +66,17 @@ impl<'a, R: Clock> Statistics<'a, R> {
     }
 }
 
+/// The number of dirty leaves.
+fn count_of(dirty: &Dirty) -> usize {
+    let mut count = 0usize;
+    for leaf in 0..LEAVES {
+        if dirty.has(leaf) {
+            count = count.saturating_add(1);
+        }
+    }
+    count
+}
+
 impl<R: Clock + Sync> Gate for Statistics<'_, R> {
     fn enter(&self, _: usize) {}
 
@@ -89,10 +102,10 @@ impl<R: Clock + Sync> Gate for Statistics<'_, R> {
         }
     }
 
-    fn refreshes(&self, count: usize) {
+    fn refreshes(&self, dirty: &Dirty) {
         self.begin(Part::Hash);
         if let Some(mut measured) = self.measured() {
-            measured.tally.count_leaves(count);
+            measured.tally.count_leaves(count_of(dirty));
         }
     }
 }

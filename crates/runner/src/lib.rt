@@ -13,7 +13,6 @@ mod reading;
 mod resumed;
 pub mod resumed_fault;
 mod run;
-mod runtime;
 mod serving;
 pub mod stamp_text;
 pub mod store_fault;

@@ -9,7 +9,6 @@ ghost use Rattle.telling.specs.Told.{OfSource};
 use crate::fault::RunFault;
 use crate::observer::Observer;
 use crate::run::run_read;
-use crate::runtime::Runtime;
 use crate::store_fault::StoredRunFault;
 use crate::stored_run::store_read;
 use executor::Executor;
@@ -17,7 +16,7 @@ use hashers::Host;
 use records::io::Sink;
 use std::alloc::Global;
 use telling::TellingSource;
-use workers::Workers;
+use workers::{Runtime, Workers};
 
 /// Reads all bytes of the batches; then parses, executes, commits and writes batch after batch, from the executor's present
 /// state on. Returns the number of batches.

@@ -13,13 +13,12 @@ use crate::observer::{Observer, Phase};
 use crate::opening::load_told;
 use crate::resumed_fault::ResumedFault;
 use crate::run::run_read;
-use crate::runtime::Runtime;
 use executor::{Executor, NumbersTaken, Stamp};
 use hashers::Host;
 use records::io::Sink;
 use std::alloc::Global;
 use telling::TellingSource;
-use workers::Workers;
+use workers::{Runtime, Workers};
 
 /// The result of a resumed run.
 #[derive(Drop)]

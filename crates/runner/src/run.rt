@@ -9,14 +9,13 @@ use crate::fault::RunFault;
 use crate::observer::{Observer, Phase};
 use crate::opening::load_told;
 use crate::reading::read_batches;
-use crate::runtime::Runtime;
 use crate::serving::run_batches;
 use executor::Executor;
 use hashers::Host;
 use records::io::Sink;
 use std::alloc::Global;
 use telling::TellingSource;
-use workers::Workers;
+use workers::{Runtime, Workers};
 
 /// Starts helper threads, and runs the batches of a text from the executor's present state on.
 pub(crate) fn run_given<R: Host, S: Sink, G: Observer>(

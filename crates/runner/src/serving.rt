@@ -10,7 +10,6 @@ ghost use Rattle.runner.specs.WholeRuns.{LeavesLine};
 
 use crate::fault::RunFault;
 use crate::observer::{Observer, Phase};
-use crate::runtime::Runtime;
 use crate::text::batch_text;
 use executor::{Executor, MOST_REQUESTS};
 use records::io::Sink;
@@ -18,6 +17,7 @@ use records::slurp::push_all;
 use requests::batch_reader::BatchReader;
 use requests::request::Batch;
 use std::thread::Threads;
+use workers::Runtime;
 
 /// Executes and commits a batch after committed ones, and writes its replies and its record. If there is no memory for that text,
 /// the batch is rolled back.

@@ -13,7 +13,6 @@ use crate::observer::{Observer, Phase};
 use crate::opening::load_told;
 use crate::reading::read_batches;
 use crate::run::run_given;
-use crate::runtime::Runtime;
 use crate::store_fault::{StoreFault, StoredRunFault};
 use executor::Executor;
 use hashers::Host;
@@ -23,7 +22,7 @@ use std::alloc::Global;
 use stored_image::store_image;
 use telling::TellingSource;
 use tpcc_rows::memory::Memory;
-use workers::Workers;
+use workers::{Runtime, Workers};
 
 /// The image of the executor's present state.
 fn image_of(alloc: Global, executor: &Executor) -> Result<Vec<u8>, Memory>
