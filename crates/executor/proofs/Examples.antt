@@ -15,7 +15,7 @@ use Rattle.executor.specs.declared.path.Path.TheVariants as path
 abbrev paid : ℕ → ℕ → ℕ → Footprint Granule
 paid w d c = paid_touch (record { warehouse = w; district = d; customer_warehouse = w; customer_district = d; customer = choice.Number c; amount = 100 }) c
 
--- a new order of one line, out of its own warehouse
+-- a new order of one chain, out of its own warehouse
 abbrev placed : ℕ → ℕ → ℕ → Footprint Granule
 placed w d c = placed_touch (record { warehouse = w; district = d; customer = c; lines = (record { item = 1; supply = w; quantity = 1 }) ∷ [] })
 

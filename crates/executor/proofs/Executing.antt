@@ -7,16 +7,16 @@ use Rattle.requests.specs.declared.request.Batch.{Batch}
 use Rattle.tpcc_model.specs.Serial.{after_batch, batch_rows}
 use Rattle.executor.specs.Executions.{IsRecordOf}
 use Rattle.executor.specs.Laws.{BatchesKeep}
-use Rattle.executor.specs.Lines.{IsKeptState, Line, extended, state_of, states_of}
+use Rattle.executor.specs.Chains.{IsKeptState, Chain, extended, state_of, states_of}
 use Rattle.executor.specs.States.{AreWithinLimits, IsSoundState}
 use Rattle.executor.specs.declared.engine.Engine.{Engine}
 use Rattle.executor.specs.declared.path.Path.{Path}
 use Rattle.executor.specs.declared.record.Record.{Record}
 use Rattle.executor.specs.declared.stamp.Stamp.{Stamp}
-use Rattle.executor.proofs.LineFacts.{all-one, states_of-append}
+use Rattle.executor.proofs.ChainFacts.{all-one, states_of-append}
 
-abbrev pub line_of : Engine → List Stamp → Stamp → Line
-line_of engine stamps stamp = record { cards = engine.catalog; earlier = states_of engine.store.points stamps; present = state_of engine.store.rows stamp }
+abbrev pub chain_of : Engine → List Stamp → Stamp → Chain
+chain_of engine stamps stamp = record { cards = engine.catalog; earlier = states_of engine.store.points stamps; present = state_of engine.store.rows stamp }
 
 -- the engine was left so by a batch that met this stamp, whose record tells the stamp after it
 pub record IsLeftBy (old new : Engine) (stamp now : Stamp) (batch : Batch) (how : Path) (r : Record) : Type 0 where
@@ -41,8 +41,8 @@ module _ (old new : Engine) (stamp now : Stamp) (batch : Batch) (how : Path) (r 
       let token = left.token ∙ left.told.token in
       (λ i. record { rows = left.rows i; next = left.next i; sequence = sequence i; token = token i })
 
-  pub line_after : (stamps more : List Stamp) → length stamps ≡ length old.store.points → more ≡ stamps ++ stamp ∷ [] → line_of new more now ≡ extended (line_of old stamps stamp) batch
-  line_after stamps more same kept =
+  pub chain_after : (stamps more : List Stamp) → length stamps ≡ length old.store.points → more ≡ stamps ++ stamp ∷ [] → chain_of new more now ≡ extended (chain_of old stamps stamp) batch
+  chain_after stamps more same kept =
       let earlier : states_of new.store.points more ≡ states_of old.store.points stamps ++ state_of old.store.rows stamp ∷ [] =
       (λ i. states_of (left.points i) (kept i)) ∙ states_of-append old.store.points stamps old.store.rows stamp same in
       (λ i. record { cards = left.cards i; earlier = earlier i; present = present_after i })

@@ -9,9 +9,9 @@ use Rattle.tpcc_model.specs.Soundness.{IsSound}
 use Rattle.executor.specs.Executions.{IsRecordOf}
 use Rattle.executor.specs.Headline.{Headline, MeetsConditions, all_serially, completed, completed_serially}
 use Rattle.executor.specs.Laws.{BatchesKeep, ExecutionsHaveHeadline, OpeningIsSound, RunsHaveHeadline, SerialBatchesHaveHeadline}
-use Rattle.executor.specs.Lines.{Line, extended, opening_line}
+use Rattle.executor.specs.Chains.{Chain, extended, opening_chain}
 use Rattle.executor.specs.Paths.{path_of}
-use Rattle.executor.specs.Runs.{AreRecordsOf, line_after}
+use Rattle.executor.specs.Runs.{AreRecordsOf, chain_after}
 use Rattle.executor.specs.States.{AreAllWithin, IsSoundState}
 use Rattle.executor.specs.declared.record.Record.{Record}
 use Rattle.executor.specs.declared.refusal.Refusal.{Refusal}
@@ -47,20 +47,20 @@ headline_of cards start batches records present are left sound =
     }
 
 -- one batch that was executed
-pub headline_of_one : (old new : Line) (batch : Batch) (r : Record) → IsRecordOf old.cards old.present batch (path_of old.cards old.present batch) r → new ≡ extended old batch
+pub headline_of_one : (old new : Chain) (batch : Batch) (r : Record) → IsRecordOf old.cards old.present batch (path_of old.cards old.present batch) r → new ≡ extended old batch
     → IsSoundState old.cards old.present → IsSoundState new.cards new.present → Headline old.cards old.present (batch ∷ []) (completed r ∷ []) new.present
-headline_of_one old new batch r is line sound sound_after =
-    headline_of old.cards old.present (batch ∷ []) (r ∷ []) new.present (is, tt) (ap (λ (l : Line). l.present) line) each
+headline_of_one old new batch r is chain sound sound_after =
+    headline_of old.cards old.present (batch ∷ []) (r ∷ []) new.present (is, tt) (ap (λ (l : Chain). l.present) chain) each
   where
     each : (count : ℕ) → count ≤ 1 → IsSoundState old.cards (serial old.cards old.present (take count (batch ∷ [])))
     each zero low = sound
-    each (suc zero) low = subst (λ (l : Line). IsSoundState l.cards l.present) line sound_after
+    each (suc zero) low = subst (λ (l : Chain). IsSoundState l.cards l.present) chain sound_after
     each (suc (suc n)) low = absurd (omega (arith, low))
 
-pub headline_if_ok : (old new : Line) (batch : Batch) (result : Result Record Refusal) → IfOk result (IsRecordOf old.cards old.present batch (path_of old.cards old.present batch)) → OnOk result (new ≡ extended old batch)
+pub headline_if_ok : (old new : Chain) (batch : Batch) (result : Result Record Refusal) → IfOk result (IsRecordOf old.cards old.present batch (path_of old.cards old.present batch)) → OnOk result (new ≡ extended old batch)
     → IsSoundState old.cards old.present → IsSoundState new.cards new.present → IfOk result (λ r. Headline old.cards old.present (batch ∷ []) (completed r ∷ []) new.present)
-headline_if_ok old new batch (Ok r) is line sound sound_after = headline_of_one old new batch r is line sound sound_after
-headline_if_ok old new batch (Err e) is line sound sound_after = tt
+headline_if_ok old new batch (Ok r) is chain sound sound_after = headline_of_one old new batch r is chain sound sound_after
+headline_if_ok old new batch (Err e) is chain sound sound_after = tt
 
 -- batches within their limits keep each state sound
 pub each_state_sound : BatchesKeep → (cards : Cards) (start : State) (batches : List Batch) → IsSoundState cards start → AreAllWithin cards start batches
@@ -72,18 +72,18 @@ each_state_sound keep cards start (batch ∷ batches) sound within (suc count) =
     each_state_sound keep cards (after_batch cards start batch) batches (keep cards start batch sound within.0) within.1 count
 
 -- ---- a run
-present_after : (line : Line) (done : List Batch) → (line_after line done).present ≡ serial line.cards line.present done
-present_after line [] = refl
-present_after line (batch ∷ done) = refl
+present_after : (chain : Chain) (done : List Batch) → (chain_after chain done).present ≡ serial chain.cards chain.present done
+present_after chain [] = refl
+present_after chain (batch ∷ done) = refl
 
-sound_after : (line : Line) (done : List Batch) → IsSoundState (line_after line done).cards (line_after line done).present → IsSoundState line.cards (serial line.cards line.present done)
-sound_after line [] sound = sound
-sound_after line (batch ∷ done) sound = sound
+sound_after : (chain : Chain) (done : List Batch) → IsSoundState (chain_after chain done).cards (chain_after chain done).present → IsSoundState chain.cards (serial chain.cards chain.present done)
+sound_after chain [] sound = sound
+sound_after chain (batch ∷ done) sound = sound
 
-pub headline_of_line : (old new : Line) (batches : List Batch) (records : List Record) → AreRecordsOf old.cards old.present batches records → new ≡ line_after old (take (length records) batches)
+pub headline_of_chain : (old new : Chain) (batches : List Batch) (records : List Record) → AreRecordsOf old.cards old.present batches records → new ≡ chain_after old (take (length records) batches)
     → ((count : ℕ) → count ≤ length records → IsSoundState old.cards (serial old.cards old.present (take count batches))) → Headline old.cards old.present batches (map completed records) new.present
-headline_of_line old new batches records are line sound =
-    headline_of old.cards old.present batches records new.present are (ap (λ (l : Line). l.present) line ∙ present_after old (take (length records) batches)) sound
+headline_of_chain old new batches records are chain sound =
+    headline_of old.cards old.present batches records new.present are (ap (λ (l : Chain). l.present) chain ∙ present_after old (take (length records) batches)) sound
 
 -- no batch
 pub sound_before : (cards : Cards) (start : State) (batches : List Batch) → IsSoundState cards start → (count : ℕ) → count ≤ 0 → IsSoundState cards (serial cards start (take count batches))
@@ -92,30 +92,30 @@ sound_before cards start [] sound (suc count) low = sound
 sound_before cards start (batch ∷ batches) sound zero low = sound
 sound_before cards start (batch ∷ batches) sound (suc count) low = absurd (omega (arith, low))
 
-pub headline_of_none : (line : Line) (batches : List Batch) (records : List Record) → records ≡ [] → IsSoundState line.cards line.present → Headline line.cards line.present batches (map completed records) line.present
-headline_of_none line batches records none sound =
-    subst (λ (rs : List Record). Headline line.cards line.present batches (map completed rs) line.present) (sym none)
-    (headline_of line.cards line.present batches [] line.present (no_records batches) (left batches) (sound_before line.cards line.present batches sound))
+pub headline_of_none : (chain : Chain) (batches : List Batch) (records : List Record) → records ≡ [] → IsSoundState chain.cards chain.present → Headline chain.cards chain.present batches (map completed records) chain.present
+headline_of_none chain batches records none sound =
+    subst (λ (rs : List Record). Headline chain.cards chain.present batches (map completed rs) chain.present) (sym none)
+    (headline_of chain.cards chain.present batches [] chain.present (no_records batches) (left batches) (sound_before chain.cards chain.present batches sound))
   where
-    no_records : (bs : List Batch) → AreRecordsOf line.cards line.present bs []
+    no_records : (bs : List Batch) → AreRecordsOf chain.cards chain.present bs []
     no_records [] = tt
     no_records (b ∷ bs) = tt
 
-    left : (bs : List Batch) → line.present ≡ serial line.cards line.present (take 0 bs)
+    left : (bs : List Batch) → chain.present ≡ serial chain.cards chain.present (take 0 bs)
     left [] = refl
     left (b ∷ bs) = refl
 
 -- one batch more
-pub sound_more : (old new : Line) (batches : List Batch) (i : ℕ) → new ≡ line_after old (take (i + 1) batches) → IsSoundState new.cards new.present
+pub sound_more : (old new : Chain) (batches : List Batch) (i : ℕ) → new ≡ chain_after old (take (i + 1) batches) → IsSoundState new.cards new.present
     → ((count : ℕ) → count ≤ i → IsSoundState old.cards (serial old.cards old.present (take count batches)))
     → (count : ℕ) → count ≤ i + 1 → IsSoundState old.cards (serial old.cards old.present (take count batches))
-sound_more old new batches i line sound each count low =
+sound_more old new batches i chain sound each count low =
     let either : (count ≤ i) ⊎ (i + 1 ≡ count) = grind (arith, low) in
     elim either [
       | inl before ↦ each count before
       | inr here ↦
           subst (λ n. IsSoundState old.cards (serial old.cards old.present (take n batches))) here
-          (sound_after old (take (i + 1) batches) (subst (λ (l : Line). IsSoundState l.cards l.present) line sound))
+          (sound_after old (take (i + 1) batches) (subst (λ (l : Chain). IsSoundState l.cards l.present) chain sound))
     ]
 
 length-all_serially : (cards : Cards) (state : State) (batches : List Batch) → length (all_serially cards state batches) ≡ length batches
@@ -143,10 +143,10 @@ serial_batches_have_headline keep cards start batches sound within =
     headline_where_sound cards start batches (λ count low. each_state_sound keep cards start batches sound within count)
 
 pub executions_have_headline : BatchesKeep → ExecutionsHaveHeadline
-executions_have_headline keep old new batch r sound within is line =
-    headline_of_one old new batch r is line sound (subst (λ (l : Line). IsSoundState l.cards l.present) (sym line) (keep old.cards old.present batch sound within))
+executions_have_headline keep old new batch r sound within is chain =
+    headline_of_one old new batch r is chain sound (subst (λ (l : Chain). IsSoundState l.cards l.present) (sym chain) (keep old.cards old.present batch sound within))
 
 pub runs_have_headline : OpeningIsSound → BatchesKeep → RunsHaveHeadline
 runs_have_headline opened keep db most new batches end sound within run =
-    headline_of_line (opening_line db.cards db.rows) new batches end.records.items run.records run.line
+    headline_of_chain (opening_chain db.cards db.rows) new batches end.records.items run.records run.chain
     (λ count low. each_state_sound keep db.cards (opening db.cards db.rows) batches (opened db sound) within count)

@@ -6,7 +6,7 @@ pub mod Examples
 pub mod Numbers
 pub mod Filing
 pub mod LevelSteps
-pub mod LineFacts
+pub mod ChainFacts
 pub mod Executing
 pub mod Settling
 pub mod Openings
@@ -15,6 +15,6 @@ pub mod Admissions
 pub mod Running
 pub mod Headlines
 pub mod CleanLeaves
-pub mod SerialLines
+pub mod SerialChains
 pub mod Returns
 pub mod InTurn

@@ -6,7 +6,7 @@ use Rattle.tpcc_rows.specs.RowMap.{Rows}
 use Rattle.tpcc_model.specs.Roots.{root}
 use Rattle.tpcc_model.specs.Serial.{State, next_number, opening}
 use Rattle.tpcc_model.specs.Tokens.{no_token, replies_digest, token_of}
-use Rattle.executor.specs.Lines.{state_of}
+use Rattle.executor.specs.Chains.{state_of}
 use Rattle.executor.specs.declared.stamp.Stamp.{Stamp}
 
 pub opening_stamp : (cards : Cards) (rows : Rows) (stamp : Stamp) (digest top none : List ℕ) → stamp.next ≡ next_number rows → digest ≡ catalog_digest cards → top ≡ root rows → none ≡ replies_digest stamp.next []

@@ -4,20 +4,20 @@ use Rattle.catalog.specs.CardMap.{Cards}
 use Rattle.requests.specs.declared.request.Batch.{Batch}
 use Rattle.tpcc_model.specs.Serial.{State, after_batch, serial}
 use Rattle.executor.specs.Executions.{IsRecordOf}
-use Rattle.executor.specs.Lines.{Line, extended}
+use Rattle.executor.specs.Chains.{Chain, extended}
 use Rattle.executor.specs.Paths.{path_of}
-use Rattle.executor.specs.Runs.{AreRecordsOf, alone, line_after}
+use Rattle.executor.specs.Runs.{AreRecordsOf, alone, chain_after}
 use Rattle.executor.specs.declared.record.Record.{Record}
 
 pub serial-more : (cards : Cards) (state : State) (done : List Batch) (batch : Batch) → serial cards state (done ++ batch ∷ []) ≡ after_batch cards (serial cards state done) batch
 serial-more cards state [] batch = refl
 serial-more cards state (first ∷ done) batch = serial-more cards (after_batch cards state first) done batch
 
--- the line of one state, after one batch more
-pub line_more : (line : Line) (done : List Batch) (batch : Batch) → alone (extended (line_after line done) batch) ≡ line_after line (done ++ batch ∷ [])
-line_more line [] batch = refl
-line_more line (first ∷ done) batch =
-    ap (λ (s : State). let l : Line = record { cards = line.cards; earlier = []; present = s } in l) (sym (serial-more line.cards line.present (first ∷ done) batch))
+-- the chain of one state, after one batch more
+pub chain_more : (chain : Chain) (done : List Batch) (batch : Batch) → alone (extended (chain_after chain done) batch) ≡ chain_after chain (done ++ batch ∷ [])
+chain_more chain [] batch = refl
+chain_more chain (first ∷ done) batch =
+    ap (λ (s : State). let l : Chain = record { cards = chain.cards; earlier = []; present = s } in l) (sym (serial-more chain.cards chain.present (first ∷ done) batch))
 
 -- one record more
 pub records_more : (cards : Cards) (state : State) (batches : List Batch) (records : List Record) (batch : Batch) (r : Record) → length records < length batches → batch ≡ get_or batches (length records) batch
@@ -36,8 +36,8 @@ take_more (b ∷ batches) (suc i) batch below at =
     ap (λ (n : ℕ). take n (b ∷ batches)) (let same : suc i + 1 ≡ suc (i + 1) = omega arith in same)
     ∙ ap (λ (ds : List Batch). b ∷ ds) (take_more batches i batch (omega (arith, below)) at)
 
--- the record of a batch that met the line after those before it
-pub record_at : (line now : Line) (done : List Batch) (batch : Batch) (r : Record) → now ≡ line_after line done → IsRecordOf now.cards now.present batch (path_of now.cards now.present batch) r
-    → IsRecordOf line.cards (serial line.cards line.present done) batch (path_of line.cards (serial line.cards line.present done) batch) r
-record_at line now [] batch r at is = subst (λ (l : Line). IsRecordOf l.cards l.present batch (path_of l.cards l.present batch) r) at is
-record_at line now (first ∷ done) batch r at is = subst (λ (l : Line). IsRecordOf l.cards l.present batch (path_of l.cards l.present batch) r) at is
+-- the record of a batch that met the chain after those before it
+pub record_at : (chain now : Chain) (done : List Batch) (batch : Batch) (r : Record) → now ≡ chain_after chain done → IsRecordOf now.cards now.present batch (path_of now.cards now.present batch) r
+    → IsRecordOf chain.cards (serial chain.cards chain.present done) batch (path_of chain.cards (serial chain.cards chain.present done) batch) r
+record_at chain now [] batch r at is = subst (λ (l : Chain). IsRecordOf l.cards l.present batch (path_of l.cards l.present batch) r) at is
+record_at chain now (first ∷ done) batch r at is = subst (λ (l : Chain). IsRecordOf l.cards l.present batch (path_of l.cards l.present batch) r) at is

@@ -5,7 +5,7 @@ use Rattle.requests.specs.declared.request.Batch.{Batch}
 use Rattle.tpcc_model.specs.Serial.{State}
 use Rattle.executor.specs.Executions.{IsRecordOf}
 use Rattle.executor.specs.Kept.{Kept, none_kept, up_to, with_batch, with_committed}
-use Rattle.executor.specs.Lines.{IsReturned, Line, committed, extended}
+use Rattle.executor.specs.Chains.{IsReturned, Chain, committed, extended}
 use Rattle.executor.specs.Paths.{path_of}
 use Rattle.executor.specs.States.{IsSoundState}
 use Rattle.executor.specs.declared.path.Path.TheVariants as path
@@ -25,7 +25,7 @@ IsRecordOfEither cards state batch r = IsRecordOf cards state batch (path_of car
 
 -- ---- the lines
 -- before and after a call
-abbrev pub Leads : Call → Line → Line → Type 0
+abbrev pub Leads : Call → Chain → Chain → Type 0
 Leads (Executed batch r) old new =
     IsRecordOfEither old.cards old.present batch r × (new ≡ extended old batch) × IsSoundState new.cards new.present
 Leads Committed old new = new ≡ committed old
@@ -33,9 +33,9 @@ Leads (ReturnedTo sequence) old new = IsReturned sequence old new × IsSoundStat
 Leads Refused old new = new ≡ old
 
 -- before and after calls, one after the other
-abbrev pub LeadOn : List Call → Line → Line → Type 0
+abbrev pub LeadOn : List Call → Chain → Chain → Type 0
 LeadOn [] old new = new ≡ old
-LeadOn (call ∷ calls) old new = (between : Line) × Leads call old between × LeadOn calls between new
+LeadOn (call ∷ calls) old new = (between : Chain) × Leads call old between × LeadOn calls between new
 
 -- ---- the kept batches: each from its execution until the executor rolls back to a state before it
 -- after a call

@@ -4,7 +4,7 @@ use Rattle.requests.specs.declared.reply.Reply.{Reply}
 use Rattle.tpcc_model.specs.Serial.{State, batch_replies, batch_rows}
 use Rattle.tpcc_rows.specs.RowMap.{Rows}
 use Rattle.executor.specs.Executions.{IsRecordOf, path_in}
-use Rattle.executor.specs.Lines.{state_of}
+use Rattle.executor.specs.Chains.{state_of}
 use Rattle.executor.specs.declared.engine.Engine.{Engine}
 use Rattle.executor.specs.declared.next_batch.NextBatch.{NextBatch}
 use Rattle.executor.specs.declared.path.Path.{Path}

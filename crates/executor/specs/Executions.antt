@@ -3,7 +3,7 @@ use Rattle.std.specs.Prelude.{◌≡◌, ℕ, ◌+◌, Bool, ◌||◌, nat_lt, i
 use Rattle.catalog.specs.CardMap.{Cards}
 use Rattle.requests.specs.declared.request.Batch.{Batch}
 use Rattle.tpcc_model.specs.Serial.{State, after_batch, batch_replies}
-use Rattle.executor.specs.Lines.{Line}
+use Rattle.executor.specs.Chains.{Chain}
 use Rattle.executor.specs.Paths.{path_of}
 use Rattle.executor.specs.declared.next_batch.TheConstants.{LAST_NUMBER, MOST_REQUESTS}
 use Rattle.executor.specs.declared.path.Path.{Path}
@@ -18,11 +18,11 @@ abbrev pub exhausts : State → Batch → Bool
 exhausts state batch = nat_lt LAST_NUMBER (state.sequence + 1) || nat_lt END_OF_NUMBERS (state.next + length batch.requests)
 
 -- why the batch is refused, apart from lack of memory; `most` batches may be uncommitted
-abbrev pub refusal_for : ℕ → Line → Batch → Option Refusal
-refusal_for most line batch =
+abbrev pub refusal_for : ℕ → Chain → Batch → Option Refusal
+refusal_for most chain batch =
     if nat_lt MOST_REQUESTS (length batch.requests) then Some refusal.BatchTooLong
-    else if exhausts line.present batch then Some refusal.NumbersExhausted
-    else if nat_lt (length line.earlier) most then None
+    else if exhausts chain.present batch then Some refusal.NumbersExhausted
+    else if nat_lt (length chain.earlier) most then None
     else Some refusal.PointsFull
 
 -- a call is refused for this reason, or else for lack of memory

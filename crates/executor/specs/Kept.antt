@@ -1,9 +1,9 @@
--- The batches that an executor keeps, and the line that one thread gets from them.
+-- The batches that an executor keeps, and the chain that one thread gets from them.
 use Rattle.std.specs.Prelude.{ℕ, ◌+◌, ◌-◌, List, [], ◌∷◌, ◌++◌, drop, length, take}
 use Rattle.catalog.specs.CardMap.{Cards}
 use Rattle.requests.specs.declared.request.Batch.{Batch}
 use Rattle.tpcc_model.specs.Serial.{State, after_batch, serial}
-use Rattle.executor.specs.Lines.{Line}
+use Rattle.executor.specs.Chains.{Chain}
 
 -- the committed ones and the uncommitted ones, each list in order of execution
 pub record Kept : Type 0 where
@@ -37,8 +37,8 @@ states_met cards state [] = []
 states_met cards state (batch ∷ batches) = state ∷ states_met cards (after_batch cards state batch) batches
 
 -- the state after the committed ones, and the one after each of the others; the last is present
-abbrev pub serial_line : Cards → State → Kept → Line
-serial_line cards start kept = record {
+abbrev pub serial_chain : Cards → State → Kept → Chain
+serial_chain cards start kept = record {
   cards = cards;
   earlier = states_met cards (serial cards start kept.committed) kept.uncommitted;
   present = serial cards start (all_kept kept);

@@ -23,8 +23,8 @@ use Rattle.executor.specs.Calls.{Call, Executed, IsRecordOfEither, LeadOn, kept_
 use Rattle.executor.specs.Executions.{IsRecordOf}
 use Rattle.executor.specs.Headline.{Headline, all_serially, completed}
 use Rattle.executor.specs.LevelRuns.{IsCutOf, cut_by, levels_by, replies_in_levels, rows_in_levels, strays_by}
-use Rattle.executor.specs.Kept.{all_kept, none_kept, serial_line}
-use Rattle.executor.specs.Lines.{Line, extended, opening_line}
+use Rattle.executor.specs.Kept.{all_kept, none_kept, serial_chain}
+use Rattle.executor.specs.Chains.{Chain, extended, opening_chain}
 use Rattle.executor.specs.Paths.{path_of}
 use Rattle.executor.specs.Runs.{IsRunOf}
 use Rattle.executor.specs.States.{AreAllWithin, AreWithinLimits, IsSoundState}
@@ -91,23 +91,23 @@ SerialBatchesHaveHeadline = (cards : Cards) (start : State) (batches : List Batc
 
 -- of a batch that was executed, by whichever executor
 abbrev pub ExecutionsHaveHeadline : Type 0
-ExecutionsHaveHeadline = (old new : Line) (batch : Batch) (r : Record)
+ExecutionsHaveHeadline = (old new : Chain) (batch : Batch) (r : Record)
     → IsSoundState old.cards old.present → AreWithinLimits batch.moment old.present.next batch.requests
     → IsRecordOf old.cards old.present batch (path_of old.cards old.present batch) r → new ≡ extended old batch
     → Headline old.cards old.present (batch ∷ []) (completed r ∷ []) new.present
 
 -- of every run on a sound database
 abbrev pub RunsHaveHeadline : Type 0
-RunsHaveHeadline = (db : Database) (most : ℕ) (new : Line) (batches : List Batch) (end : RunEnd)
+RunsHaveHeadline = (db : Database) (most : ℕ) (new : Chain) (batches : List Batch) (end : RunEnd)
     → IsSound db → AreAllWithin db.cards (opening db.cards db.rows) batches
-    → IsRunOf most (opening_line db.cards db.rows) new batches end
+    → IsRunOf most (opening_chain db.cards db.rows) new batches end
     → Headline db.cards (opening db.cards db.rows) batches (map completed end.records.items) new.present
 
--- ---- the line of an executor
--- calls from this state on, which led to this line
-pub record IsSerialLine (cards : Cards) (start : State) (calls : List Call) (line : Line) : Type 0 where
+-- ---- the chain of an executor
+-- calls from this state on, which led to this chain
+pub record IsSerialChain (cards : Cards) (start : State) (calls : List Call) (chain : Chain) : Type 0 where
   -- each state is the one that one thread leaves after the batches kept up to it
-  pub states_as_serial : line ≡ serial_line cards start (kept_after start calls)
+  pub states_as_serial : chain ≡ serial_chain cards start (kept_after start calls)
   -- each record is that of one thread, on the state after the batches kept when this one came
   pub records_as_serial : (count : ℕ) (batch : Batch) (r : Record) → slice_get calls count ≡ Some (Executed batch r)
       → IsRecordOfEither cards (serial cards start (all_kept (kept_after start (take count calls)))) batch r
@@ -115,6 +115,6 @@ pub record IsSerialLine (cards : Cards) (start : State) (calls : List Call) (lin
   pub sound : (count : ℕ) → count ≤ length calls → IsSoundState cards (serial cards start (all_kept (kept_after start (take count calls))))
 
 -- whatever calls led to it from a single sound state
-abbrev pub LinesAreSerial : Type 0
-LinesAreSerial = (cards : Cards) (start : State) (calls : List Call) (line : Line) → IsSoundState cards start
-    → LeadOn calls (serial_line cards start none_kept) line → IsSerialLine cards start calls line
+abbrev pub ChainsAreSerial : Type 0
+ChainsAreSerial = (cards : Cards) (start : State) (calls : List Call) (chain : Chain) → IsSoundState cards start
+    → LeadOn calls (serial_chain cards start none_kept) chain → IsSerialChain cards start calls chain

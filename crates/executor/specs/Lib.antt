@@ -3,7 +3,7 @@ pub mod Paths
 pub mod States
 pub mod Laws
 pub mod Refusals
-pub mod Lines
+pub mod Chains
 pub mod Stamps
 pub mod Kept
 pub mod Calls

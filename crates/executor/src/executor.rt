@@ -4,7 +4,7 @@ ghost use Rattle.std.specs.List.{position};
 ghost use Rattle.catalog.specs.CardBytes.{catalog_digest};
 ghost use Rattle.executor.specs.Executions.{IsRecordOf, IsRefusedFor, path_in, refusal_for};
 ghost use Rattle.executor.specs.Headline.{Headline, completed};
-ghost use Rattle.executor.specs.Lines.{HasNone, IsReturned, committed, extended, opening_line, states};
+ghost use Rattle.executor.specs.Chains.{HasNone, IsReturned, committed, extended, opening_chain, states};
 ghost use Rattle.executor.specs.Paths.{path_of};
 ghost use Rattle.executor.specs.Stamps.{IsWithinLimits, resumed, stamp_of};
 ghost use Rattle.executor.specs.States.{IsSoundState};
@@ -46,11 +46,11 @@ pub struct Executor {
 }
 
 impl Model for Executor {
-    ghost use Rattle.executor.specs.Lines.{IsExecutor, Line, line_code, state_of, states_of};
+    ghost use Rattle.executor.specs.Chains.{IsExecutor, Chain, chain_code, state_of, states_of};
 
-    ghost Value = { Line };
+    ghost Value = { Chain };
 
-    ghost coded = { line_code };
+    ghost coded = { chain_code };
 
     ghost view = { λ e. record {
       cards = e.engine.catalog;
@@ -79,7 +79,7 @@ impl Executor {
     ) -> Result<Executor, Memory>
         requires sound { IsSound (database catalog store.rows) }
         requires points { store.points ≡ [] }
-        ensures line { IfOk result (λ e. e ≡ opening_line catalog store.rows) }
+        ensures chain { IfOk result (λ e. e ≡ opening_chain catalog store.rows) }
         ensures sound { IfOk result (λ e. IsSoundState e.cards e.present) }
     {
         let (digest, built) = beside_digest(
@@ -100,7 +100,7 @@ impl Executor {
         requires points { store.points ≡ [] }
         requires digest { digest ≡ catalog_digest catalog }
         requires tree { IsOf tree store.rows }
-        ensures line { result ≡ opening_line catalog store.rows }
+        ensures chain { result ≡ opening_chain catalog store.rows }
         ensures sound { IsSoundState result.cards result.present }
     {
         sound_states();
@@ -181,7 +181,7 @@ impl Executor {
     pub fn resume(&mut self, stamp: &Stamp) -> Result<(), NumbersTaken>
         requires alone { self.old.earlier ≡ [] }
         requires within { IsWithinLimits stamp.now }
-        ensures line { OnOk result (self.new ≡ resumed self.old stamp.now) }
+        ensures chain { OnOk result (self.new ≡ resumed self.old stamp.now) }
         ensures taken { IsErr result ↔ (stamp.now.next < self.old.present.next) }
         ensures least { IfErr result (λ e. e.least ≡ self.old.present.next) }
         ensures sound { IsSoundState self.new.cards self.new.present }
@@ -232,7 +232,7 @@ impl Executor {
         gate: &G,
     ) -> Result<Record, Refusal>
         ensures admitted { OnOk result (refusal_for POINTS self.old batch.now ≡ None) }
-        ensures line { OnOk result (self.new ≡ extended self.old batch.now) }
+        ensures chain { OnOk result (self.new ≡ extended self.old batch.now) }
         ensures record { IfOk result (IsRecordOf self.old.cards self.old.present batch.now (path_in workers self.old.cards self.old.present batch.now)) }
         ensures refused { IfErr result (IsRefusedFor (refusal_for POINTS self.old batch.now)) }
         ensures sound { IsSoundState self.new.cards self.new.present }
@@ -270,7 +270,7 @@ impl Executor {
         gate: &G,
     ) -> Result<Record, Refusal>
         ensures admitted { OnOk result (refusal_for POINTS self.old batch.now ≡ None) }
-        ensures line { OnOk result (self.new ≡ extended self.old batch.now) }
+        ensures chain { OnOk result (self.new ≡ extended self.old batch.now) }
         ensures headline { IfOk result (λ r. Headline self.old.cards self.old.present (batch.now ∷ []) (completed r ∷ []) self.new.present) }
         ensures record { IfOk result (IsRecordOf self.old.cards self.old.present batch.now (path_of self.old.cards self.old.present batch.now)) }
         ensures refused { IfErr result (IsRefusedFor (refusal_for POINTS self.old batch.now)) }
@@ -289,7 +289,7 @@ impl Executor {
         batch: &Batch,
     ) -> Result<Record, Refusal>
         ensures admitted { OnOk result (refusal_for POINTS self.old batch.now ≡ None) }
-        ensures line { OnOk result (self.new ≡ extended self.old batch.now) }
+        ensures chain { OnOk result (self.new ≡ extended self.old batch.now) }
         ensures record { IfOk result (IsRecordOf self.old.cards self.old.present batch.now path.Sequential) }
         ensures refused { IfErr result (IsRefusedFor (refusal_for POINTS self.old batch.now)) }
         ensures sound { IsSoundState self.new.cards self.new.present }
@@ -300,7 +300,7 @@ impl Executor {
 
     /// Commits the oldest uncommitted batch, and returns its number. Allocates nothing.
     pub fn commit(&mut self) -> Result<u64, Refusal>
-        ensures line { OnOk result (self.new ≡ committed self.old) }
+        ensures chain { OnOk result (self.new ≡ committed self.old) }
         ensures sequence { IfOk result (λ sequence. slice_get (map (λ state. state.sequence) (states self.old)) 1 ≡ Some sequence) }
         ensures none { IsErr result ↔ (self.old.earlier ≡ []) }
         ensures refused { IfErr result (λ e. e ≡ refusal.NoSuchPoint) }
@@ -340,7 +340,7 @@ impl Executor {
     /// Rolls back to the state after the batch with this number, which is the last committed one or an uncommitted one. Later
     /// batches are forgotten. Allocates nothing.
     pub fn rollback_to(&mut self, sequence: u64) -> Result<(), Refusal>
-        ensures line { OnOk result (IsReturned sequence self.old self.new) }
+        ensures chain { OnOk result (IsReturned sequence self.old self.new) }
         ensures none { IsErr result ↔ HasNone sequence self.old }
         ensures refused { IfErr result (λ e. e ≡ refusal.NoSuchPoint) }
         ensures sound { IsSoundState self.new.cards self.new.present }

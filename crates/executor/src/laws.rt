@@ -1,5 +1,5 @@
 //! Laws of execution out of order, stated as contracts of functions that at most call other laws.
-ghost use Rattle.executor.specs.Laws.{BatchesKeep, CutsAreWhole, DeclaredLevelsAreSerial, ExecutionsHaveHeadline, LevelsAreSerial, LinesAreSerial, MeetOnlyAbove, OpeningIsSound, RequestsSwap, RunsHaveHeadline, SerialBatchesHaveHeadline};
+ghost use Rattle.executor.specs.Laws.{BatchesKeep, CutsAreWhole, DeclaredLevelsAreSerial, ExecutionsHaveHeadline, LevelsAreSerial, ChainsAreSerial, MeetOnlyAbove, OpeningIsSound, RequestsSwap, RunsHaveHeadline, SerialBatchesHaveHeadline};
 ghost use Rattle.executor.specs.InOrder.{StraysAreInTurn};
 
 use transactions::laws::{framed_machine, keeps};
@@ -65,8 +65,8 @@ pub fn headline()
     sound_states();
 }
 
-/// After any executions, commits and rollbacks, each state of an executor's line is the one that one thread leaves after the
+/// After any executions, commits and rollbacks, each state of an executor's chain is the one that one thread leaves after the
 /// batches kept up to it.
-pub fn line()
-    ensures { LinesAreSerial }
+pub fn chain()
+    ensures { ChainsAreSerial }
 {}

@@ -5,7 +5,7 @@ ghost use Rattle.std.specs.List.{AllPairs};
 ghost use Rattle.std.specs.Ordering.{nat_cmp};
 ghost use Rattle.executor.specs.Filing.{Awaits, FilesEach, reply_at};
 ghost use Rattle.executor.specs.LevelRuns.{IsCutBySome, IsCutOf, strays};
-ghost use Rattle.executor.specs.Lines.{state_of};
+ghost use Rattle.executor.specs.Chains.{state_of};
 ghost use Rattle.executor.specs.PlannedLevels.{AwaitsOthers, plan_replies, plan_rows, plan_strays};
 ghost use Rattle.executor.specs.States.{IsSoundState};
 ghost use Rattle.gather.specs.Merged.{after_each};

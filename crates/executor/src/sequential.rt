@@ -1,6 +1,6 @@
 //! Executes a batch one request after the other.
 ghost use Rattle.std.specs.Prelude.{◌≡◌, IfOk, OnOk};
-ghost use Rattle.executor.specs.Lines.{state_of};
+ghost use Rattle.executor.specs.Chains.{state_of};
 ghost use Rattle.rollback.specs.Pointed.{KeepsCleanLeaves};
 ghost use Rattle.tpcc_model.specs.Database.{database};
 ghost use Rattle.tpcc_model.specs.Serial.{batch_replies, batch_rows};

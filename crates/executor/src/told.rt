@@ -1,7 +1,7 @@
 //! Executes a batch in order, by what is told of its requests as it begins.
 ghost use Rattle.std.specs.Prelude.{◌≡◌, IfOk, OnOk, Some, length, map};
 ghost use Rattle.executor.specs.LevelRuns.{declared_footprints, strays};
-ghost use Rattle.executor.specs.Lines.{state_of};
+ghost use Rattle.executor.specs.Chains.{state_of};
 ghost use Rattle.executor.specs.States.{IsSoundState};
 ghost use Rattle.profiles.specs.Moving.{TellsMoving, completed};
 ghost use Rattle.rollback.specs.Pointed.{KeepsCleanLeaves};

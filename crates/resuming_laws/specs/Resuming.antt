@@ -2,7 +2,7 @@
 use Rattle.std.specs.Prelude.{◌≡◌, ◌≤◌, List, ◌++◌, Ok}
 use Rattle.catalog.specs.CardMap.{Cards}
 use Rattle.executor.specs.Headline.{all_serially}
-use Rattle.executor.specs.Lines.{state_of}
+use Rattle.executor.specs.Chains.{state_of}
 use Rattle.executor.specs.Stamps.{stamp_of}
 use Rattle.executor.specs.States.{AreAllWithin, IsSoundState}
 use Rattle.executor.specs.declared.stamp.Stamp.{Stamp}

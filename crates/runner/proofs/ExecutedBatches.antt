@@ -5,7 +5,7 @@ use Rattle.std.proofs.lemmas.Bool.{cases_Bool, ltb-false}
 use Rattle.serializability.proofs.Folding.{length-fold_replies}
 use Rattle.catalog.specs.CardMap.{Cards}
 use Rattle.executor.specs.Executions.{IsRecordOf, exhausts, refusal_for}
-use Rattle.executor.specs.Lines.{Line, extended}
+use Rattle.executor.specs.Chains.{Chain, extended}
 use Rattle.executor.specs.Paths.{path_of}
 use Rattle.executor.specs.States.{IsSoundState}
 use Rattle.executor.specs.declared.next_batch.TheConstants.{LAST_NUMBER, MOST_REQUESTS}
@@ -36,11 +36,11 @@ fit_by state batch e = elim (cases_Bool (nat_lt LAST_NUMBER (state.sequence + 1)
   ]
 ]
 
-pub admitted_fits : (most : ℕ) (line : Line) (batch : Batch) → refusal_for most line batch ≡ None → NumbersFit line.present batch
-admitted_fits most line batch e = fit_by line.present batch (second_of (nat_lt MOST_REQUESTS (length batch.requests)) (exhausts line.present batch) (nat_lt (length line.earlier) most) e)
+pub admitted_fits : (most : ℕ) (chain : Chain) (batch : Batch) → refusal_for most chain batch ≡ None → NumbersFit chain.present batch
+admitted_fits most chain batch e = fit_by chain.present batch (second_of (nat_lt MOST_REQUESTS (length batch.requests)) (exhausts chain.present batch) (nat_lt (length chain.earlier) most) e)
 
-pub completes : (old new : Line) (batch : Batch) → refusal_for POINTS old batch ≡ None → new ≡ extended old batch → IsSoundState new.cards new.present → Completes old.cards old.present batch
-completes old new batch admitted line sound = (admitted_fits POINTS old batch admitted, subst (λ (l : Line). IsSoundState l.cards l.present) line sound)
+pub completes : (old new : Chain) (batch : Batch) → refusal_for POINTS old batch ≡ None → new ≡ extended old batch → IsSoundState new.cards new.present → Completes old.cards old.present batch
+completes old new batch admitted chain sound = (admitted_fits POINTS old batch admitted, subst (λ (l : Chain). IsSoundState l.cards l.present) chain sound)
 
 -- ---- recorded
 pub count_of_replies : (how : Path) (cards : Cards) (state : State) (batch : Batch) (r : Record) → IsRecordOf cards state batch how r → length r.replies.items ≡ length batch.requests

@@ -6,7 +6,7 @@ use Rattle.std.proofs.lemmas.List.{append-nil, take_all}
 use Rattle.std.specs.Io.KnownBytes.{Appends, Keeps}
 use Rattle.catalog.specs.CardMap.{Cards}
 use Rattle.executor.specs.Headline.{Headline, all_serially}
-use Rattle.executor.specs.Lines.{Line, committed, extended}
+use Rattle.executor.specs.Chains.{Chain, committed, extended}
 use Rattle.executor.specs.States.{IsSoundState}
 use Rattle.executor.specs.declared.refusal.Refusal.TheVariants as refusal
 use Rattle.requests.specs.BatchRecords.{head_at, request_at}
@@ -20,9 +20,9 @@ use Rattle.requests.specs.declared.request.Request.{Request}
 use Rattle.records.specs.Io.{AppendsFront}
 use Rattle.requests.specs.declared.request.Batch.{Batch}
 use Rattle.records.proofs.IoLemmas.{appends_twice}
-use Rattle.runner.specs.Runs.{AllFit, AreCompleted, Began, Completes, IsOfRecords, LeavesBatch, NumbersFit, Taken, TookFirst, TookFront, line_on}
+use Rattle.runner.specs.Runs.{AllFit, AreCompleted, Began, Completes, IsOfRecords, LeavesBatch, NumbersFit, Taken, TookFirst, TookFront, chain_on}
 use Rattle.runner.specs.Text.{batch_text, text}
-use Rattle.runner.specs.WholeRuns.{LeavesBehind, LeavesLine}
+use Rattle.runner.specs.WholeRuns.{LeavesBehind, LeavesChain}
 use Rattle.runner.specs.declared.fault.RunFault.{RunFault}
 use Rattle.runner.specs.declared.fault.RunFault.TheVariants as run_fault
 use Rattle.tpcc_model.specs.Database.{database}
@@ -42,8 +42,8 @@ pub serial-more : (cards : Cards) (state : State) (done : List Batch) (batch : B
 serial-more cards state [] batch = refl
 serial-more cards state (b ∷ done) batch = serial-more cards (after_batch cards state b) done batch
 
-pub line-more : (cards : Cards) (state : State) (done : List Batch) (batch : Batch) → committed (extended (line_on cards state done) batch) ≡ line_on cards state (done ++ batch ∷ [])
-line-more cards state done batch = ap (λ (s : State). let l : Line = record { cards = cards; earlier = []; present = s } in l) (sym (serial-more cards state done batch))
+pub chain-more : (cards : Cards) (state : State) (done : List Batch) (batch : Batch) → committed (extended (chain_on cards state done) batch) ≡ chain_on cards state (done ++ batch ∷ [])
+chain-more cards state done batch = ap (λ (s : State). let l : Chain = record { cards = cards; earlier = []; present = s } in l) (sym (serial-more cards state done batch))
 
 pub next-serial : (cards : Cards) (state : State) (done : List Batch) → 1 ≤ state.next → 1 ≤ (serial cards state done).next
 next-serial cards state [] low = low
@@ -151,14 +151,14 @@ module _ (cards : Cards) (state : State) (bytes : List ℕ) (done : List Batch) 
       text-both cards state done (batch ∷ []) ∙ ap (λ (t : List ℕ). first ++ t) (append-nil (batch_text cards now batch) ∙ cut) ∙ sym (append_assoc first front back) in
       (rest, parts ∙ sym (append_assoc done (batch ∷ []) rest), completed-more cards state done batch completed completes, (first ++ front, back, whole, appends_twice old mid new first front written took))
 
-  pub left_in_batch : (e : RunFault) (last : Line) → LeavesBatch e (line_on cards state done) last batch mid new → LeavesLine e cards state bytes old new last
+  pub left_in_batch : (e : RunFault) (last : Chain) → LeavesBatch e (chain_on cards state done) last batch mid new → LeavesChain e cards state bytes old new last
   left_in_batch (run_fault.Exec refusal.NumbersExhausted) last h = (done, (batch, rest, began h.2, h.0), h.1)
   left_in_batch (run_fault.Exec refusal.Memory) last h = (done, (batch ∷ rest, began h.1), h.0)
   left_in_batch (run_fault.Exec refusal.BatchTooLong) last h = absurd h
   left_in_batch (run_fault.Exec refusal.PointsFull) last h = absurd h
   left_in_batch (run_fault.Exec refusal.NoSuchPoint) last h = absurd h
   left_in_batch run_fault.Memory last h = (done, (batch ∷ rest, began h.1), h.0)
-  left_in_batch run_fault.Write last h = (done ++ batch ∷ [], front_written h.0 h.2, h.1 ∙ line-more cards state done batch)
+  left_in_batch run_fault.Write last h = (done ++ batch ∷ [], front_written h.0 h.2, h.1 ∙ chain-more cards state done batch)
   left_in_batch (run_fault.Read e) last h = absurd h
   left_in_batch (run_fault.Load e) last h = absurd h
 

@@ -2,7 +2,7 @@
 use Rattle.std.proofs.Common.{arith, ◌≡◌, ◌+◌, ◌<◌, ℕ, List, [], length, inl, inr, sym, subst, append-nil, refl, true, false, if◌then◌else◌, Bool, Option, Some, None, Result, Ok, Err, IfOk, IfErr, IfSome, OnErr, OnOk, is_err}
 use Rattle.std.specs.Io.KnownBytes.{Appends, Keeps}
 use Rattle.catalog.specs.CardMap.{Cards}
-use Rattle.executor.specs.Lines.{Line, opening_line}
+use Rattle.executor.specs.Chains.{Chain, opening_chain}
 use Rattle.executor.specs.States.{IsSoundState}
 use Rattle.executor.specs.declared.refusal.Refusal.TheVariants as refusal
 use Rattle.loader.specs.Image.{image}
@@ -13,18 +13,18 @@ use Rattle.runner.specs.CheckTexts.{ChecksImage, LeavesCheck, check_text}
 use Rattle.runner.specs.Openings.{IsOfOpening, IsOpened, IsRefused, IsUnopened}
 use Rattle.records.specs.declared.fault.ReadError.{ReadError}
 use Rattle.records.specs.declared.fault.ReadError.TheVariants as read_error
-use Rattle.runner.specs.Runs.{IsOfBatches, Taken, line_on}
-use Rattle.runner.specs.WholeRuns.{IsInputFault, IsOfDatabase, LeavesBehind, LeavesDatabase, LeavesLine, LeavesRun, RanFrom, RanWhole, is_batches_read, is_image_read}
+use Rattle.runner.specs.Runs.{IsOfBatches, Taken, chain_on}
+use Rattle.runner.specs.WholeRuns.{IsInputFault, IsOfDatabase, LeavesBehind, LeavesDatabase, LeavesChain, LeavesRun, RanFrom, RanWhole, is_batches_read, is_image_read}
 use Rattle.runner.specs.declared.fault.RunFault.{RunFault}
 use Rattle.runner.specs.declared.fault.RunFault.TheVariants as run_fault
 use Rattle.tpcc_model.specs.Database.{Database}
 use Rattle.tpcc_model.specs.Serial.{State, opening}
 
 -- ---- before the first batch
-pub opened_on : (images : Option (List ℕ)) (db : Database) (line : Line) → IfSome images (λ image_bytes. image image_bytes ≡ Ok db) → line ≡ opening_line db.cards db.rows
-    → IfSome images (λ image_bytes. IsOpened image_bytes line)
-opened_on None db line is same = tt
-opened_on (Some image_bytes) db line is same = (db, is, same)
+pub opened_on : (images : Option (List ℕ)) (db : Database) (chain : Chain) → IfSome images (λ image_bytes. image image_bytes ≡ Ok db) → chain ≡ opening_chain db.cards db.rows
+    → IfSome images (λ image_bytes. IsOpened image_bytes chain)
+opened_on None db chain is same = tt
+opened_on (Some image_bytes) db chain is same = (db, is, same)
 
 -- memory was refused for the database of an image
 pub refused_on : (e : RunFault) (images : Option (List ℕ)) (db : Database) → IsRefused e → IfSome images (λ image_bytes. image image_bytes ≡ Ok db) → IsSoundState db.cards (opening db.cards db.rows)
@@ -73,10 +73,10 @@ input_fault (Some batch_bytes) (read_error.OutOfRange n) kind long = absurd kind
 input_fault (Some batch_bytes) (read_error.UnknownKind n) kind long = absurd kind
 input_fault (Some batch_bytes) (read_error.BatchTooLong n) kind long = absurd kind
 
-pub unread : (left : Option (List ℕ)) (e : ReadError) (cards : Cards) (state : State) (line : Line) (t : Taken) → IfSome left (λ batch_bytes. IsInputFault e batch_bytes) → line ≡ line_on cards state []
-    → IfSome left (λ batch_bytes. LeavesLine (run_fault.Read e) cards state batch_bytes t t line)
-unread None e cards state line t why same = tt
-unread (Some batch_bytes) e cards state line t why same = ([], inl (why, refl, same_kept t), same)
+pub unread : (left : Option (List ℕ)) (e : ReadError) (cards : Cards) (state : State) (chain : Chain) (t : Taken) → IfSome left (λ batch_bytes. IsInputFault e batch_bytes) → chain ≡ chain_on cards state []
+    → IfSome left (λ batch_bytes. LeavesChain (run_fault.Read e) cards state batch_bytes t t chain)
+unread None e cards state chain t why same = tt
+unread (Some batch_bytes) e cards state chain t why same = ([], inl (why, refl, same_kept t), same)
 
 -- ---- an image that was read before
 pub no_image_read : (r : Result ℕ RunFault) → IfErr r IsOfDatabase → is_image_read r ≡ false
@@ -108,15 +108,15 @@ counted_none old new true off same = cc
 counted_none old new false off same = omega (arith, same)
 
 -- ---- a run on the database of an image
-pub ran_whole : (r : Result ℕ RunFault) (images left : Option (List ℕ)) (line : Line) (old new : Taken) → IfSome images (λ image_bytes. IsOpened image_bytes line)
-    → IfOk r (λ count. IfSome left (λ batch_bytes. RanFrom line.cards line.present batch_bytes old new count))
+pub ran_whole : (r : Result ℕ RunFault) (images left : Option (List ℕ)) (chain : Chain) (old new : Taken) → IfSome images (λ image_bytes. IsOpened image_bytes chain)
+    → IfOk r (λ count. IfSome left (λ batch_bytes. RanFrom chain.cards chain.present batch_bytes old new count))
     → IfOk r (λ count. IfSome images (λ image_bytes. IfSome left (λ batch_bytes. RanWhole image_bytes batch_bytes old new count)))
-ran_whole (Err e) images left line old new opened ran = tt
-ran_whole (Ok count) None left line old new opened ran = tt
-ran_whole (Ok count) (Some image_bytes) None line old new opened ran = tt
-ran_whole (Ok count) (Some image_bytes) (Some batch_bytes) line old new opened ran =
+ran_whole (Err e) images left chain old new opened ran = tt
+ran_whole (Ok count) None left chain old new opened ran = tt
+ran_whole (Ok count) (Some image_bytes) None chain old new opened ran = tt
+ran_whole (Ok count) (Some image_bytes) (Some batch_bytes) chain old new opened ran =
     let (db, is, same) = opened in
-    (db, is, subst (λ (l : Line). RanFrom l.cards l.present batch_bytes old new count) same ran)
+    (db, is, subst (λ (l : Chain). RanFrom l.cards l.present batch_bytes old new count) same ran)
 
 left_by : (e : RunFault) (image_bytes batch_bytes : List ℕ) (db : Database) (old new : Taken) → image image_bytes ≡ Ok db → IsOfDatabase e → LeavesDatabase e db batch_bytes old new → LeavesRun e image_bytes batch_bytes old new
 left_by (run_fault.Load e) image_bytes batch_bytes db old new is kind left = absurd kind
@@ -125,18 +125,18 @@ left_by (run_fault.Exec r) image_bytes batch_bytes db old new is kind left = (db
 left_by run_fault.Write image_bytes batch_bytes db old new is kind left = (db, is, left)
 left_by run_fault.Memory image_bytes batch_bytes db old new is kind left = (db, is, left)
 
-pub left_run : (r : Result ℕ RunFault) (images left : Option (List ℕ)) (line last : Line) (old new : Taken) → IfSome images (λ image_bytes. IsOpened image_bytes line) → IfErr r IsOfDatabase
-    → IfErr r (λ e. IfSome left (λ batch_bytes. LeavesLine e line.cards line.present batch_bytes old new last))
+pub left_run : (r : Result ℕ RunFault) (images left : Option (List ℕ)) (chain last : Chain) (old new : Taken) → IfSome images (λ image_bytes. IsOpened image_bytes chain) → IfErr r IsOfDatabase
+    → IfErr r (λ e. IfSome left (λ batch_bytes. LeavesChain e chain.cards chain.present batch_bytes old new last))
     → IfErr r (λ e. IfSome images (λ image_bytes. IfSome left (λ batch_bytes. LeavesRun e image_bytes batch_bytes old new)))
-left_run (Ok count) images left line last old new opened kind leaves = tt
-left_run (Err e) None left line last old new opened kind leaves = tt
-left_run (Err e) (Some image_bytes) None line last old new opened kind leaves = tt
-left_run (Err e) (Some image_bytes) (Some batch_bytes) line last old new opened kind leaves =
+left_run (Ok count) images left chain last old new opened kind leaves = tt
+left_run (Err e) None left chain last old new opened kind leaves = tt
+left_run (Err e) (Some image_bytes) None chain last old new opened kind leaves = tt
+left_run (Err e) (Some image_bytes) (Some batch_bytes) chain last old new opened kind leaves =
     let (db, is, same) = opened in
     let (done, behind, _) = leaves in
-    left_by e image_bytes batch_bytes db old new is kind (done, subst (λ (l : Line). LeavesBehind e l.cards l.present batch_bytes done old new) same behind)
+    left_by e image_bytes batch_bytes db old new is kind (done, subst (λ (l : Chain). LeavesBehind e l.cards l.present batch_bytes done old new) same behind)
 
--- ---- the line of an image
+-- ---- the chain of an image
 pub where_failed : {A E P : Type 0} (r : Result A E) → OnErr r P → is_err r ≡ true → P
 where_failed (Ok a) h failed = cc
 where_failed (Err e) h failed = h
@@ -145,19 +145,19 @@ pub where_fine : {A E P : Type 0} (r : Result A E) → OnOk r P → is_err r ≡
 where_fine (Ok a) h fine = h
 where_fine (Err e) h fine = cc
 
-pub checks_image : (images : Option (List ℕ)) (line : Line) (old new : Taken) → IfSome images (λ image_bytes. IsOpened image_bytes line) → Appends old new (check_text line.cards line.present)
+pub checks_image : (images : Option (List ℕ)) (chain : Chain) (old new : Taken) → IfSome images (λ image_bytes. IsOpened image_bytes chain) → Appends old new (check_text chain.cards chain.present)
     → IfSome images (λ image_bytes. ChecksImage image_bytes old new)
-checks_image None line old new opened written = tt
-checks_image (Some bytes) line old new opened written =
+checks_image None chain old new opened written = tt
+checks_image (Some bytes) chain old new opened written =
     let (db, is, same) = opened in
-    (db, is, subst (λ (l : Line). Appends old new (check_text l.cards l.present)) same written)
+    (db, is, subst (λ (l : Chain). Appends old new (check_text l.cards l.present)) same written)
 
-pub leaves_check : (images : Option (List ℕ)) (line : Line) (old new : Taken) → IfSome images (λ image_bytes. IsOpened image_bytes line) → AppendsFront old new (check_text line.cards line.present)
+pub leaves_check : (images : Option (List ℕ)) (chain : Chain) (old new : Taken) → IfSome images (λ image_bytes. IsOpened image_bytes chain) → AppendsFront old new (check_text chain.cards chain.present)
     → IfSome images (λ image_bytes. LeavesCheck run_fault.Write image_bytes old new)
-leaves_check None line old new opened written = tt
-leaves_check (Some bytes) line old new opened written =
+leaves_check None chain old new opened written = tt
+leaves_check (Some bytes) chain old new opened written =
     let (db, is, same) = opened in
-    (db, is, subst (λ (l : Line). AppendsFront old new (check_text l.cards l.present)) same written)
+    (db, is, subst (λ (l : Chain). AppendsFront old new (check_text l.cards l.present)) same written)
 
 unchecked_by : (e : RunFault) (image_bytes : List ℕ) (t : Taken) → IsUnopened e image_bytes → LeavesCheck e image_bytes t t
 unchecked_by (run_fault.Load e) image_bytes t why = (why, same_kept t)

@@ -1,6 +1,6 @@
 -- The executor of an image.
 use Rattle.std.specs.Prelude.{◌≡◌, ◌⊎◌, ℕ, List, Ok}
-use Rattle.executor.specs.Lines.{Line, opening_line}
+use Rattle.executor.specs.Chains.{Chain, opening_chain}
 use Rattle.executor.specs.States.{IsSoundState}
 use Rattle.executor.specs.declared.refusal.Refusal.TheVariants as refusal
 use Rattle.image_records.specs.declared.fault.LoadError.TheVariants as load_error
@@ -11,9 +11,9 @@ use Rattle.runner.specs.declared.fault.RunFault.TheVariants as run_fault
 use Rattle.tpcc_model.specs.Database.{Database}
 use Rattle.tpcc_model.specs.Serial.{opening}
 
--- the image loads as a database, whose line this is
-abbrev pub IsOpened : List ℕ → Line → Type 0
-IsOpened bytes line = (db : Database) × (image bytes ≡ Ok db) × (line ≡ opening_line db.cards db.rows)
+-- the image loads as a database, whose chain this is
+abbrev pub IsOpened : List ℕ → Chain → Type 0
+IsOpened bytes chain = (db : Database) × (image bytes ≡ Ok db) × (chain ≡ opening_chain db.cards db.rows)
 
 -- the image doesn't load, or couldn't be read; or there was no memory for an executor
 abbrev pub IsUnopened : RunFault → List ℕ → Type 0

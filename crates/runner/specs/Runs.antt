@@ -3,7 +3,7 @@ use Rattle.std.specs.Prelude.{◌≡◌, ◌⊎◌, ℕ, ◌+◌, ◌<◌, ◌�
 use Rattle.std.specs.Io.KnownBytes.{Appends, Keeps}
 use Rattle.catalog.specs.CardMap.{Cards}
 use Rattle.executor.specs.Headline.{Headline, all_serially}
-use Rattle.executor.specs.Lines.{Line, committed, extended}
+use Rattle.executor.specs.Chains.{Chain, committed, extended}
 use Rattle.executor.specs.States.{IsSoundState}
 use Rattle.executor.specs.declared.next_batch.TheConstants.{LAST_NUMBER}
 use Rattle.executor.specs.declared.refusal.Refusal.TheVariants as refusal
@@ -42,8 +42,8 @@ abbrev pub Completes : Cards → State → Batch → Type 0
 Completes cards state batch = NumbersFit state batch × IsSoundState cards (after_batch cards state batch)
 
 -- what a state leads to by batches, each of which was committed
-abbrev pub line_on : Cards → State → List Batch → Line
-line_on cards state done = record { cards = cards; earlier = []; present = serial cards state done }
+abbrev pub chain_on : Cards → State → List Batch → Chain
+chain_on cards state done = record { cards = cards; earlier = []; present = serial cards state done }
 
 -- all batches were completed and written, and no fault came after them
 pub record Ran (cards : Cards) (state : State) (reading : Reading) (old new : Taken) (count : ℕ) : Type 0 where
@@ -72,15 +72,15 @@ abbrev pub TookFront : Cards → State → List Batch → List Batch → Taken �
 TookFront cards state batches done old new =
     (rest : List Batch) × (batches ≡ done ++ rest) × AreCompleted cards state done × AppendsFront old new (text cards state done)
 
--- what a fault in one batch leaves that isn't too long and has none before it uncommitted; there is no other fault. The line after it
+-- what a fault in one batch leaves that isn't too long and has none before it uncommitted; there is no other fault. The chain after it
 -- is the one before it, but where the batch was completed and the output failed
-abbrev pub LeavesBatch : RunFault → Line → Line → Batch → Taken → Taken → Type 0
-LeavesBatch (run_fault.Exec refusal.NumbersExhausted) line last batch old new = NumbersExhaust line.present batch × (last ≡ line) × Keeps old new
-LeavesBatch (run_fault.Exec refusal.Memory) line last batch old new = (last ≡ line) × Keeps old new
-LeavesBatch run_fault.Memory line last batch old new = (last ≡ line) × Keeps old new
-LeavesBatch run_fault.Write line last batch old new =
-    Completes line.cards line.present batch × (last ≡ committed (extended line batch)) × AppendsFront old new (batch_text line.cards line.present batch)
-LeavesBatch _ line last batch old new = ⊥
+abbrev pub LeavesBatch : RunFault → Chain → Chain → Batch → Taken → Taken → Type 0
+LeavesBatch (run_fault.Exec refusal.NumbersExhausted) chain last batch old new = NumbersExhaust chain.present batch × (last ≡ chain) × Keeps old new
+LeavesBatch (run_fault.Exec refusal.Memory) chain last batch old new = (last ≡ chain) × Keeps old new
+LeavesBatch run_fault.Memory chain last batch old new = (last ≡ chain) × Keeps old new
+LeavesBatch run_fault.Write chain last batch old new =
+    Completes chain.cards chain.present batch × (last ≡ committed (extended chain batch)) × AppendsFront old new (batch_text chain.cards chain.present batch)
+LeavesBatch _ chain last batch old new = ⊥
 
 -- what a run leaves that ended early behind these batches, which were completed; no batch that was read is too long, and none before it
 -- is left uncommitted, so that there is no other fault

@@ -8,17 +8,17 @@ use Rattle.requests.specs.Batches.{batches}
 use Rattle.requests.specs.declared.request.Batch.{Batch}
 use Rattle.records.specs.declared.fault.ReadError.{ReadError}
 use Rattle.records.specs.declared.fault.ReadError.TheVariants as read_error
-use Rattle.runner.specs.Runs.{Left, Ran, Taken, line_on}
+use Rattle.runner.specs.Runs.{Left, Ran, Taken, chain_on}
 use Rattle.runner.specs.declared.fault.RunFault.{RunFault}
 use Rattle.runner.specs.declared.fault.RunFault.TheVariants as run_fault
 use Rattle.catalog.specs.CardMap.{Cards}
-use Rattle.executor.specs.Lines.{Line}
+use Rattle.executor.specs.Chains.{Chain}
 use Rattle.tpcc_model.specs.Database.{Database}
 use Rattle.tpcc_model.specs.Serial.{State, opening}
 
 -- what a state leads to by the batches of a text, each of which was committed
-abbrev pub line_after : Cards → State → List ℕ → Line
-line_after cards state batch_bytes = line_on cards state (batches batch_bytes).0
+abbrev pub chain_after : Cards → State → List ℕ → Chain
+chain_after cards state batch_bytes = chain_on cards state (batches batch_bytes).0
 
 -- all batches were executed from the state on and written, and no fault came after them
 abbrev pub RanFrom : Cards → State → List ℕ → Taken → Taken → ℕ → Type 0
@@ -52,10 +52,10 @@ LeavesBehind fault cards state batch_bytes done old new = Left fault cards state
 abbrev pub LeavesState : RunFault → Cards → State → List ℕ → Taken → Taken → Type 0
 LeavesState fault cards state batch_bytes old new = (done : List Batch) × LeavesBehind fault cards state batch_bytes done old new
 
--- the same, and the line with which its executor is left, on which each of those batches was committed
-abbrev pub LeavesLine : RunFault → Cards → State → List ℕ → Taken → Taken → Line → Type 0
-LeavesLine fault cards state batch_bytes old new line =
-    (done : List Batch) × LeavesBehind fault cards state batch_bytes done old new × (line ≡ line_on cards state done)
+-- the same, and the chain with which its executor is left, on which each of those batches was committed
+abbrev pub LeavesChain : RunFault → Cards → State → List ℕ → Taken → Taken → Chain → Type 0
+LeavesChain fault cards state batch_bytes old new chain =
+    (done : List Batch) × LeavesBehind fault cards state batch_bytes done old new × (chain ≡ chain_on cards state done)
 
 -- what a run on a database leaves that ended early
 abbrev pub LeavesDatabase : RunFault → Database → List ℕ → Taken → Taken → Type 0

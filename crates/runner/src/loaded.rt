@@ -3,7 +3,7 @@ ghost use Rattle.std.specs.Prelude.{◌≡◌, ◌+◌, ◌<◌, ◌≤◌, ◌^
 ghost use Rattle.executor.specs.States.{IsSoundState};
 ghost use Rattle.runner.specs.Runs.{is_write};
 ghost use Rattle.runner.specs.StoredRuns.{IsOfStoredDatabase, LeavesStoredState, StoredFrom, in_run, in_store};
-ghost use Rattle.runner.specs.WholeRuns.{IsOfDatabase, LeavesLine, RanFrom, is_batches_read, line_after};
+ghost use Rattle.runner.specs.WholeRuns.{IsOfDatabase, LeavesChain, RanFrom, is_batches_read, chain_after};
 ghost use Rattle.telling.specs.Told.{OfSource};
 
 use crate::fault::RunFault;
@@ -36,11 +36,11 @@ pub fn run_on<R: Host, B: TellingSource, S: Sink, G: Observer>(
     requires sink { S.failed sink.old < 2 ^ 63 }
     ensures ok { IfOk result (λ count. OfSource (B.left batches.old) (B.given batches.old) (B.given batches.new) (λ batch_bytes.
         RanFrom executor.old.cards executor.old.present batch_bytes (S.taken sink.old) (S.taken sink.new) count)) }
-    ensures line { OnOk result (OfSource (B.left batches.old) (B.given batches.old) (B.given batches.new) (λ batch_bytes.
+    ensures chain { OnOk result (OfSource (B.left batches.old) (B.given batches.old) (B.given batches.new) (λ batch_bytes.
         executor.new ≡ line_after executor.old.cards executor.old.present batch_bytes)) }
     ensures over { OnOk result (B.ended batches.new ≡ true) }
     ensures err { IfErr result (λ e. OfSource (B.left batches.old) (B.given batches.old) (B.given batches.new) (λ batch_bytes.
-        LeavesLine e executor.old.cards executor.old.present batch_bytes (S.taken sink.old) (S.taken sink.new) executor.new)) }
+        LeavesChain e executor.old.cards executor.old.present batch_bytes (S.taken sink.old) (S.taken sink.new) executor.new)) }
     ensures kinds { IfErr result IsOfDatabase }
     ensures batches_failures { B.failed batches.new ≡ B.failed batches.old + (if is_batches_read result then 1 else 0) }
     ensures sink_failures { S.failed sink.new ≡ S.failed sink.old + (if is_write result then 1 else 0) }
@@ -75,7 +75,7 @@ pub fn run_and_store_on<R: Host, B: TellingSource, S: Sink, K: Sink, G: Observer
     ensures ok { IfOk result (λ count. OfSource (B.left batches.old) (B.given batches.old) (B.given batches.new) (λ batch_bytes.
         StoredFrom executor.old.cards executor.old.present batch_bytes
         (S.taken sink.old) (S.taken sink.new) (K.taken tables.old) (K.taken tables.new) count)) }
-    ensures line { OnOk result (OfSource (B.left batches.old) (B.given batches.old) (B.given batches.new) (λ batch_bytes.
+    ensures chain { OnOk result (OfSource (B.left batches.old) (B.given batches.old) (B.given batches.new) (λ batch_bytes.
         executor.new ≡ line_after executor.old.cards executor.old.present batch_bytes)) }
     ensures over { OnOk result (B.ended batches.new ≡ true) }
     ensures err { IfErr result (λ e. OfSource (B.left batches.old) (B.given batches.old) (B.given batches.new) (λ batch_bytes.

@@ -1,6 +1,6 @@
 //! Loads an image into an executor.
 ghost use Rattle.std.specs.Prelude.{◌≡◌, ◌+◌, ◌<◌, ◌≤◌, ◌^◌, [], true, IfErr, IfOk, IfSome, OnOk, if◌then◌else◌};
-ghost use Rattle.executor.specs.Lines.{opening_line};
+ghost use Rattle.executor.specs.Chains.{opening_chain};
 ghost use Rattle.executor.specs.States.{IsSoundState};
 ghost use Rattle.executor.specs.declared.refusal.Refusal.TheVariants as refusal;
 ghost use Rattle.image_records.specs.declared.fault.LoadError.TheVariants as load_error;
@@ -96,7 +96,7 @@ fn executor_of<R: Threads + Sync>(
     rows: UnpagedRows,
 ) -> Result<Executor, RunFault>
     requires { IsSound (database catalog rows) }
-    ensures line { IfOk result (λ executor. executor ≡ opening_line catalog rows) }
+    ensures chain { IfOk result (λ executor. executor ≡ opening_chain catalog rows) }
     ensures sound { IfOk result (λ executor. IsSoundState executor.cards executor.present) }
     ensures err { IfErr result IsRefused }
 {

@@ -2,7 +2,7 @@
 ghost use Rattle.std.specs.Prelude.{◌≡◌, ◌+◌, ◌<◌, ◌≤◌, ◌^◌, [], true, IfErr, IfOk, OnOk, if◌then◌else◌};
 ghost use Rattle.executor.specs.States.{IsSoundState};
 ghost use Rattle.runner.specs.Runs.{IsOfBatches, is_write};
-ghost use Rattle.runner.specs.WholeRuns.{IsOfDatabase, LeavesLine, LeavesRun, RanFrom, RanWhole, is_batches_read, is_image_read, line_after};
+ghost use Rattle.runner.specs.WholeRuns.{IsOfDatabase, LeavesChain, LeavesRun, RanFrom, RanWhole, is_batches_read, is_image_read, chain_after};
 ghost use Rattle.telling.specs.Told.{OfSource};
 
 use crate::fault::RunFault;
@@ -29,9 +29,9 @@ pub(crate) fn run_given<R: Host, S: Sink, G: Observer>(
     requires low { 1 ≤ executor.old.present.next }
     requires sink { S.failed sink.old < 2 ^ 63 }
     ensures ok { IfOk result (RanFrom executor.old.cards executor.old.present text.items (S.taken sink.old) (S.taken sink.new)) }
-    ensures line { OnOk result (executor.new ≡ line_after executor.old.cards executor.old.present text.items) }
+    ensures chain { OnOk result (executor.new ≡ chain_after executor.old.cards executor.old.present text.items) }
     ensures err { IfErr result (λ e.
-        LeavesLine e executor.old.cards executor.old.present text.items (S.taken sink.old) (S.taken sink.new) executor.new) }
+        LeavesChain e executor.old.cards executor.old.present text.items (S.taken sink.old) (S.taken sink.new) executor.new) }
     ensures kinds { IfErr result IsOfBatches }
     ensures failures { S.failed sink.new ≡ S.failed sink.old + (if is_write result then 1 else 0) }
 {
@@ -53,11 +53,11 @@ pub(crate) fn run_read<R: Host, B: TellingSource, S: Sink, G: Observer>(
     requires sink { S.failed sink.old < 2 ^ 63 }
     ensures ok { IfOk result (λ count. OfSource (B.left batches.old) (B.given batches.old) (B.given batches.new) (λ batch_bytes.
         RanFrom executor.old.cards executor.old.present batch_bytes (S.taken sink.old) (S.taken sink.new) count)) }
-    ensures line { OnOk result (OfSource (B.left batches.old) (B.given batches.old) (B.given batches.new) (λ batch_bytes.
+    ensures chain { OnOk result (OfSource (B.left batches.old) (B.given batches.old) (B.given batches.new) (λ batch_bytes.
         executor.new ≡ line_after executor.old.cards executor.old.present batch_bytes)) }
     ensures over { OnOk result (B.ended batches.new ≡ true) }
     ensures err { IfErr result (λ e. OfSource (B.left batches.old) (B.given batches.old) (B.given batches.new) (λ batch_bytes.
-        LeavesLine e executor.old.cards executor.old.present batch_bytes (S.taken sink.old) (S.taken sink.new) executor.new)) }
+        LeavesChain e executor.old.cards executor.old.present batch_bytes (S.taken sink.old) (S.taken sink.new) executor.new)) }
     ensures kinds { IfErr result IsOfDatabase }
     ensures batches_failures { B.failed batches.new ≡ B.failed batches.old + (if is_batches_read result then 1 else 0) }
     ensures sink_failures { S.failed sink.new ≡ S.failed sink.old + (if is_write result then 1 else 0) }

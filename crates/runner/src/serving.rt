@@ -1,12 +1,12 @@
 //! The loop of a run: reads, executes, commits and writes batch after batch.
 ghost use Rattle.std.specs.Prelude.{◌≡◌, ◌+◌, ◌<◌, ◌≤◌, ◌^◌, [], length, IfErr, IfOk, None, OnErr, OnOk, if◌then◌else◌};
 ghost use Rattle.std.specs.Io.KnownBytes.{Appends};
-ghost use Rattle.executor.specs.Lines.{committed, extended};
+ghost use Rattle.executor.specs.Chains.{committed, extended};
 ghost use Rattle.executor.specs.States.{IsSoundState};
 ghost use Rattle.requests.specs.Batches.{batches};
-ghost use Rattle.runner.specs.Runs.{Completes, IsOfBatches, LeavesBatch, Ran, is_write, line_on};
+ghost use Rattle.runner.specs.Runs.{Completes, IsOfBatches, LeavesBatch, Ran, is_write, chain_on};
 ghost use Rattle.runner.specs.Text.{batch_text};
-ghost use Rattle.runner.specs.WholeRuns.{LeavesLine};
+ghost use Rattle.runner.specs.WholeRuns.{LeavesChain};
 
 use crate::fault::RunFault;
 use crate::observer::{Observer, Phase};
@@ -32,7 +32,7 @@ fn serve_batch<R: Threads + Sync, S: Sink, G: Observer>(
     requires few { length batch.now.requests ≤ MOST_REQUESTS }
     requires count { S.failed sink.old < 2 ^ 63 }
     ensures completed { OnOk result (Completes executor.old.cards executor.old.present batch.now) }
-    ensures line { OnOk result (executor.new ≡ committed (extended executor.old batch.now)) }
+    ensures chain { OnOk result (executor.new ≡ committed (extended executor.old batch.now)) }
     ensures text { OnOk result (Appends (S.taken sink.old) (S.taken sink.new) (batch_text executor.old.cards executor.old.present batch.now)) }
     ensures err { IfErr result (λ e. LeavesBatch e executor.old executor.new batch.now (S.taken sink.old) (S.taken sink.new)) }
     ensures failures { S.failed sink.new ≡ S.failed sink.old + (if is_write result then 1 else 0) }
@@ -74,8 +74,8 @@ pub(crate) fn run_batches<R: Threads + Sync, S: Sink, G: Observer>(
     requires low { 1 ≤ executor.old.present.next }
     requires count { S.failed sink.old < 2 ^ 63 }
     ensures ok { IfOk result (Ran executor.old.cards executor.old.present (batches text.now) (S.taken sink.old) (S.taken sink.new)) }
-    ensures line { OnOk result (executor.new ≡ line_on executor.old.cards executor.old.present (batches text.now).0) }
-    ensures err { IfErr result (λ e. LeavesLine e executor.old.cards executor.old.present text.now (S.taken sink.old) (S.taken sink.new) executor.new) }
+    ensures chain { OnOk result (executor.new ≡ chain_on executor.old.cards executor.old.present (batches text.now).0) }
+    ensures err { IfErr result (λ e. LeavesChain e executor.old.cards executor.old.present text.now (S.taken sink.old) (S.taken sink.new) executor.new) }
     ensures kinds { IfErr result IsOfBatches }
     ensures failures { S.failed sink.new ≡ S.failed sink.old + (if is_write result then 1 else 0) }
 {

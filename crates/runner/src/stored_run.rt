@@ -5,7 +5,7 @@ ghost use Rattle.executor.specs.States.{IsSoundState};
 ghost use Rattle.runner.specs.Runs.{is_write};
 ghost use Rattle.runner.specs.StoredRuns.{IsOfStoredDatabase, LeavesStore, LeavesStoredRun, LeavesStoredState, StoredBehind, StoredFrom, StoredWhole};
 ghost use Rattle.runner.specs.StoredRuns.{in_run, in_store, is_of_tables, is_store_write, state_image};
-ghost use Rattle.runner.specs.WholeRuns.{IsOfDatabase, is_batches_read, is_image_read, line_after};
+ghost use Rattle.runner.specs.WholeRuns.{IsOfDatabase, is_batches_read, is_image_read, chain_after};
 ghost use Rattle.telling.specs.Told.{OfSource};
 
 use crate::fault::RunFault;
@@ -98,7 +98,7 @@ fn store_given<R: Host, S: Sink, K: Sink, G: Observer>(
     requires tables { K.failed tables.old < 2 ^ 63 }
     ensures ok { IfOk result (StoredFrom executor.old.cards executor.old.present text.items
         (S.taken sink.old) (S.taken sink.new) (K.taken tables.old) (K.taken tables.new)) }
-    ensures line { OnOk result (executor.new ≡ line_after executor.old.cards executor.old.present text.items) }
+    ensures chain { OnOk result (executor.new ≡ chain_after executor.old.cards executor.old.present text.items) }
     ensures err { IfErr result (λ e. LeavesStoredState e executor.old.cards executor.old.present text.items
         (S.taken sink.old) (S.taken sink.new) (K.taken tables.old) (K.taken tables.new)) }
     ensures kinds { IfErr result IsOfStoredDatabase }
@@ -135,7 +135,7 @@ pub(crate) fn store_read<R: Host, B: TellingSource, S: Sink, K: Sink, G: Observe
     ensures ok { IfOk result (λ count. OfSource (B.left batches.old) (B.given batches.old) (B.given batches.new) (λ batch_bytes.
         StoredFrom executor.old.cards executor.old.present batch_bytes
         (S.taken sink.old) (S.taken sink.new) (K.taken tables.old) (K.taken tables.new) count)) }
-    ensures line { OnOk result (OfSource (B.left batches.old) (B.given batches.old) (B.given batches.new) (λ batch_bytes.
+    ensures chain { OnOk result (OfSource (B.left batches.old) (B.given batches.old) (B.given batches.new) (λ batch_bytes.
         executor.new ≡ line_after executor.old.cards executor.old.present batch_bytes)) }
     ensures over { OnOk result (B.ended batches.new ≡ true) }
     ensures err { IfErr result (λ e. OfSource (B.left batches.old) (B.given batches.old) (B.given batches.new) (λ batch_bytes.

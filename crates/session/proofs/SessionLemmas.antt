@@ -5,7 +5,7 @@ use Rattle.std.specs.Io.KnownBytes.{Appends}
 use Rattle.commands.specs.Commands.{Gives, Hearing, IsOver, StopsBy}
 use Rattle.commands.specs.declared.command.Heard.{Heard}
 use Rattle.executor.specs.Executions.{refusal_for}
-use Rattle.executor.specs.Lines.{Line, extended}
+use Rattle.executor.specs.Chains.{Chain, extended}
 use Rattle.executor.specs.States.{IsSoundState}
 use Rattle.records.proofs.IoLemmas.{appends_twice}
 use Rattle.records.specs.Io.{AppendsFront}
@@ -44,9 +44,9 @@ given-more (Some all) (Some old) (Some new) done c h gives =
     h ∙ ap (λ (r : Hearing). (done ++ r.0, r.1)) gives ∙ ap (λ (cs : List Heard). (cs, new.1)) (sym (append_assoc done (c ∷ []) new.0))
 
 -- ---- commands answered
-pub answers-more : (done : List Heard) (c : Heard) (first mid last : Line) (text more : List ℕ) → AnswersAll done first mid text → Answers c mid last more → IsSoundState last.cards last.present → AnswersAll (done ++ c ∷ []) first last (text ++ more)
+pub answers-more : (done : List Heard) (c : Heard) (first mid last : Chain) (text more : List ℕ) → AnswersAll done first mid text → Answers c mid last more → IsSoundState last.cards last.present → AnswersAll (done ++ c ∷ []) first last (text ++ more)
 answers-more [] c first mid last text more all one sound =
-    (last, more, [], subst (λ (l : Line). Answers c l last more) all.0 one, sound, (refl, refl), ap (λ (t : List ℕ). t ++ more) all.1 ∙ sym (append-nil more))
+    (last, more, [], subst (λ (l : Chain). Answers c l last more) all.0 one, sound, (refl, refl), ap (λ (t : List ℕ). t ++ more) all.1 ∙ sym (append-nil more))
 answers-more (d ∷ done) c first mid last text more (between, front, rest, answered, kept, all, parts) one sound =
     (between, front, rest ++ more, answered, kept, answers-more done c between mid last rest more all one sound, ap (λ (t : List ℕ). t ++ more) parts ∙ append_assoc front rest more)
 
@@ -56,13 +56,13 @@ front_more old mid new text more written (front, rest, parts, took) =
     (text ++ front, rest, ap (λ (t : List ℕ). text ++ t) parts ∙ sym (append_assoc text front rest), appends_twice old mid new text front written took)
 
 -- ---- a session that ends
-module _ (line mid : Line) (done : List Heard) (text : List ℕ) (old now : Taken)
-    (alone : line.earlier ≡ []) (sound : IsSoundState line.cards line.present) (answered : AnswersAll done line mid text) (written : Appends old now text) where
-  are_answered : (commands : List Heard) → commands ≡ done → AreAnswered commands line mid text
-  are_answered commands same = subst (λ (cs : List Heard). AreAnswered cs line mid text) (sym same) (sessions_are_serial done line mid text alone sound answered)
+module _ (chain mid : Chain) (done : List Heard) (text : List ℕ) (old now : Taken)
+    (alone : chain.earlier ≡ []) (sound : IsSoundState chain.cards chain.present) (answered : AnswersAll done chain mid text) (written : Appends old now text) where
+  are_answered : (commands : List Heard) → commands ≡ done → AreAnswered commands chain mid text
+  are_answered commands same = subst (λ (cs : List Heard). AreAnswered cs chain mid text) (sym same) (sessions_are_serial done chain mid text alone sound answered)
 
   -- where the text ends
-  pub served : (all left : Option Hearing) → HasGiven all done left → IsOver left → IfSome all (λ hearing. Served line hearing old now)
+  pub served : (all left : Option Hearing) → HasGiven all done left → IsOver left → IfSome all (λ hearing. Served chain hearing old now)
   served None left given over = tt
   served (Some all) None given over = absurd given
   served (Some all) (Some left) given over =
@@ -70,7 +70,7 @@ module _ (line mid : Line) (done : List Heard) (text : List ℕ) (old now : Take
       (ap (λ (r : Hearing). r.1) is, (mid, text, are_answered all.0 (ap (λ (r : Hearing). r.0) is), written))
 
   -- where no further command is read
-  pub unread : (e : ReadError) (all left : Option Hearing) → HasGiven all done left → StopsBy e left → IfSome all (λ hearing. LeavesSession (run_fault.Read e) line hearing old now)
+  pub unread : (e : ReadError) (all left : Option Hearing) → HasGiven all done left → StopsBy e left → IfSome all (λ hearing. LeavesSession (run_fault.Read e) chain hearing old now)
   unread e None left given stops = tt
   unread e (Some all) None given stops = absurd given
   unread e (Some all) (Some left) given (inl memory) = inr (inl memory, (done, left.0, ap (λ (r : Hearing). r.0) given, (mid, text, are_answered done refl, written)))
@@ -81,7 +81,7 @@ module _ (line mid : Line) (done : List Heard) (text : List ℕ) (old now : Take
 
   -- where the next command isn't answered
   pub unanswered : (e : RunFault) (c : Heard) (new : Taken) (all before left : Option Hearing) → HasGiven all done before → Gives c before left → LeavesAnswer e c mid now new
-      → IfSome all (λ hearing. LeavesSession e line hearing old new)
+      → IfSome all (λ hearing. LeavesSession e chain hearing old new)
   unanswered e c new None before left given gives leaves = tt
   unanswered e c new (Some all) None left given gives leaves = absurd given
   unanswered e c new (Some all) (Some before) None given gives leaves = absurd gives
@@ -93,7 +93,7 @@ module _ (line mid : Line) (done : List Heard) (text : List ℕ) (old now : Take
     ap (λ (r : Hearing). r.0) (given-more (Some all) (Some before) (Some left) done c given gives),
     last,
     text ++ more,
-    sessions_are_serial (done ++ c ∷ []) line last (text ++ more) alone sound (answers-more done c line mid last text more answered one still),
+    sessions_are_serial (done ++ c ∷ []) chain last (text ++ more) alone sound (answers-more done c chain mid last text more answered one still),
     front_more old now new text more written front,
   )
   unanswered (run_fault.Read e) c new (Some all) (Some before) (Some left) given gives leaves = absurd leaves
@@ -101,7 +101,7 @@ module _ (line mid : Line) (done : List Heard) (text : List ℕ) (old now : Take
   unanswered (run_fault.Exec e) c new (Some all) (Some before) (Some left) given gives leaves = absurd leaves
 
 -- ---- a batch that was executed
-pub executed : {A : Type 0} (r : Result (Vec ℕ A) Memory) (batch : Batch) (old new : Line) (whole : List ℕ) → refusal_for POINTS old batch ≡ None → new ≡ extended old batch
+pub executed : {A : Type 0} (r : Result (Vec ℕ A) Memory) (batch : Batch) (old new : Chain) (whole : List ℕ) → refusal_for POINTS old batch ≡ None → new ≡ extended old batch
     → whole ≡ batch_text old.cards old.present batch → IfOk r (λ text. text.items ≡ whole) → IfOk r (λ text. AnswersBatch batch old new text.items)
-executed (Ok text) batch old new whole admitted line is same = inl (admitted, line, same ∙ is)
-executed (Err e) batch old new whole admitted line is same = tt
+executed (Ok text) batch old new whole admitted chain is same = inl (admitted, chain, same ∙ is)
+executed (Err e) batch old new whole admitted chain is same = tt

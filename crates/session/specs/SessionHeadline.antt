@@ -9,8 +9,8 @@ use Rattle.commands.specs.declared.command.Control.TheVariants as control
 use Rattle.commands.specs.declared.command.Heard.{Heard}
 use Rattle.commands.specs.declared.command.Heard.TheVariants as heard
 use Rattle.executor.specs.Headline.{MeetsConditions}
-use Rattle.executor.specs.Kept.{Kept, none_kept, serial_line, up_to, with_batch, with_committed}
-use Rattle.executor.specs.Lines.{Line}
+use Rattle.executor.specs.Kept.{Kept, none_kept, serial_chain, up_to, with_batch, with_committed}
+use Rattle.executor.specs.Chains.{Chain}
 use Rattle.session.specs.Answers.{Answers}
 use Rattle.tpcc_model.specs.Database.{database}
 use Rattle.tpcc_model.specs.Serial.{State}
@@ -43,21 +43,21 @@ kept_on start (turn ∷ turns) kept = kept_on start turns (kept_by start turn.he
 abbrev pub kept : State → List Turn → Kept
 kept start turns = kept_on start turns none_kept
 
--- the line that one thread makes of them
-abbrev pub line_after : Cards → State → List Turn → Line
-line_after cards start turns = serial_line cards start (kept start turns)
+-- the chain that one thread makes of them
+abbrev pub chain_after : Cards → State → List Turn → Chain
+chain_after cards start turns = serial_chain cards start (kept start turns)
 
 -- ---- the headline
--- of these turns, the first of which met this state alone, and which led to this line
-pub record SessionHeadline (cards : Cards) (start : State) (turns : List Turn) (line : Line) : Type 0 where
+-- of these turns, the first of which met this state alone, and which led to this chain
+pub record SessionHeadline (cards : Cards) (start : State) (turns : List Turn) (chain : Chain) : Type 0 where
   -- the last committed state and those behind it are the ones that one thread leaves
-  pub states_as_serial : line ≡ line_after cards start turns
+  pub states_as_serial : chain ≡ chain_after cards start turns
   -- each answer is that of such states, as they were before its command and after it
   pub answers_as_serial : (count : ℕ) (turn : Turn) → slice_get turns count ≡ Some turn
-      → Answers turn.heard (line_after cards start (take count turns)) (line_after cards start (take (count + 1) turns)) turn.text
+      → Answers turn.heard (chain_after cards start (take count turns)) (chain_after cards start (take (count + 1) turns)) turn.text
   -- before the first command and after each of them the database is sound, and the conditions hold
-  pub sound : (count : ℕ) → count ≤ length turns → IsSound (database cards (line_after cards start (take count turns)).present.rows)
-  pub conditions : (count : ℕ) → count ≤ length turns → MeetsConditions (line_after cards start (take count turns)).present.rows
+  pub sound : (count : ℕ) → count ≤ length turns → IsSound (database cards (chain_after cards start (take count turns)).present.rows)
+  pub conditions : (count : ℕ) → count ≤ length turns → MeetsConditions (chain_after cards start (take count turns)).present.rows
 
 -- ---- commands and texts
 abbrev pub heard_in : List Turn → List Heard
@@ -69,7 +69,7 @@ text_of [] = []
 text_of (turn ∷ turns) = turn.text ++ text_of turns
 
 -- these commands were answered by this text, in turns of which the headline holds
-pub record AreAnswered (commands : List Heard) (old new : Line) (text : List ℕ) : Type 0 where
+pub record AreAnswered (commands : List Heard) (old new : Chain) (text : List ℕ) : Type 0 where
   pub turns : List Turn
   pub commands_are : heard_in turns ≡ commands
   pub text_is : text_of turns ≡ text

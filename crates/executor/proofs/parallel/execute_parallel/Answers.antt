@@ -8,7 +8,7 @@ use Rattle.tpcc_model.specs.Database.{database}
 use Rattle.tpcc_model.specs.Machine.{tpcc}
 use Rattle.tpcc_model.specs.Serial.{batch_replies}
 use Rattle.executor.specs.LevelRuns.{IsCutBySome, declared_footprints, strays}
-use Rattle.executor.specs.Lines.{state_of}
+use Rattle.executor.specs.Chains.{state_of}
 use Rattle.executor.proofs.LevelResults.{as_many, cut_levels, filed_in_order, none_missing, ok_unless, rows_are, same_replies, stray_up, strays_are}
 use Rattle.executor.proofs.parallel.execute_parallel.Goals as goal
 

@@ -7,7 +7,7 @@ use Rattle.tpcc_rows.specs.declared.granule.Granule.{Granule}
 use Rattle.profiles.specs.Moving.{completed}
 use Rattle.tpcc_model.specs.Machine.{tpcc}
 use Rattle.executor.specs.LevelRuns.{strays}
-use Rattle.executor.specs.Lines.{state_of}
+use Rattle.executor.specs.Chains.{state_of}
 use Rattle.executor.proofs.told.execute_told.Goals as goal
 
 -- what strays in its order strays in its levels

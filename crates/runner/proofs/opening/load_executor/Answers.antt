@@ -4,8 +4,8 @@ use Rattle.runner.proofs.opening.load_executor.Goals as goal
 use Rattle.tpcc_model.specs.Database.{database}
 
 pub returns-in-Ok-clause-ok : goal.returns-in-Ok-clause-ok
-returns-in-Ok-clause-ok g c = IfOk-weaker c.executor_of.result _ _ (λ executor line.
-    opened_on (g.I.Source.left c.args.image.now) (database c.in-Ok.catalog c.in-Ok.rows) executor c.in-Ok.ensures.ok line) c.executor_of.ensures.line
+returns-in-Ok-clause-ok g c = IfOk-weaker c.executor_of.result _ _ (λ executor chain.
+    opened_on (g.I.Source.left c.args.image.now) (database c.in-Ok.catalog c.in-Ok.rows) executor c.in-Ok.ensures.ok chain) c.executor_of.ensures.chain
 
 pub returns-in-Ok-clause-err : goal.returns-in-Ok-clause-err
 returns-in-Ok-clause-err g c =

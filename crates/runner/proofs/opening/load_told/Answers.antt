@@ -9,7 +9,7 @@ returns-in-Ok-clause-ok g c =
     let left = g.I.TellingSource.left c.args.image.now in
     let before = g.I.TellingSource.given c.args.image.now in
     let after = g.I.TellingSource.given c.read_told.new.source in
-    IfOk-weaker c.executor_of.result _ _ (λ executor line. opened_told left before after (database c.in-Ok.catalog c.in-Ok.rows) executor line c.in-Ok.ensures.ok) c.executor_of.ensures.line
+    IfOk-weaker c.executor_of.result _ _ (λ executor chain. opened_told left before after (database c.in-Ok.catalog c.in-Ok.rows) executor chain c.in-Ok.ensures.ok) c.executor_of.ensures.chain
 
 pub returns-in-Ok-clause-err : goal.returns-in-Ok-clause-err
 returns-in-Ok-clause-err g c =

@@ -4,7 +4,7 @@ use Rattle.runner.proofs.resumed.run_and_tell.Goals as goal
 pub returns-in-Ok-clause-ok : goal.returns-in-Ok-clause-ok
 returns-in-Ok-clause-ok g c =
     ran_and_told (g.B.TellingSource.left c.args.batches.now) (g.B.TellingSource.given c.args.batches.now) (g.B.TellingSource.given c.run_read.new.batches) (g.S.Sink.taken c.args.sink.now) (g.S.Sink.taken c.run_read.new.sink)
-    c.args.executor.now c.run_read.new.executor c.in-Ok.count c.stamp.result c.stamp.ensures.value c.in-Ok.ensures.ok c.in-Ok.ensures.line
+    c.args.executor.now c.run_read.new.executor c.in-Ok.count c.stamp.result c.stamp.ensures.value c.in-Ok.ensures.ok c.in-Ok.ensures.chain
 
 pub returns-in-Err-clause-err : goal.returns-in-Err-clause-err
 returns-in-Err-clause-err g c =

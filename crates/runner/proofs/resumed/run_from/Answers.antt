@@ -14,7 +14,7 @@ returns-in-Ok-clause-ok g c =
     let images_after = g.I.TellingSource.given c.load_told-loaded.new.image in
     ran_resumed images images_before images_after (g.B.TellingSource.left c.args.batches.now) (g.B.TellingSource.given c.args.batches.now) (g.B.TellingSource.given c.go_on.new.batches)
     c.go_on.result.ran c.in-Ok.executor c.args.from (g.S.Sink.taken c.args.sink.now) (g.S.Sink.taken c.go_on.new.sink) c.go_on.result.at
-    (subst (λ r. IfOk r (λ line. OfSource images images_before images_after (λ bytes. IsOpened bytes line))) c.in-Ok.is c.load_told-loaded.ensures.ok) c.go_on.ensures.ok
+    (subst (λ r. IfOk r (λ chain. OfSource images images_before images_after (λ bytes. IsOpened bytes chain))) c.in-Ok.is c.load_told-loaded.ensures.ok) c.go_on.ensures.ok
 
 pub returns-in-Ok-clause-err : goal.returns-in-Ok-clause-err
 returns-in-Ok-clause-err g c =
@@ -23,7 +23,7 @@ returns-in-Ok-clause-err g c =
     let images_after = g.I.TellingSource.given c.load_told-loaded.new.image in
     left_resumed images images_before images_after (g.B.TellingSource.left c.args.batches.now) (g.B.TellingSource.given c.args.batches.now) (g.B.TellingSource.given c.go_on.new.batches)
     c.go_on.result.ran c.in-Ok.executor c.args.from (g.S.Sink.taken c.args.sink.now) (g.S.Sink.taken c.go_on.new.sink) c.go_on.result.at
-    (subst (λ r. IfOk r (λ line. OfSource images images_before images_after (λ bytes. IsOpened bytes line))) c.in-Ok.is c.load_told-loaded.ensures.ok) c.go_on.ensures.err
+    (subst (λ r. IfOk r (λ chain. OfSource images images_before images_after (λ bytes. IsOpened bytes chain))) c.in-Ok.is c.load_told-loaded.ensures.ok) c.go_on.ensures.err
 
 pub returns-in-Ok-clause-over : goal.returns-in-Ok-clause-over
 returns-in-Ok-clause-over g c =

@@ -7,11 +7,11 @@ use Rattle.telling.proofs.SourceLemmas.{of_text}
 
 pub returns-in-Err-clause-err : goal.returns-in-Err-clause-err
 returns-in-Err-clause-err g c =
-    let line = c.args.executor.now in
+    let chain = c.args.executor.now in
     let left = g.B.TellingSource.left c.args.batches.now in
     let before = g.B.TellingSource.given c.args.batches.now in
     let after = g.B.TellingSource.given c.read_batches.new.batches in
-    unread_told left before after c.in-Err.error line.cards line.present line (g.S.Sink.taken c.args.sink.now) (search rules) c.in-Err.ensures.err
+    unread_told left before after c.in-Err.error chain.cards chain.present chain (g.S.Sink.taken c.args.sink.now) (search rules) c.in-Err.ensures.err
 
 pub returns-in-Err-clause-batches_failures : goal.returns-in-Err-clause-batches_failures
 returns-in-Err-clause-batches_failures g c =
@@ -24,12 +24,12 @@ returns-clause-ok g c =
     let after = g.B.TellingSource.given c.read_batches.new.batches in
     IfOk-weaker c.run_given.result _ _ (λ count ran. of_text left before after c.in-Ok.text.items _ c.in-Ok.ensures.whole ran) c.run_given.ensures.ok
 
-pub returns-clause-line : goal.returns-clause-line
-returns-clause-line g c =
+pub returns-clause-chain : goal.returns-clause-chain
+returns-clause-chain g c =
     let left = g.B.TellingSource.left c.args.batches.now in
     let before = g.B.TellingSource.given c.args.batches.now in
     let after = g.B.TellingSource.given c.read_batches.new.batches in
-    on_ok_weaker c.run_given.result (λ line. of_text left before after c.in-Ok.text.items _ c.in-Ok.ensures.whole line) c.run_given.ensures.line
+    on_ok_weaker c.run_given.result (λ chain. of_text left before after c.in-Ok.text.items _ c.in-Ok.ensures.whole chain) c.run_given.ensures.chain
 
 pub returns-clause-err : goal.returns-clause-err
 returns-clause-err g c =

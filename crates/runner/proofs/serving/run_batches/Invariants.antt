@@ -2,7 +2,7 @@ use Rattle.std.proofs.Common.{◌≡◌, ◌++◌, List, length}
 use Rattle.std.specs.Io.KnownBytes.{Appends}
 use Rattle.requests.specs.Batches.{batches}
 use Rattle.requests.specs.declared.request.Batch.{Batch}
-use Rattle.runner.specs.Runs.{AreCompleted, line_on}
+use Rattle.runner.specs.Runs.{AreCompleted, chain_on}
 use Rattle.runner.specs.Text.{text}
 use Rattle.runner.proofs.serving.run_batches.Given as goal
 
@@ -12,7 +12,7 @@ invariant-batches g l = (g.S.Sink.failed l.sink ≡ g.S.Sink.failed l.initial.si
     × (written : List Batch)
     × (batches l.text ≡ (written ++ l.reader.left.0, l.reader.left.1))
     × (length written ≡ l.done)
-    × (l.executor ≡ line_on l.initial.executor.cards l.initial.executor.present written)
+    × (l.executor ≡ chain_on l.initial.executor.cards l.initial.executor.present written)
     × AreCompleted l.initial.executor.cards l.initial.executor.present written
     × Appends (g.S.Sink.taken l.initial.sink) (g.S.Sink.taken l.sink) (text l.initial.executor.cards l.initial.executor.present written)
 

@@ -11,12 +11,12 @@ returns-in-Ok-clause-ok g c =
     let after = g.B.TellingSource.given c.read_batches.new.batches in
     IfOk-weaker c.store_given.result _ _ (λ count ran. of_text left before after c.in-Ok.text.items _ c.in-Ok.ensures.whole ran) c.store_given.ensures.ok
 
-pub returns-in-Ok-clause-line : goal.returns-in-Ok-clause-line
-returns-in-Ok-clause-line g c =
+pub returns-in-Ok-clause-chain : goal.returns-in-Ok-clause-chain
+returns-in-Ok-clause-chain g c =
     let left = g.B.TellingSource.left c.args.batches.now in
     let before = g.B.TellingSource.given c.args.batches.now in
     let after = g.B.TellingSource.given c.read_batches.new.batches in
-    on_ok_weaker c.store_given.result (λ line. of_text left before after c.in-Ok.text.items _ c.in-Ok.ensures.whole line) c.store_given.ensures.line
+    on_ok_weaker c.store_given.result (λ chain. of_text left before after c.in-Ok.text.items _ c.in-Ok.ensures.whole chain) c.store_given.ensures.chain
 
 pub returns-in-Ok-clause-err : goal.returns-in-Ok-clause-err
 returns-in-Ok-clause-err g c =

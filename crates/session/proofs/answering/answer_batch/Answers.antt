@@ -7,16 +7,16 @@ use Rattle.session.proofs.answering.answer_batch.Goals as goal
 
 pub batch_text-requires-clause-high : goal.batch_text-requires-clause-high
 batch_text-requires-clause-high g c =
-    let line = c.args.executor.now in
+    let chain = c.args.executor.now in
     let batch = c.args.batch.now in
-    let count = count_of_replies _ line.cards line.present batch c.in-Ok.record c.in-Ok.ensures.record in
-    let fits : NumbersFit line.present batch = admitted_fits POINTS line batch c.in-Ok.ensures.admitted in
+    let count = count_of_replies _ chain.cards chain.present batch c.in-Ok.record c.in-Ok.ensures.record in
+    let fits : NumbersFit chain.present batch = admitted_fits POINTS chain batch c.in-Ok.ensures.admitted in
     let first = c.in-Ok.ensures.record.first in
     omega (arith, count, fits.1, first)
 
 pub returns-in-Ok-clause-text : goal.returns-in-Ok-clause-text
 returns-in-Ok-clause-text g c =
-    let line = c.args.executor.now in
+    let chain = c.args.executor.now in
     let batch = c.args.batch.now in
-    executed c.batch_text.result batch line c.execute.new.self _ c.in-Ok.ensures.admitted c.in-Ok.ensures.line
-    (recorded_text line.cards line.present batch c.in-Ok.record c.in-Ok.ensures.record) c.batch_text.ensures
+    executed c.batch_text.result batch chain c.execute.new.self _ c.in-Ok.ensures.admitted c.in-Ok.ensures.chain
+    (recorded_text chain.cards chain.present batch c.in-Ok.record c.in-Ok.ensures.record) c.batch_text.ensures

@@ -1,7 +1,7 @@
 use Rattle.std.proofs.Common.{rules, ◌≡◌, ◌∙◌, [], Some, true, false, ap, subst, sym, get_or, length, map, nat_lt, slice_get}
 use Rattle.tpcc_rows.specs.RowMap.{Rows}
-use Rattle.executor.specs.Lines.{IsExecutor, IsKeptState, Line, state_of, states}
-use Rattle.executor.proofs.LineFacts.{all-dropped, next_of_one, next_of_two, stamped_dropped, where-ok}
+use Rattle.executor.specs.Chains.{IsExecutor, IsKeptState, Chain, state_of, states}
+use Rattle.executor.proofs.ChainFacts.{all-dropped, next_of_one, next_of_two, stamped_dropped, where-ok}
 use Rattle.executor.proofs.executor.Executor.commit.Goals.{in-Some, in-None}
 use Rattle.executor.proofs.executor.Executor.commit.Goals as goal
 
@@ -10,7 +10,7 @@ returns-clause-sequence c =
     let points = c.self.inside.engine.store.points in
     let stamps = c.self.inside.earlier.items in
     let present = state_of c.self.inside.engine.store.rows c.self.inside.present in
-    sym (ap (λ (l : Line). slice_get (map (λ state. state.sequence) (states l)) 1) c.self.view_is)
+    sym (ap (λ (l : Chain). slice_get (map (λ state. state.sequence) (states l)) 1) c.self.view_is)
     ∙ elim c.match-get.branch [
       | in-Some w ↦
           let two : true ≡ nat_lt 1 (length stamps) = w.in-Some.ensures.lookup.0 ∙ ap (λ ss. nat_lt 1 (length ss)) c.deref.ensures.0 in

@@ -1,10 +1,10 @@
 use Rattle.std.proofs.Common.{◌≡◌, ◌∙◌, List, ap, ap₂, length, subst, sym, arith}
 use Rattle.tpcc_model.specs.Database.{database}
 use Rattle.tpcc_model.specs.Serial.{State, opening}
-use Rattle.executor.specs.Lines.{IsKeptState, Line, state_of, states_of}
+use Rattle.executor.specs.Chains.{IsKeptState, Chain, state_of, states_of}
 use Rattle.executor.specs.States.{IsSoundState}
 use Rattle.executor.specs.declared.stamp.Stamp.{Stamp}
-use Rattle.executor.proofs.LineFacts.{all-none}
+use Rattle.executor.proofs.ChainFacts.{all-none}
 use Rattle.executor.proofs.Openings.{opening_stamp}
 use Rattle.executor.proofs.executor.Executor.of_parts.Goals as goal
 
@@ -24,13 +24,13 @@ invariant_of-result-2 c =
       };
     }
 
-pub returns-clause-line : goal.returns-clause-line
-returns-clause-line c =
+pub returns-clause-chain : goal.returns-clause-chain
+returns-clause-chain c =
     let rows = c.args.store.rows in
     let stamp : Stamp = record { next = c.next_number-next.result; sequence = 0; token = c.token.result } in
     let state : state_of rows stamp ≡ opening c.args.catalog rows =
     opening_stamp c.args.catalog rows stamp c.args.digest c.root.result c.reply_digest.result c.next_number-next.ensures.value c.requires.digest (c.root.ensures rows c.requires.tree) c.reply_digest.ensures c.token.ensures in
-    ap₂ (λ (earlier : List State) (present : State). let l : Line = record { cards = c.args.catalog; earlier = earlier; present = present } in l) (ap (λ points. states_of points c.new.result.items) c.requires.points) state
+    ap₂ (λ (earlier : List State) (present : State). let l : Chain = record { cards = c.args.catalog; earlier = earlier; present = present } in l) (ap (λ points. states_of points c.new.result.items) c.requires.points) state
 
 pub returns-clause-sound : goal.returns-clause-sound
 returns-clause-sound c =

@@ -1,17 +1,17 @@
 use Rattle.std.proofs.Common.{rules, ◌≡◌, ◌≢◌, ◌∙◌, ap, refl, sym}
 use Rattle.std.proofs.lemmas.Bool.{false≢true}
-use Rattle.executor.specs.Lines.{Line}
+use Rattle.executor.specs.Chains.{Chain}
 use Rattle.executor.proofs.Returns.{has-none, has-point, returned-to}
 use Rattle.executor.proofs.executor.Executor.rollback_to.Goals as goal
 
 pub returns-in_default-clause-none : goal.returns-in_default-clause-none
 returns-in_default-clause-none c =
     let other : c.args.self.now.present.sequence ≢ c.args.sequence =
-    λ same. let there : c.args.sequence ≡ c.self.inside.present.sequence = sym same ∙ sym (ap (λ (l : Line). l.present.sequence) c.self.view_is) in search (rules, there) in
+    λ same. let there : c.args.sequence ≡ c.self.inside.present.sequence = sym same ∙ sym (ap (λ (l : Chain). l.present.sequence) c.self.view_is) in search (rules, there) in
     (λ refused. has-none c.args.self.now c.args.sequence other (sym c.point_of.ensures ∙ c.in_default.is), λ none. refl)
 
-pub returns-clause-line : goal.returns-clause-line
-returns-clause-line c =
+pub returns-clause-chain : goal.returns-clause-chain
+returns-clause-chain c =
     returned-to c.args.self.now c.go_back.new.self c.args.sequence c.in-Some.point c.go_back.ensures.cards c.go_back.ensures.earlier c.go_back.ensures.present (sym c.point_of.ensures ∙ c.in-Some.is)
 
 pub returns-clause-none : goal.returns-clause-none

@@ -14,7 +14,7 @@ use Rattle.executor.specs.declared.stamp.Stamp.{Stamp}
 use Rattle.tpcc_rows.specs.declared.id.TheConstants.{END_OF_NUMBERS}
 
 -- the cards; the last committed state and those after it, oldest first, without the present one; the present state
-pub record Line : Type 0 where
+pub record Chain : Type 0 where
   pub cards : Cards
   pub earlier : List State
   pub present : State
@@ -24,8 +24,8 @@ state_code = code_by (Rows × (ℕ × (ℕ × List ℕ))) (coded× rows_code (co
     (λ s. (s.rows, (s.next, (s.sequence, s.token))))
     (λ p. record { rows = p.0; next = p.1.0; sequence = p.1.1.0; token = p.1.1.1 }) (λ _. refl)
 
-abbrev pub line_code : Coded Line
-line_code = code_by (Cards × (List State × State)) (coded× cards_code (coded× (coded_list state_code) state_code))
+abbrev pub chain_code : Coded Chain
+chain_code = code_by (Cards × (List State × State)) (coded× cards_code (coded× (coded_list state_code) state_code))
     (λ l. (l.cards, (l.earlier, l.present)))
     (λ p. record { cards = p.0; earlier = p.1.0; present = p.1.1 }) (λ _. refl)
 
@@ -36,32 +36,32 @@ state_of rows stamp = record { rows = rows; next = stamp.next; sequence = stamp.
 abbrev pub states_of : List Rows → List Stamp → List State
 states_of points stamps = map (λ kept. state_of kept.0 kept.1) (zip points stamps)
 
--- ---- from line to line
+-- ---- from chain to chain
 -- before any batch
-abbrev pub opening_line : Cards → Rows → Line
-opening_line cards rows = record { cards = cards; earlier = []; present = opening cards rows }
+abbrev pub opening_chain : Cards → Rows → Chain
+opening_chain cards rows = record { cards = cards; earlier = []; present = opening cards rows }
 
 -- after a batch
-abbrev pub extended : Line → Batch → Line
-extended line batch = record { cards = line.cards; earlier = line.earlier ++ line.present ∷ []; present = after_batch line.cards line.present batch }
+abbrev pub extended : Chain → Batch → Chain
+extended chain batch = record { cards = chain.cards; earlier = chain.earlier ++ chain.present ∷ []; present = after_batch chain.cards chain.present batch }
 
 -- after the oldest uncommitted batch was committed
-abbrev pub committed : Line → Line
-committed line = record { cards = line.cards; earlier = drop 1 line.earlier; present = line.present }
+abbrev pub committed : Chain → Chain
+committed chain = record { cards = chain.cards; earlier = drop 1 chain.earlier; present = chain.present }
 
 -- all states, the last committed one first
-abbrev pub states : Line → List State
-states line = line.earlier ++ line.present ∷ []
+abbrev pub states : Chain → List State
+states chain = chain.earlier ++ chain.present ∷ []
 
 -- rolled back to the state with this number: it is the present one, and those after it are dropped
-pub record IsReturned (sequence : ℕ) (old new : Line) : Type 0 where
+pub record IsReturned (sequence : ℕ) (old new : Chain) : Type 0 where
   pub cards : new.cards ≡ old.cards
   pub present : new.present.sequence ≡ sequence
   pub gone : (later : List State) × (states old ≡ states new ++ later)
 
 -- no state has this number
-abbrev pub HasNone : ℕ → Line → Type 0
-HasNone sequence line = All (λ state. state.sequence ≢ sequence) (states line)
+abbrev pub HasNone : ℕ → Chain → Type 0
+HasNone sequence chain = All (λ state. state.sequence ≢ sequence) (states chain)
 
 -- ---- what an executor keeps of itself
 -- of each state: it is sound, and its numbers are within their limits

@@ -1,4 +1,4 @@
--- The states of a line, as what is kept at points.
+-- The states of a chain, as what is kept at points.
 use Rattle.std.proofs.Common.{◌≡◌, ◌≢◌, ◌<◌, ◌≤◌, ◌+◌, ◌-◌, ◌↔◌, Result, Ok, Err, IsErr, IsOk, OnOk, ℕ, zero, suc, Bool, true, false, cond, not, ◌==◌, inl, inr, List, [], ◌∷◌, ◌++◌, length, map, min, take, drop, get_or, Some, None, nat_lt, slice_get, refl, ap, sym, subst, ◌∙◌, arith}
 use Rattle.std.proofs.lemmas.Bool.{cases_Bool, eq-eqb, eqb-true, ltb-false, ltb-true}
 use Rattle.std.proofs.lemmas.Bool.Decides.{nat_tests}
@@ -9,7 +9,7 @@ use Rattle.std.proofs.lemmas.Option.{get_or_from_slice_get, slice_get_within}
 use Rattle.std.specs.List.{All, position, position_or_len}
 use Rattle.tpcc_model.specs.Serial.{State}
 use Rattle.tpcc_rows.specs.RowMap.{Rows}
-use Rattle.executor.specs.Lines.{state_of, states_of}
+use Rattle.executor.specs.Chains.{state_of, states_of}
 use Rattle.executor.specs.declared.stamp.Stamp.{Stamp}
 
 pub length-states_of : (points : List Rows) (stamps : List Stamp) → length stamps ≡ length points → length (states_of points stamps) ≡ length stamps
