@@ -16,6 +16,7 @@ use Rattle.tpcc_rows.specs.declared.key.RowKey.{RowKey}
 use Rattle.tpcc_rows.specs.declared.key.RowKey.TheVariants as key
 use Rattle.tpcc_rows.specs.declared.row.Row.{Row}
 use Rattle.tpcc_rows.specs.declared.row.Row.TheVariants as row
+use Rattle.tpcc_rows.specs.Changing.{new_row_fits}
 use Rattle.tpcc_rows.specs.RowKinds.{fits}
 use Rattle.tpcc_rows.specs.RowMap.{row_key_cmp}
 use Rattle.tables.specs.Keys.{key_of}
@@ -176,6 +177,10 @@ module _ (m : RankRows) (h : AreKept m) (k : RowKey) (numbered : IsNumbered k) (
   pub fit-at : (o : Option Row) → o ≡ get m r → IfSome o (λ x. fits k x ≡ true)
   fit-at None e = tt
   fit-at (Some x) e = fit-of x (sym e)
+
+  pub new-fit-at : (o : Option Row) → o ≡ get m r → new_row_fits k o ≡ true
+  new-fit-at None e = refl
+  new-fit-at (Some x) e = fit-of x (sym e)
 
   module _ (after : RankRows) (e : after ≡ remove m r) where
     gone : after ≡ remove m (rank k)

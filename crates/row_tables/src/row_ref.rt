@@ -23,6 +23,23 @@ pub enum RowRef<'a> {
 }
 
 impl RowRef<'_> {
+    /// A row behind a reference as one of these.
+    pub fn of(row: &Row) -> RowRef<'_>
+        ensures { row_of result ≡ row.now }
+    {
+        match row {
+            Row::Warehouse(row) => RowRef::Warehouse(row),
+            Row::Customer(row) => RowRef::Customer(row),
+            Row::Stock(row) => RowRef::Stock(row),
+            Row::Order(row) => RowRef::Order(row),
+            Row::NewOrder => RowRef::NewOrder,
+            Row::OrderLine(row) => RowRef::OrderLine(row),
+            Row::History(row) => RowRef::History(row),
+            Row::DistrictYtd(row) => RowRef::DistrictYtd(row),
+            Row::DistrictNext(row) => RowRef::DistrictNext(row),
+        }
+    }
+
     /// An equal row, without allocating. Refused once 2^63 copies share a customer's text.
     pub fn copied(self) -> Result<Row, Memory>
         ensures { IfOk result (λ copy. copy ≡ row_of self.entry) }

@@ -4,6 +4,7 @@ ghost use Rattle.std.specs.FinMap as map;
 ghost use Rattle.row_tables.specs.LastOrders.{last_of};
 ghost use Rattle.row_tables.specs.References.{row_of};
 ghost use Rattle.tables.specs.Keys.{order_of};
+ghost use Rattle.tpcc_rows.specs.Changing.{new_row_fits};
 ghost use Rattle.tpcc_rows.specs.Picks.{latest, new_pick, oldest, picked};
 ghost use Rattle.tpcc_rows.specs.RowKinds.{fits};
 ghost use Rattle.tpcc_rows.specs.Rows.{customer_row, district_next_row, district_ytd_row, order_line_row, order_row, stock_row, warehouse_row};
@@ -219,6 +220,7 @@ impl RowTables {
     pub fn put(&mut self, key: RowKey, row: Row) -> Result<Option<Row>, Memory>
         requires { fits key row ≡ true }
         ensures value { IfOk result (λ was. was ≡ map.get self.old key) }
+        ensures kind { IfOk result (λ was. new_row_fits key was ≡ true) }
         ensures ok { OnOk result (self.new ≡ map.insert self.old key row) }
         ensures err { OnErr result (self.new ≡ self.old) }
         ensures new { OnErr result (map.get self.old key ≡ None) }
@@ -244,6 +246,7 @@ impl RowTables {
     /// Removes the key's row, and returns it.
     pub fn remove(&mut self, key: &RowKey) -> Option<Row>
         ensures value { result ≡ map.get self.old key.now }
+        ensures kind { new_row_fits key.now result ≡ true }
         ensures after { self.new ≡ map.remove self.old key.now }
     {
         let was = self.tables.remove(rank(key));

@@ -2,7 +2,7 @@ use Rattle.std.proofs.Common.{sym, ap, ◌∙◌}
 use Rattle.std.specs.FinMap as map
 use Rattle.tables.proofs.Tables.{on_err}
 use Rattle.row_tables.proofs.Counting.{counted-more, room-more}
-use Rattle.row_tables.proofs.Keyed.{fits-table, kept-put, keyed-put, row-at, table-at}
+use Rattle.row_tables.proofs.Keyed.{fits-table, kept-put, keyed-put, new-fit-at, row-at, table-at}
 use Rattle.row_tables.proofs.store.RowTables.put.Goals as goal
 
 pub put-requires : goal.put-requires
@@ -25,3 +25,6 @@ returns-clause-ok c = keyed-put _ c.self.invariant.are_kept c.args.key c.rank.en
 
 pub returns-in_err-was-clause-new : goal.returns-in_err-was-clause-new
 returns-in_err-was-clause-new c = on_err c.from_residual.result (sym (row-at _ c.self.invariant.are_kept c.args.key c.rank.ensures.limits c.rank.result c.rank.ensures.value ∙ ap (λ m. map.get m c.args.key) c.self.view_is) ∙ c.in_err-was.ensures.new)
+
+pub returns-clause-kind : goal.returns-clause-kind
+returns-clause-kind c = new-fit-at _ c.self.invariant.are_kept c.args.key c.rank.ensures.limits c.rank.result c.rank.ensures.value _ c.in_ok-was.ensures.value
