@@ -1,6 +1,7 @@
 //! References to rows.
-ghost use Rattle.std.specs.Prelude.{◌≡◌, IfOk};
+ghost use Rattle.std.specs.Prelude.{◌≡◌, IfOk, option_copied};
 ghost use Rattle.row_tables.specs.References.{row_of};
+ghost use Rattle.tpcc_rows.specs.RowKinds.{as_customer, as_district_next, as_district_ytd, as_order, as_order_line, as_stock, as_warehouse};
 
 use tpcc_rows::memory::Memory;
 use tpcc_rows::row::{
@@ -55,5 +56,70 @@ impl RowRef<'_> {
             RowRef::DistrictYtd(row) => Row::DistrictYtd(*row),
             RowRef::DistrictNext(row) => Row::DistrictNext(*row),
         })
+    }
+}
+
+impl<'a> RowRef<'a> {
+    pub fn as_warehouse(self) -> Option<&'a WarehouseRow>
+        ensures { option_copied result ≡ as_warehouse (row_of self.entry) }
+    {
+        match self {
+            RowRef::Warehouse(row) => Some(row),
+            _ => None,
+        }
+    }
+
+    pub fn as_district_ytd(self) -> Option<&'a DistrictYtdRow>
+        ensures { option_copied result ≡ as_district_ytd (row_of self.entry) }
+    {
+        match self {
+            RowRef::DistrictYtd(row) => Some(row),
+            _ => None,
+        }
+    }
+
+    pub fn as_district_next(self) -> Option<&'a DistrictNextRow>
+        ensures { option_copied result ≡ as_district_next (row_of self.entry) }
+    {
+        match self {
+            RowRef::DistrictNext(row) => Some(row),
+            _ => None,
+        }
+    }
+
+    pub fn as_customer(self) -> Option<&'a CustomerRow>
+        ensures { option_copied result ≡ as_customer (row_of self.entry) }
+    {
+        match self {
+            RowRef::Customer(row) => Some(row),
+            _ => None,
+        }
+    }
+
+    pub fn as_stock(self) -> Option<&'a StockRow>
+        ensures { option_copied result ≡ as_stock (row_of self.entry) }
+    {
+        match self {
+            RowRef::Stock(row) => Some(row),
+            _ => None,
+        }
+    }
+
+    pub fn as_order(self) -> Option<&'a OrderRow>
+        ensures { option_copied result ≡ as_order (row_of self.entry) }
+    {
+        match self {
+            RowRef::Order(row) => Some(row),
+            _ => None,
+        }
+    }
+
+    pub fn as_order_line(self) -> Option<&'a OrderLineRow>
+        ensures { option_copied result ≡ as_order_line (row_of self.entry) }
+    {
+        match self {
+            RowRef::OrderLine(row) => Some(row),
+            _ => None,
+        }
     }
 }

@@ -1,0 +1,4 @@
+mod Besides
+mod Placing
+mod Undoing
+mod Pointing

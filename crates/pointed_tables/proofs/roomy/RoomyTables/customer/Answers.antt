@@ -1,0 +1,7 @@
+use Rattle.std.proofs.Common.{ap, ◌∙◌}
+use Rattle.tpcc_rows.specs.Rows.{customer_row}
+use Rattle.pointed_tables.proofs.Besides.{seen-alone}
+use Rattle.pointed_tables.proofs.roomy.RoomyTables.customer.Goals as goal
+
+pub returns-then-is_empty : goal.returns-then-is_empty
+returns-then-is_empty c = c.customer.ensures ∙ ap (λ rows. customer_row rows c.args.warehouse c.args.district c.args.customer) (seen-alone _ _ _ c.args.self.now c.self.view_is (c.is_empty.ensures c.if-is_empty.true))

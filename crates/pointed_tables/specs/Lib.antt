@@ -1,0 +1,2 @@
+pub mod Aside
+pub mod Logs

@@ -1,0 +1,76 @@
+-- Rows as they were before the changes of logs.
+use Rattle.std.specs.Prelude.{◌≡◌, ◌+◌, ℕ, ⊤, true, false, cond, is_some, List, [], ◌∷◌, ◌++◌, Option, Some, None}
+use Rattle.std.specs.FinMap as map
+use Rattle.serializability.specs.Changes.{changed}
+use Rattle.tpcc_rows.specs.declared.key.RowKey.{RowKey}
+use Rattle.tpcc_rows.specs.declared.row.Row.{Row}
+use Rattle.tpcc_rows.specs.Changing.{new_row_fits}
+use Rattle.tpcc_rows.specs.Leaves.{page_rows}
+use Rattle.tpcc_rows.specs.RowMap.{Rows}
+use Rattle.rollback.specs.Marks.{is_dirty}
+use Rattle.rollback.specs.Pointed.{first_or}
+use Rattle.pointed_tables.specs.declared.log.Log.{Log}
+
+-- keys with what they had
+abbrev pub Olds : Type 0
+Olds = List (RowKey × Option Row)
+
+-- the rows once each key has what it had, the one that was noted last first
+abbrev pub undone : Olds → Rows → Rows
+undone [] rows = rows
+undone (old ∷ olds) rows = changed (undone olds rows) old.0 old.1
+
+-- the room that a row takes that comes back: none where it takes the place of another
+abbrev pub wants : RowKey → Option Row → Rows → ℕ
+wants key None rows = 0
+wants key (Some row) rows = cond (is_some (map.get rows key)) 0 1
+
+-- the room that all of them take
+abbrev pub needed : Olds → Rows → ℕ
+needed [] rows = 0
+needed (old ∷ olds) rows = needed olds rows + wants old.0 old.1 (undone olds rows)
+
+-- each of its key's kind
+abbrev pub AreOlds : Olds → Type 0
+AreOlds [] = ⊤
+AreOlds (old ∷ olds) = (new_row_fits old.0 old.1 ≡ true) × AreOlds olds
+
+-- a log that leads back from these rows, with the number of rows that come back to keys without one
+pub record IsLogOf (log : Log) (rows : Rows) : Type 0 where
+  pub fit : AreOlds log.olds.items
+  pub counted : needed log.olds.items rows ≡ log.removals
+
+-- a log with one change more: of the key of these rows to this row, or to none
+pub record IsNoted (old new : Log) (rows : Rows) (key : RowKey) (row : Option Row) : Type 0 where
+  pub olds : new.olds.items ≡ old.olds.items ++ (key, map.get rows key) ∷ []
+  pub removals : new.removals ≡ old.removals + wants key (map.get rows key) (changed rows key row)
+  pub fit : new_row_fits key (map.get rows key) ≡ true
+
+-- a log with the same changes
+pub record IsSame (old new : Log) : Type 0 where
+  pub olds : new.olds.items ≡ old.olds.items
+  pub removals : new.removals ≡ old.removals
+
+-- a leaf that isn't marked afterwards wasn't before, and has the rows that it had
+abbrev pub KeepsOthers : List ℕ → List ℕ → Rows → Rows → Type 0
+KeepsOthers before after old new = (n : ℕ) → is_dirty after n ≡ false → (is_dirty before n ≡ false) × (page_rows new n ≡ page_rows old n)
+
+-- ---- points as logs
+-- the logs stand for these rows, the oldest first: each against the point that follows, the newest against the present rows
+abbrev pub points_of : List Log → Rows → List Rows
+points_of [] rows = []
+points_of (log ∷ logs) rows = undone log.olds.items (first_or (points_of logs rows) rows) ∷ points_of logs rows
+
+abbrev pub AreLogs : List Log → Rows → Type 0
+AreLogs [] rows = ⊤
+AreLogs (log ∷ logs) rows = IsLogOf log (first_or (points_of logs rows) rows) × AreLogs logs rows
+
+-- the rows that come back to keys without one
+abbrev pub held : List Log → ℕ
+held [] = 0
+held (log ∷ logs) = log.removals + held logs
+
+-- each log leads back, and there is room for all rows that come back
+pub record IsPointed (logs : List Log) (rows : Rows) (room : ℕ) : Type 0 where
+  pub are_logs : AreLogs logs rows
+  pub enough : held logs ≡ room

@@ -1,0 +1,11 @@
+//! Rows in tables that can go back to what they were at a point, and the leaves on which they have changed.
+#![tactic(auto)]
+
+pub mod aside;
+pub mod dirty;
+pub mod log;
+pub mod pointed;
+pub mod roomy;
+
+pub use dirty::Dirty;
+pub use pointed::PointedTables;

@@ -1,0 +1,136 @@
+//! A log of what keys had, by which changes are taken back.
+ghost use Rattle.std.specs.Prelude.{◌≡◌, ◌<◌, ◌≤◌, ◌+◌, ◌^◌, ◌++◌, ◌∷◌, [], is_some, cond, OnErr, OnOk, vec_capacity, vec_len, true};
+ghost use Rattle.std.specs.FinMap as map;
+ghost use Rattle.serializability.specs.Changes.{changed};
+ghost use Rattle.tpcc_rows.specs.RowKinds.{fits};
+ghost use Rattle.pointed_tables.specs.Logs.{IsLogOf, IsNoted, IsSame, KeepsOthers, undone};
+
+use crate::dirty::Dirty;
+use crate::roomy::RoomyTables;
+use std::alloc::Global;
+use std::default::MadeWith;
+use tpcc_rows::codes::leaf;
+use tpcc_rows::key::RowKey;
+use tpcc_rows::memory::Memory;
+use tpcc_rows::row::Row;
+
+/// What keys had before each of some changes, the oldest first, and how many of the changes were removals.
+#[derive(Drop)]
+pub struct Log {
+    olds: Vec<(RowKey, Option<Row>)>,
+    removals: usize,
+}
+
+impl Log {
+    /// No changes.
+    pub(crate) fn new(alloc: Global) -> Log
+        ensures olds { result.olds.items ≡ [] }
+        ensures removals { result.removals ≡ 0 }
+    {
+        Log {
+            olds: Vec::new(alloc),
+            removals: 0,
+        }
+    }
+
+    /// How many of the changes were removals.
+    pub(crate) fn removals(&self) -> usize
+        ensures { result ≡ self.now.removals }
+    {
+        self.removals
+    }
+
+    /// Makes room for one change more.
+    fn prepare(&mut self) -> Result<(), Memory>
+        ensures room { OnOk result (vec_len self.new.olds < vec_capacity self.new.olds) }
+        ensures few { OnOk result (self.new.removals + 1 < 2 ^ 64) }
+        ensures same { IsSame self.old self.new }
+    {
+        if self.removals == usize::MAX {
+            return Err(Memory);
+        }
+        self.olds.reserve(1)?;
+        Ok(())
+    }
+
+    /// Notes what a key had, for which there is room.
+    fn note(&mut self, old: (RowKey, Option<Row>))
+        requires { vec_len self.old.olds < vec_capacity self.old.olds }
+        ensures olds { self.new.olds.items ≡ self.old.olds.items ++ old ∷ [] }
+        ensures removals { self.new.removals ≡ self.old.removals }
+    {
+        let _ = self.olds.push(old);
+    }
+
+    /// Notes the row that was removed, if any.
+    fn note_removal(&mut self, key: RowKey, row: Option<Row>)
+        requires room { vec_len self.old.olds < vec_capacity self.old.olds }
+        requires few { self.old.removals + 1 < 2 ^ 64 }
+        ensures olds { self.new.olds.items ≡ self.old.olds.items ++ (key, row) ∷ [] }
+        ensures removals { self.new.removals ≡ self.old.removals + cond (is_some row) 1 0 }
+    {
+        if row.is_some() {
+            self.removals += 1;
+        }
+        self.note((key, row));
+    }
+}
+
+impl MadeWith<Global> for Log {
+    fn made_with(alloc: Global) -> Log {
+        Log::new(alloc)
+    }
+}
+
+/// Inserts or replaces the key's row, and notes what it had.
+pub(crate) fn put_noting(
+    store: &mut RoomyTables,
+    key: &RowKey,
+    row: Row,
+    log: &mut Log,
+) -> Result<(), Memory>
+    requires { fits key.now row ≡ true }
+    ensures noted { OnOk result (IsNoted log.old log.new store.old.rows key.now (Some row)) }
+    ensures ok { OnOk result (store.new.rows ≡ map.insert store.old.rows key.now row) }
+    ensures room { store.new.room ≡ store.old.room }
+    ensures err { OnErr result (store.new ≡ store.old) }
+    ensures log_err { OnErr result (IsSame log.old log.new) }
+{
+    log.prepare()?;
+    let was = store.put(*key, row)?;
+    log.note((*key, was));
+    Ok(())
+}
+
+/// Removes the key's row, if any, and notes it.
+pub(crate) fn remove_noting(
+    store: &mut RoomyTables,
+    key: &RowKey,
+    log: &mut Log,
+) -> Result<(), Memory>
+    ensures noted { OnOk result (IsNoted log.old log.new store.old.rows key.now None) }
+    ensures ok { OnOk result (store.new.rows ≡ map.remove store.old.rows key.now) }
+    ensures room { OnOk result (store.new.room ≡ store.old.room + cond (is_some (map.get store.old.rows key.now)) 1 0) }
+    ensures err { OnErr result (store.new ≡ store.old) }
+    ensures log_err { OnErr result (IsSame log.old log.new) }
+{
+    log.prepare()?;
+    let was = store.remove(key)?;
+    log.note_removal(*key, was);
+    Ok(())
+}
+
+/// Takes the changes of the log back, the newest first, without allocating. Their leaves are dirty from now on.
+pub(crate) fn undo_all(store: &mut RoomyTables, dirty: &mut Dirty, log: Log)
+    requires log { IsLogOf log store.old.rows }
+    requires room { log.removals ≤ store.old.room }
+    ensures rows { store.new.rows ≡ undone log.olds.items store.old.rows }
+    ensures room { store.new.room + log.removals ≡ store.old.room }
+    ensures clean { KeepsOthers dirty.old dirty.new store.old.rows store.new.rows }
+{
+    let Log { mut olds, .. } = log;
+    while let Some((key, row)) = olds.pop() {
+        dirty.add(leaf(&key));
+        store.undo(key, row);
+    }
+}

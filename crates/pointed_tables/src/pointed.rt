@@ -1,0 +1,356 @@
+//! Rows in tables, the points to which they can go back, and the leaves on which they have changed.
+ghost use Rattle.std.specs.Prelude.{◌≡◌, ◌<◌, ◌≤◌, ◌+◌, ◌↔◌, [], ◌∷◌, ◌++◌, take, drop, IfOk, IfSome, IsErr, None, Some, OnOk, OnErr, length, option_copied, option_map, slice_get, true};
+ghost use Rattle.std.specs.FinMap as map;
+ghost use Rattle.serializability.specs.Changes.{changed};
+ghost use Rattle.row_tables.specs.References.{row_of};
+ghost use Rattle.tpcc_rows.specs.Changing.{IsMadeInPart, after, new_row_fits};
+ghost use Rattle.tpcc_rows.specs.Leaves.{leaf};
+ghost use Rattle.tpcc_rows.specs.RowKinds.{fits};
+ghost use Rattle.tpcc_rows.specs.Rows.{customer_row, district_next_row, district_ytd_row, order_line_row, order_row, stock_row, warehouse_row};
+ghost use Rattle.rollback.specs.Marks.{AreClean, HasAlso, HasAlsoThose};
+ghost use Rattle.rollback.specs.Pointed.{KeepsCleanLeaves};
+ghost use Rattle.pointed_tables.specs.Logs.{IsPointed, points_of};
+
+use crate::dirty::Dirty;
+use crate::log::{Log, put_noting, remove_noting, undo_all};
+use crate::roomy::RoomyTables;
+use arrayvec::ArrayVec;
+use rollback::{NoSuchPoint, POINTS, PointsFull};
+use row_tables::row_ref::RowRef;
+use row_tables::store::RowTables;
+use std::alloc::Global;
+use std::marker::Model;
+use tpcc_rows::codes::leaf;
+use tpcc_rows::delta::Delta;
+use tpcc_rows::id::{CustomerId, DistrictId, ItemId, LineNumber, OrderId, WarehouseId};
+use tpcc_rows::key::RowKey;
+use tpcc_rows::memory::Memory;
+use tpcc_rows::row::{
+    CustomerRow, DistrictNextRow, DistrictYtdRow, OrderLineRow, OrderRow, Row, StockRow,
+    WarehouseRow,
+};
+
+/// Rows in tables, points to which they can go back, and the set of the leaves on which they have changed since it was last
+/// taken. A point is a log of what has changed since it was made and before the next one was.
+#[derive(Drop)]
+pub struct PointedTables {
+    alloc: Global,
+    store: RoomyTables,
+    points: ArrayVec<Log, POINTS, Global>,
+    dirty: Dirty,
+}
+
+impl Model for PointedTables {
+    ghost use Rattle.rollback.specs.Pointed.{Pointed, pointed_code};
+
+    ghost Value = { Pointed };
+
+    ghost coded = { pointed_code };
+
+    ghost use Rattle.pointed_tables.specs.Logs.{IsPointed, points_of};
+
+    ghost view = { λ s. record { rows = s.store.rows; points = points_of s.points.items s.store.rows; dirty = s.dirty } };
+
+    ghost invariant = { λ s. IsPointed s.points.items s.store.rows s.store.room };
+}
+
+/// Inserts or replaces the key's row, and notes what it had in the newest log, if there is one.
+fn put_noting_newest(
+    store: &mut RoomyTables,
+    key: &RowKey,
+    row: Row,
+    points: &mut [Log],
+) -> Result<(), Memory>
+    requires { fits key.now row ≡ true }
+    ensures ok { OnOk result (store.new.rows ≡ map.insert store.old.rows key.now row) }
+    ensures err { OnErr result (store.new ≡ store.old) }
+    ensures points { points_of points.new store.new.rows ≡ points_of points.old store.old.rows }
+    ensures pointed { IsPointed points.old store.old.rows store.old.room → IsPointed points.new store.new.rows store.new.room }
+{
+    let len = points.len();
+    if len == 0 {
+        store.put(*key, row)?;
+        return Ok(());
+    }
+    put_noting(store, key, row, &mut points[len - 1])
+}
+
+/// Removes the key's row, and notes it in the newest log, if there is one.
+fn remove_noting_newest(
+    store: &mut RoomyTables,
+    key: &RowKey,
+    points: &mut [Log],
+) -> Result<(), Memory>
+    ensures ok { OnOk result (store.new.rows ≡ map.remove store.old.rows key.now) }
+    ensures err { OnErr result (store.new ≡ store.old) }
+    ensures points { points_of points.new store.new.rows ≡ points_of points.old store.old.rows }
+    ensures pointed { IsPointed points.old store.old.rows store.old.room → IsPointed points.new store.new.rows store.new.room }
+{
+    let len = points.len();
+    if len == 0 {
+        store.take(key);
+        return Ok(());
+    }
+    remove_noting(store, key, &mut points[len - 1])
+}
+
+impl PointedTables {
+    /// The rows of a store; there is no point, and no leaf is dirty.
+    pub fn new(alloc: Global, tables: RowTables) -> PointedTables
+        ensures rows { result.rows ≡ tables }
+        ensures points { result.points ≡ [] }
+        ensures clean { AreClean result.dirty }
+    {
+        PointedTables {
+            alloc,
+            store: RoomyTables::new(alloc, tables),
+            points: ArrayVec::new_in(alloc),
+            dirty: Dirty::new(),
+        }
+    }
+
+    pub fn get(&self, key: &RowKey) -> Option<RowRef<'_>>
+        ensures value { option_map row_of result ≡ map.get self.now.rows key.now }
+        ensures kind { IfSome (option_map row_of result) (λ row. fits key.now row ≡ true) }
+    {
+        self.store.get(key)
+    }
+
+    pub fn warehouse(&self, warehouse: WarehouseId) -> Option<&WarehouseRow>
+        ensures { option_copied result ≡ warehouse_row self.now.rows warehouse }
+    {
+        self.store.warehouse(warehouse)
+    }
+
+    pub fn district_ytd(
+        &self,
+        warehouse: WarehouseId,
+        district: DistrictId,
+    ) -> Option<&DistrictYtdRow>
+        ensures { option_copied result ≡ district_ytd_row self.now.rows warehouse district }
+    {
+        self.store.district_ytd(warehouse, district)
+    }
+
+    pub fn district_next(
+        &self,
+        warehouse: WarehouseId,
+        district: DistrictId,
+    ) -> Option<&DistrictNextRow>
+        ensures { option_copied result ≡ district_next_row self.now.rows warehouse district }
+    {
+        self.store.district_next(warehouse, district)
+    }
+
+    pub fn customer(
+        &self,
+        warehouse: WarehouseId,
+        district: DistrictId,
+        customer: CustomerId,
+    ) -> Option<&CustomerRow>
+        ensures { option_copied result ≡ customer_row self.now.rows warehouse district customer }
+    {
+        self.store.customer(warehouse, district, customer)
+    }
+
+    pub fn stock(&self, warehouse: WarehouseId, item: ItemId) -> Option<&StockRow>
+        ensures { option_copied result ≡ stock_row self.now.rows warehouse item }
+    {
+        self.store.stock(warehouse, item)
+    }
+
+    pub fn order(
+        &self,
+        warehouse: WarehouseId,
+        district: DistrictId,
+        order: OrderId,
+    ) -> Option<&OrderRow>
+        ensures { option_copied result ≡ order_row self.now.rows warehouse district order }
+    {
+        self.store.order(warehouse, district, order)
+    }
+
+    pub fn order_line(
+        &self,
+        warehouse: WarehouseId,
+        district: DistrictId,
+        order: OrderId,
+        number: LineNumber,
+    ) -> Option<&OrderLineRow>
+        ensures { option_copied result ≡ order_line_row self.now.rows warehouse district order number }
+    {
+        self.store.order_line(warehouse, district, order, number)
+    }
+
+    /// Inserts or replaces the key's row; its leaf is dirty from now on.
+    pub fn put(&mut self, key: RowKey, row: Row) -> Result<(), Memory>
+        requires { fits key row ≡ true }
+        ensures rows { OnOk result (self.new.rows ≡ map.insert self.old.rows key row) }
+        ensures dirty { OnOk result (HasAlso self.old.dirty (leaf key) self.new.dirty) }
+        ensures points { self.new.points ≡ self.old.points }
+        ensures err { OnErr result (self.new ≡ self.old) }
+        ensures clean { KeepsCleanLeaves self.old self.new }
+    {
+        let leaf = leaf(&key);
+        put_noting_newest(&mut self.store, &key, row, self.points.as_mut_slice())?;
+        self.dirty.add(leaf);
+        Ok(())
+    }
+
+    /// Removes the key's row, if any; its leaf is dirty from now on.
+    pub fn remove(&mut self, key: &RowKey) -> Result<(), Memory>
+        ensures rows { OnOk result (self.new.rows ≡ map.remove self.old.rows key.now) }
+        ensures dirty { OnOk result (HasAlso self.old.dirty (leaf key.now) self.new.dirty) }
+        ensures points { self.new.points ≡ self.old.points }
+        ensures err { OnErr result (self.new ≡ self.old) }
+        ensures clean { KeepsCleanLeaves self.old self.new }
+    {
+        remove_noting_newest(&mut self.store, key, self.points.as_mut_slice())?;
+        self.dirty.add(leaf(key));
+        Ok(())
+    }
+
+    fn change(&mut self, key: RowKey, new_row: Option<Row>) -> Result<(), Memory>
+        requires { new_row_fits key new_row ≡ true }
+        ensures rows { OnOk result (self.new.rows ≡ changed self.old.rows key new_row) }
+        ensures dirty { OnOk result (HasAlso self.old.dirty (leaf key) self.new.dirty) }
+        ensures points { self.new.points ≡ self.old.points }
+        ensures err { OnErr result (self.new ≡ self.old) }
+        ensures clean { KeepsCleanLeaves self.old self.new }
+    {
+        match new_row {
+            Some(row) => self.put(key, row),
+            None => self.remove(&key),
+        }
+    }
+
+    /// Makes the changes, whose rows are moved. After a refusal a prefix of them, in key order, is made.
+    #[tactic(auto, unfolding(tpcc_rows::specs::Changing::after))]
+    pub fn apply(&mut self, delta: Delta) -> Result<(), Memory>
+        ensures ok { OnOk result (self.new.rows ≡ after self.old.rows delta) }
+        ensures err { OnErr result (IsMadeInPart self.old.rows self.new.rows delta) }
+        ensures dirty { OnOk result (HasAlsoThose self.old.dirty delta self.new.dirty) }
+        ensures points { self.new.points ≡ self.old.points }
+        ensures clean { KeepsCleanLeaves self.old self.new }
+    {
+        for (key, new_row) in delta.into_changes() {
+            self.change(key, new_row)?;
+        }
+        Ok(())
+    }
+
+    /// The dirty leaves, of which there are none from now on.
+    pub fn take_dirty(&mut self) -> Dirty
+        ensures taken { result ≡ self.old.dirty }
+        ensures clean { AreClean self.new.dirty }
+        ensures rows { self.new.rows ≡ self.old.rows }
+        ensures points { self.new.points ≡ self.old.points }
+    {
+        self.dirty.take()
+    }
+
+    /// The number of points.
+    pub fn points(&self) -> usize
+        ensures value { result ≡ length self.now.points }
+        ensures few { result ≤ POINTS }
+    {
+        self.points.len()
+    }
+
+    /// The present rows become the newest point, for which there is a place.
+    fn push_point(&mut self)
+        requires { length self.old.points < POINTS }
+        ensures points { self.new.points ≡ self.old.points ++ self.old.rows ∷ [] }
+        ensures rows { self.new.rows ≡ self.old.rows }
+        ensures dirty { self.new.dirty ≡ self.old.dirty }
+    {
+        self.points.push(Log::new(self.alloc));
+    }
+
+    /// The present rows become the newest point, without allocating.
+    pub fn mark(&mut self) -> Result<(), PointsFull>
+        ensures points { OnOk result (self.new.points ≡ self.old.points ++ self.old.rows ∷ []) }
+        ensures full { IsErr result ↔ (POINTS ≤ length self.old.points) }
+        ensures rows { self.new.rows ≡ self.old.rows }
+        ensures dirty { self.new.dirty ≡ self.old.dirty }
+        ensures err { OnErr result (self.new ≡ self.old) }
+    {
+        if self.points() >= POINTS {
+            return Err(PointsFull);
+        }
+        self.push_point();
+        Ok(())
+    }
+
+    /// Forgets the oldest point, of which there is one.
+    fn pop_oldest(&mut self)
+        requires { 0 < length self.old.points }
+        ensures points { self.new.points ≡ drop 1 self.old.points }
+        ensures rows { self.new.rows ≡ self.old.rows }
+        ensures dirty { self.new.dirty ≡ self.old.dirty }
+    {
+        let log = self.points.remove(0);
+        self.store.release(log.removals());
+    }
+
+    /// Forgets the oldest point, without allocating.
+    pub fn drop_oldest(&mut self) -> Result<(), NoSuchPoint>
+        ensures points { OnOk result (self.new.points ≡ drop 1 self.old.points) }
+        ensures none { IsErr result ↔ (self.old.points ≡ []) }
+        ensures rows { self.new.rows ≡ self.old.rows }
+        ensures dirty { self.new.dirty ≡ self.old.dirty }
+        ensures err { OnErr result (self.new ≡ self.old) }
+    {
+        if self.points() == 0 {
+            return Err(NoSuchPoint);
+        }
+        self.pop_oldest();
+        Ok(())
+    }
+
+    /// The rows are those of the point from now on. It and the later ones are forgotten.
+    fn go_back(&mut self, point: usize)
+        requires { point < length self.old.points }
+        ensures rows { slice_get self.old.points point ≡ Some self.new.rows }
+        ensures points { self.new.points ≡ take point self.old.points }
+        ensures clean { KeepsCleanLeaves self.old self.new }
+    {
+        while self.points.len() > point {
+            if let Some(log) = self.points.pop() {
+                undo_all(&mut self.store, &mut self.dirty, log);
+            }
+        }
+    }
+
+    /// The rows are those of the point from now on, of which the oldest is 0. It and the later ones are forgotten. Nothing is
+    /// allocated.
+    pub fn back_to(&mut self, point: usize) -> Result<(), NoSuchPoint>
+        ensures rows { OnOk result (slice_get self.old.points point ≡ Some self.new.rows) }
+        ensures points { OnOk result (self.new.points ≡ take point self.old.points) }
+        ensures none { IsErr result ↔ (length self.old.points ≤ point) }
+        ensures err { OnErr result (self.new ≡ self.old) }
+        ensures clean { KeepsCleanLeaves self.old self.new }
+    {
+        if point >= self.points() {
+            return Err(NoSuchPoint);
+        }
+        self.go_back(point);
+        Ok(())
+    }
+
+    /// The rows are those of the point from now on, of which the oldest is 0. The later ones are forgotten. Nothing is allocated.
+    pub fn rewind(&mut self, point: usize) -> Result<(), NoSuchPoint>
+        ensures rows { OnOk result (slice_get self.old.points point ≡ Some self.new.rows) }
+        ensures points { OnOk result (self.new.points ≡ take (point + 1) self.old.points) }
+        ensures none { IsErr result ↔ (length self.old.points ≤ point) }
+        ensures err { OnErr result (self.new ≡ self.old) }
+        ensures clean { KeepsCleanLeaves self.old self.new }
+    {
+        if self.points() <= point {
+            return Err(NoSuchPoint);
+        }
+        self.go_back(point);
+        self.push_point();
+        Ok(())
+    }
+}

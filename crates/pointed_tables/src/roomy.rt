@@ -1,0 +1,303 @@
+//! Rows in tables, to which removed rows can come back without memory.
+ghost use Rattle.std.specs.Prelude.{◌≡◌, ◌<◌, ◌≤◌, ◌+◌, ◌-◌, cond, IfOk, IfSome, OnErr, OnOk, None, Some, is_some, option_copied, option_map, false, true};
+ghost use Rattle.std.specs.FinMap as map;
+ghost use Rattle.serializability.specs.Changes.{changed};
+ghost use Rattle.row_tables.specs.References.{row_of};
+ghost use Rattle.tpcc_rows.specs.Changing.{new_row_fits};
+ghost use Rattle.tpcc_rows.specs.RowKinds.{fits};
+ghost use Rattle.tpcc_rows.specs.Rows.{customer_row, district_next_row, district_ytd_row, order_line_row, order_row, stock_row, warehouse_row};
+ghost use Rattle.pointed_tables.specs.Logs.{wants};
+
+use crate::aside::Aside;
+use row_tables::row_ref::RowRef;
+use row_tables::store::RowTables;
+use std::alloc::Global;
+use std::marker::Model;
+use tpcc_rows::id::{CustomerId, DistrictId, ItemId, LineNumber, OrderId, WarehouseId};
+use tpcc_rows::key::RowKey;
+use tpcc_rows::memory::Memory;
+use tpcc_rows::row::{
+    CustomerRow, DistrictNextRow, DistrictYtdRow, OrderLineRow, OrderRow, Row, StockRow,
+    WarehouseRow,
+};
+
+/// A finite map from keys to rows, and room held for removed rows. A row whose table is refused memory when it comes back
+/// stands aside, in that room.
+#[derive(Drop)]
+pub struct RoomyTables {
+    tables: RowTables,
+    aside: Aside,
+}
+
+impl Model for RoomyTables {
+    ghost use Rattle.pointed_tables.specs.Aside.{IsBeside, Roomy, both, roomy_code};
+
+    ghost Value = { Roomy };
+
+    ghost coded = { roomy_code };
+
+    ghost view = { λ s. record { rows = both s.aside.rows s.tables; room = s.aside.room } };
+
+    ghost invariant = { λ s. IsBeside s.aside.rows s.tables };
+}
+
+/// Inserts an equal row.
+fn put_copy(tables: &mut RowTables, key: &RowKey, row: &Row) -> Result<(), Memory>
+    requires { fits key.now row.now ≡ true }
+    ensures ok { OnOk result (tables.new ≡ map.insert tables.old key.now row.now) }
+    ensures err { OnErr result (tables.new ≡ tables.old) }
+{
+    let copy = RowRef::of(row).copied()?;
+    tables.put(*key, copy)?;
+    Ok(())
+}
+
+impl RoomyTables {
+    /// The rows of the tables, and no room for removed ones.
+    pub fn new(alloc: Global, tables: RowTables) -> RoomyTables
+        ensures rows { result.rows ≡ tables }
+        ensures room { result.room ≡ 0 }
+    {
+        RoomyTables {
+            tables,
+            aside: Aside::new(alloc),
+        }
+    }
+
+    pub fn get(&self, key: &RowKey) -> Option<RowRef<'_>>
+        ensures value { option_map row_of result ≡ map.get self.now.rows key.now }
+        ensures kind { IfSome (option_map row_of result) (λ row. fits key.now row ≡ true) }
+    {
+        match self.aside.get(key) {
+            Some(row) => Some(RowRef::of(row)),
+            None => self.tables.get(key),
+        }
+    }
+
+    pub fn warehouse(&self, warehouse: WarehouseId) -> Option<&WarehouseRow>
+        ensures { option_copied result ≡ warehouse_row self.now.rows warehouse }
+    {
+        if self.aside.is_empty() {
+            return self.tables.warehouse(warehouse);
+        }
+        self.get(&RowKey::Warehouse { warehouse })?.as_warehouse()
+    }
+
+    pub fn district_ytd(
+        &self,
+        warehouse: WarehouseId,
+        district: DistrictId,
+    ) -> Option<&DistrictYtdRow>
+        ensures { option_copied result ≡ district_ytd_row self.now.rows warehouse district }
+    {
+        if self.aside.is_empty() {
+            return self.tables.district_ytd(warehouse, district);
+        }
+        self.get(&RowKey::DistrictYtd {
+            warehouse,
+            district,
+        })?
+        .as_district_ytd()
+    }
+
+    pub fn district_next(
+        &self,
+        warehouse: WarehouseId,
+        district: DistrictId,
+    ) -> Option<&DistrictNextRow>
+        ensures { option_copied result ≡ district_next_row self.now.rows warehouse district }
+    {
+        if self.aside.is_empty() {
+            return self.tables.district_next(warehouse, district);
+        }
+        self.get(&RowKey::DistrictNext {
+            warehouse,
+            district,
+        })?
+        .as_district_next()
+    }
+
+    pub fn customer(
+        &self,
+        warehouse: WarehouseId,
+        district: DistrictId,
+        customer: CustomerId,
+    ) -> Option<&CustomerRow>
+        ensures { option_copied result ≡ customer_row self.now.rows warehouse district customer }
+    {
+        if self.aside.is_empty() {
+            return self.tables.customer(warehouse, district, customer);
+        }
+        self.get(&RowKey::Customer {
+            warehouse,
+            district,
+            customer,
+        })?
+        .as_customer()
+    }
+
+    pub fn stock(&self, warehouse: WarehouseId, item: ItemId) -> Option<&StockRow>
+        ensures { option_copied result ≡ stock_row self.now.rows warehouse item }
+    {
+        if self.aside.is_empty() {
+            return self.tables.stock(warehouse, item);
+        }
+        self.get(&RowKey::Stock { warehouse, item })?.as_stock()
+    }
+
+    pub fn order(
+        &self,
+        warehouse: WarehouseId,
+        district: DistrictId,
+        order: OrderId,
+    ) -> Option<&OrderRow>
+        ensures { option_copied result ≡ order_row self.now.rows warehouse district order }
+    {
+        if self.aside.is_empty() {
+            return self.tables.order(warehouse, district, order);
+        }
+        self.get(&RowKey::Order {
+            warehouse,
+            district,
+            order,
+        })?
+        .as_order()
+    }
+
+    pub fn order_line(
+        &self,
+        warehouse: WarehouseId,
+        district: DistrictId,
+        order: OrderId,
+        number: LineNumber,
+    ) -> Option<&OrderLineRow>
+        ensures { option_copied result ≡ order_line_row self.now.rows warehouse district order number }
+    {
+        if self.aside.is_empty() {
+            return self.tables.order_line(warehouse, district, order, number);
+        }
+        self.get(&RowKey::OrderLine {
+            warehouse,
+            district,
+            order,
+            number,
+        })?
+        .as_order_line()
+    }
+
+    /// Whether the key has a row.
+    fn has(&self, key: &RowKey) -> bool
+        ensures { result ≡ is_some (map.get self.now.rows key.now) }
+    {
+        self.get(key).is_some()
+    }
+
+    /// Inserts or replaces the key's row, and returns the old one.
+    pub fn put(&mut self, key: RowKey, row: Row) -> Result<Option<Row>, Memory>
+        requires { fits key row ≡ true }
+        ensures value { IfOk result (λ was. was ≡ map.get self.old.rows key) }
+        ensures kind { IfOk result (λ was. new_row_fits key was ≡ true) }
+        ensures ok { OnOk result (self.new.rows ≡ map.insert self.old.rows key row) }
+        ensures room { self.new.room ≡ self.old.room }
+        ensures err { OnErr result (self.new ≡ self.old) }
+    {
+        if self.aside.has(&key) {
+            return Ok(self.aside.put(key, row));
+        }
+        self.tables.put(key, row)
+    }
+
+    /// Removes the key's row, and returns it.
+    pub fn take(&mut self, key: &RowKey) -> Option<Row>
+        ensures value { result ≡ map.get self.old.rows key.now }
+        ensures kind { new_row_fits key.now result ≡ true }
+        ensures after { self.new.rows ≡ map.remove self.old.rows key.now }
+        ensures room { self.new.room ≡ self.old.room }
+    {
+        if self.aside.has(key) {
+            self.aside.remove(key)
+        } else {
+            self.tables.remove(key)
+        }
+    }
+
+    /// Removes the key's row, and returns it. Room is held for it.
+    pub fn remove(&mut self, key: &RowKey) -> Result<Option<Row>, Memory>
+        ensures value { IfOk result (λ was. was ≡ map.get self.old.rows key.now) }
+        ensures kind { IfOk result (λ was. new_row_fits key.now was ≡ true) }
+        ensures ok { OnOk result (self.new.rows ≡ map.remove self.old.rows key.now) }
+        ensures room { OnOk result (self.new.room ≡ self.old.room + cond (is_some (map.get self.old.rows key.now)) 1 0) }
+        ensures err { OnErr result (self.new ≡ self.old) }
+    {
+        if self.has(key) {
+            self.aside.hold()?;
+        }
+        Ok(self.take(key))
+    }
+
+    /// Replaces the key's row, which exists, and returns the old one, without allocating.
+    fn replace(&mut self, key: RowKey, row: Row) -> Option<Row>
+        requires fit { fits key row ≡ true }
+        requires there { is_some (map.get self.old.rows key) ≡ true }
+        ensures rows { self.new.rows ≡ map.insert self.old.rows key row }
+        ensures room { self.new.room ≡ self.old.room }
+    {
+        if self.aside.has(&key) {
+            self.aside.put(key, row)
+        } else {
+            self.tables.replace(key, row)
+        }
+    }
+
+    /// Inserts a row of a new key, for which room is held, without allocating.
+    fn insert(&mut self, key: RowKey, row: Row)
+        requires fit { fits key row ≡ true }
+        requires new { is_some (map.get self.old.rows key) ≡ false }
+        requires room { 0 < self.old.room }
+        ensures rows { self.new.rows ≡ map.insert self.old.rows key row }
+        ensures room { self.new.room + 1 ≡ self.old.room }
+    {
+        match put_copy(&mut self.tables, &key, &row) {
+            Ok(()) => {
+                drop(row);
+                self.aside.release(1);
+            }
+            Err(Memory) => drop(self.aside.put(key, row)),
+        }
+    }
+
+    /// Inserts or replaces the key's row, without allocating.
+    fn put_back(&mut self, key: RowKey, row: Row)
+        requires fit { fits key row ≡ true }
+        requires room { wants key (Some row) self.old.rows ≤ self.old.room }
+        ensures rows { self.new.rows ≡ map.insert self.old.rows key row }
+        ensures room { self.new.room + wants key (Some row) self.old.rows ≡ self.old.room }
+    {
+        if self.has(&key) {
+            drop(self.replace(key, row));
+        } else {
+            self.insert(key, row);
+        }
+    }
+
+    /// Gives the key what it had, without allocating.
+    pub fn undo(&mut self, key: RowKey, row: Option<Row>)
+        requires fit { new_row_fits key row ≡ true }
+        requires room { wants key row self.old.rows ≤ self.old.room }
+        ensures rows { self.new.rows ≡ changed self.old.rows key row }
+        ensures room { self.new.room + wants key row self.old.rows ≡ self.old.room }
+    {
+        match row {
+            Some(row) => self.put_back(key, row),
+            None => drop(self.take(&key)),
+        }
+    }
+
+    /// Holds room for so many rows fewer.
+    pub fn release(&mut self, count: usize)
+        ensures room { self.new.room ≡ self.old.room - count }
+        ensures rows { self.new.rows ≡ self.old.rows }
+    {
+        self.aside.release(count);
+    }
+}
