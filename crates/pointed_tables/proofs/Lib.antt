@@ -1,4 +1,5 @@
 mod Besides
+mod Picking
 mod Placing
 mod Undoing
 mod Pointing

@@ -93,6 +93,13 @@ impl Aside {
         self.rows.is_empty()
     }
 
+    /// The rows in key order.
+    pub fn as_slice(&self) -> &[(RowKey, Row)]
+        ensures { result.now ≡ map.entries self.now.rows }
+    {
+        self.rows.as_slice()
+    }
+
     pub fn get(&self, key: &RowKey) -> Option<&Row>
         ensures { option_copied result ≡ map.get self.now.rows key.now }
     {

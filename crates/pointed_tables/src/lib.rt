@@ -4,6 +4,7 @@
 pub mod aside;
 pub mod dirty;
 pub mod log;
+pub mod picks;
 pub mod pointed;
 pub mod roomy;
 

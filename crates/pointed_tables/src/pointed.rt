@@ -5,6 +5,7 @@ ghost use Rattle.serializability.specs.Changes.{changed};
 ghost use Rattle.row_tables.specs.References.{row_of};
 ghost use Rattle.tpcc_rows.specs.Changing.{IsMadeInPart, after, new_row_fits};
 ghost use Rattle.tpcc_rows.specs.Leaves.{leaf};
+ghost use Rattle.tpcc_rows.specs.Picks.{latest, oldest};
 ghost use Rattle.tpcc_rows.specs.RowKinds.{fits};
 ghost use Rattle.tpcc_rows.specs.Rows.{customer_row, district_next_row, district_ytd_row, order_line_row, order_row, stock_row, warehouse_row};
 ghost use Rattle.rollback.specs.Marks.{AreClean, HasAlso, HasAlsoThose};
@@ -180,6 +181,25 @@ impl PointedTables {
         ensures { option_copied result ≡ order_line_row self.now.rows warehouse district order number }
     {
         self.store.order_line(warehouse, district, order, number)
+    }
+
+    /// The least number of the district's new orders.
+    pub fn oldest_new(&self, warehouse: WarehouseId, district: DistrictId) -> Option<OrderId>
+        ensures { result ≡ oldest self.now.rows warehouse district }
+    {
+        self.store.oldest_new(warehouse, district)
+    }
+
+    /// The greatest number of the customer's orders.
+    pub fn last_order(
+        &self,
+        warehouse: WarehouseId,
+        district: DistrictId,
+        customer: CustomerId,
+    ) -> Option<OrderId>
+        ensures { result ≡ latest self.now.rows warehouse district customer }
+    {
+        self.store.last_order(warehouse, district, customer)
     }
 
     /// Inserts or replaces the key's row; its leaf is dirty from now on.

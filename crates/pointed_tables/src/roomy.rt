@@ -4,11 +4,13 @@ ghost use Rattle.std.specs.FinMap as map;
 ghost use Rattle.serializability.specs.Changes.{changed};
 ghost use Rattle.row_tables.specs.References.{row_of};
 ghost use Rattle.tpcc_rows.specs.Changing.{new_row_fits};
+ghost use Rattle.tpcc_rows.specs.Picks.{latest, oldest};
 ghost use Rattle.tpcc_rows.specs.RowKinds.{fits};
 ghost use Rattle.tpcc_rows.specs.Rows.{customer_row, district_next_row, district_ytd_row, order_line_row, order_row, stock_row, warehouse_row};
 ghost use Rattle.pointed_tables.specs.Logs.{wants};
 
 use crate::aside::Aside;
+use crate::picks::{greatest_order, least_new};
 use row_tables::row_ref::RowRef;
 use row_tables::store::RowTables;
 use std::alloc::Global;
@@ -183,6 +185,27 @@ impl RoomyTables {
             number,
         })?
         .as_order_line()
+    }
+
+    /// The least number of the district's new orders.
+    pub fn oldest_new(&self, warehouse: WarehouseId, district: DistrictId) -> Option<OrderId>
+        ensures { result ≡ oldest self.now.rows warehouse district }
+    {
+        let first = self.tables.oldest_new(warehouse, district);
+        least_new(self.aside.as_slice(), first, warehouse, district)
+    }
+
+    /// The greatest number of the customer's orders.
+    pub fn last_order(
+        &self,
+        warehouse: WarehouseId,
+        district: DistrictId,
+        customer: CustomerId,
+    ) -> Option<OrderId>
+        ensures { result ≡ latest self.now.rows warehouse district customer }
+    {
+        let first = self.tables.last_order(warehouse, district, customer);
+        greatest_order(self.aside.as_slice(), first, warehouse, district, customer)
     }
 
     /// Whether the key has a row.
