@@ -218,7 +218,7 @@ impl PointedTables {
     }
 
     /// Removes the key's row, if any; its leaf is dirty from now on.
-    pub fn remove(&mut self, key: &RowKey) -> Result<(), Memory>
+    fn take_out(&mut self, key: &RowKey) -> Result<(), Memory>
         ensures rows { OnOk result (self.new.rows ≡ map.remove self.old.rows key.now) }
         ensures dirty { OnOk result (HasAlso self.old.dirty (leaf key.now) self.new.dirty) }
         ensures points { self.new.points ≡ self.old.points }
@@ -228,6 +228,30 @@ impl PointedTables {
         remove_noting_newest(&mut self.store, key, self.points.as_mut_slice())?;
         self.dirty.add(leaf(key));
         Ok(())
+    }
+
+    /// A row equal to the key's, if it has one.
+    fn copied(&self, key: &RowKey) -> Result<Option<Row>, Memory>
+        ensures { IfOk result (λ row. row ≡ map.get self.now.rows key.now) }
+    {
+        match self.get(key) {
+            Some(row) => Ok(Some(row.copied()?)),
+            None => Ok(None),
+        }
+    }
+
+    /// Removes the key's row, and returns it; its leaf is dirty from now on.
+    pub fn remove(&mut self, key: &RowKey) -> Result<Option<Row>, Memory>
+        ensures value { IfOk result (λ row. row ≡ map.get self.old.rows key.now) }
+        ensures rows { OnOk result (self.new.rows ≡ map.remove self.old.rows key.now) }
+        ensures dirty { OnOk result (HasAlso self.old.dirty (leaf key.now) self.new.dirty) }
+        ensures points { self.new.points ≡ self.old.points }
+        ensures err { OnErr result (self.new ≡ self.old) }
+        ensures clean { KeepsCleanLeaves self.old self.new }
+    {
+        let was = self.copied(key)?;
+        self.take_out(key)?;
+        Ok(was)
     }
 
     fn change(&mut self, key: RowKey, new_row: Option<Row>) -> Result<(), Memory>
@@ -240,7 +264,7 @@ impl PointedTables {
     {
         match new_row {
             Some(row) => self.put(key, row),
-            None => self.remove(&key),
+            None => self.take_out(&key),
         }
     }
 

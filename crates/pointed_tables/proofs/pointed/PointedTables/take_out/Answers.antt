@@ -3,7 +3,7 @@ use Rattle.rollback.specs.Pointed.{Pointed}
 use Rattle.rollback.proofs.Marking.{keeps-changed}
 use Rattle.pointed_tables.specs.Logs.{IsPointed, points_of}
 use Rattle.pointed_tables.proofs.Pointing.{refill_whole}
-use Rattle.pointed_tables.proofs.pointed.PointedTables.remove.Goals as goal
+use Rattle.pointed_tables.proofs.pointed.PointedTables.take_out.Goals as goal
 
 pub invariant_of-self : goal.invariant_of-self
 invariant_of-self c =
