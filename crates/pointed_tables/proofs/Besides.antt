@@ -1,7 +1,7 @@
 -- The rows of tables and those aside, after a change of either.
-use Rattle.std.proofs.Common.{◌≡◌, ◌<◌, ◌≤◌, ◌+◌, ℕ, Bool, true, false, cond, is_some, List, [], ◌∷◌, ◌++◌, length, Option, Some, None, Result, Ok, Err, inl, inr, ◌⊎◌, refl, sym, ap, ap₂, subst, ◌∙◌, arith}
+use Rattle.std.proofs.Common.{◌≡◌, ◌<◌, ◌≤◌, ◌+◌, ◌-◌, ℕ, Bool, true, false, cond, is_some, List, [], ◌∷◌, ◌++◌, length, Option, Some, None, Result, Ok, Err, inl, inr, ◌⊎◌, refl, sym, ap, ap₂, subst, ◌∙◌, arith}
 use Rattle.std.specs.FinMap as map
-use Rattle.std.specs.FinMap.{entries, find, get, get-empty, get-entries, get-from_entries, insert, remove, same_map}
+use Rattle.std.specs.FinMap.{entries, find, get, get-empty, get-entries, get-from_entries, insert, len, len-empty, len-entries, len-insert, len-remove, remove, same_map}
 use Rattle.std.specs.Option.{option_or}
 use Rattle.std.specs.Result.{OnOk, OnErr}
 use Rattle.std.specs.Ordering.{eq_by_cmp}
@@ -17,7 +17,7 @@ use Rattle.tpcc_rows.specs.RowMap.{Rows, row_key_cmp}
 use Rattle.tpcc_rows.proofs.Fitting.{rows-empty, rows-insert, rows-remove}
 use Rattle.tpcc_rows.proofs.Keys.{row_key_cmp_total, exact_keys}
 use Rattle.tpcc_rows.proofs.Places.{entries-map_of, got-none, map_of}
-use Rattle.tpcc_rows.proofs.Singles.{tied}
+use Rattle.tpcc_rows.proofs.Singles.{gone, tied}
 use Rattle.pointed_tables.specs.Aside.{IsBeside, Roomy, both}
 
 first_of : (b : Bool) (x : Row) (o later all : Option Row) → all ≡ option_or o later → cond b (Some x) all ≡ option_or (cond b (Some x) o) later
@@ -43,6 +43,39 @@ none_of (Some x) e = cc
 pub get-both : (a m : Rows) (q : RowKey) → get (both a m) q ≡ option_or (get a q) (get m q)
 unfolding both
 get-both a m q = get-from_entries row_key_cmp_total _ q ∙ find-two (entries a) (entries m) q ∙ ap₂ (λ (x y : Option Row). option_or x y) (sym (get-entries a q)) (sym (get-entries m q))
+
+-- ---- how many there are after a change
+abbrev more : Option Row → Option Row → ℕ → ℕ
+more None was n = cond (is_some was) (n - 1) n
+more (Some x) was n = cond (is_some was) n (n + 1)
+
+len-changed : (m : Rows) (k : RowKey) (c : Option Row) → len (changed m k c) ≡ more c (get m k) (len m)
+len-changed m k None = len-remove row_key_cmp_total m k
+len-changed m k (Some x) = len-insert row_key_cmp_total m k x
+
+-- one of two parts changes, and the whole with it; a part with a row isn't empty
+more-whole : (c was : Option Row) (part other whole : ℕ) → other + part ≡ whole → (is_some was ≡ true → 0 < part) → other + more c was part ≡ more c was whole
+more-whole None None part other whole e h = e
+more-whole None (Some x) part other whole e h = let some = h refl in omega (arith, e, some)
+more-whole (Some y) None part other whole e h = omega (arith, e)
+more-whole (Some y) (Some x) part other whole e h = e
+
+-- rows with one of the key
+some-len : (m : Rows) (k : RowKey) → is_some (get m k) ≡ true → 0 < len m
+some-len m k there = by (get m k) refl there
+  where
+    by : (o : Option Row) → get m k ≡ o → is_some o ≡ true → 0 < len m
+    by None e h = cc
+    by (Some x) e h =
+        let back : changed (remove m k) k (Some x) ≡ m = same_map row_key_cmp_total exact_keys _ _ (λ q.
+        get-changed row_key_cmp_total exact_keys (remove m k) k (Some x) q ∙ elim (cases_Bool (eq_by_cmp row_key_cmp q k)) [
+          | inl t ↦ ap (λ b. cond b (Some x) (get (remove m k) q)) t ∙ sym e ∙ ap (get m) (sym (one_key q k t))
+          | inr f ↦ ap (λ b. cond b (Some x) (get (remove m k) q)) f ∙ get-changed row_key_cmp_total exact_keys m k None q ∙ ap (λ b. cond b None (get m q)) f
+        ]) in
+        let none : get (remove m k) k ≡ None = gone row_key_cmp_total exact_keys m k in
+        let count : len m ≡ len (remove m k) + 1 =
+        ap (λ (z : Rows). len z) (sym back) ∙ len-changed (remove m k) k (Some x) ∙ ap (λ o. more (Some x) o (len (remove m k))) none in
+        omega (arith, count)
 
 module _ (a m : Rows) where
   pub both-empty : a ≡ map.empty → both a m ≡ m
@@ -96,6 +129,22 @@ module _ (a m : Rows) where
         by None f = rows-remove a k are
         by (Some x) f = rows-insert a k x are f
 
+    counted-aside : IsBeside a m → get m k ≡ None → len (changed a k c) + len m ≡ len (both (changed a k c) m)
+    counted-aside h none =
+        let same : get (both a m) k ≡ get a k = get-both a m k ∙ ap (λ o. option_or (get a k) o) none ∙ or_none (get a k) in
+        let swap : len m + len a ≡ len (both a m) = let sum = h.counted in omega (arith, sum) in
+        let part = len-changed a k c in
+        let sum = more-whole c (get a k) (len a) (len m) (len (both a m)) swap (some-len a k) in
+        let whole : len (both (changed a k c) m) ≡ more c (get a k) (len (both a m)) =
+        ap (λ (z : Rows). len z) (both-aside none) ∙ len-changed (both a m) k c ∙ ap (λ o. more c o (len (both a m))) same in
+        omega (arith, part, sum, whole)
+
+    counted-tables : IsBeside a m → get a k ≡ None → len a + len (changed m k c) ≡ len (both a (changed m k c))
+    counted-tables h none =
+        let same : get (both a m) k ≡ get m k = get-both a m k ∙ ap (λ o. option_or o (get m k)) none in
+        ap (λ n. len a + n) (len-changed m k c) ∙ more-whole c (get m k) (len m) (len a) (len (both a m)) h.counted (some-len m k)
+        ∙ sym (ap (λ (z : Rows). len z) (both-tables none) ∙ len-changed (both a m) k c ∙ ap (λ o. more c o (len (both a m))) same)
+
     pub beside-aside : IsBeside a m → get m k ≡ None → new_row_fits k c ≡ true → IsBeside (changed a k c) m
     beside-aside h none fit = record {
       kinds = rows-changed h.kinds fit;
@@ -103,6 +152,7 @@ module _ (a m : Rows) where
         | inl t ↦ ap (get m) (one_key q k t) ∙ none
         | inr f ↦ h.apart q (ap is_some (sym (get-changed row_key_cmp_total exact_keys a k c q ∙ ap (λ b. cond b c (get a q)) f)) ∙ there)
       ];
+      counted = counted-aside h none;
     }
 
     pub beside-tables : IsBeside a m → get a k ≡ None → IsBeside a (changed m k c)
@@ -112,6 +162,7 @@ module _ (a m : Rows) where
         | inl t ↦ (let wrong : true ≡ false = sym there ∙ ap is_some (ap (get a) (one_key q k t) ∙ none) in cc)
         | inr f ↦ get-changed row_key_cmp_total exact_keys m k c q ∙ ap (λ b. cond b c (get m q)) f ∙ h.apart q there
       ];
+      counted = counted-tables h none;
     }
 
     -- the same, unless memory was refused
@@ -137,12 +188,21 @@ module _ (a m : Rows) where
   beside-empty e = record {
     kinds = subst AreRows (sym e) rows-empty;
     apart = λ q there. (let wrong : true ≡ false = sym there ∙ ap is_some (ap (λ (x : Rows). get x q) e ∙ get-empty row_key_cmp q) in cc);
+    counted = (
+        let none : len a ≡ 0 = ap (λ (z : Rows). len z) e ∙ len-empty row_key_cmp Row in
+        let whole : len (both a m) ≡ len m = ap (λ (z : Rows). len z) (both-empty e) in
+        omega (arith, none, whole)
+        );
   }
 
 -- ---- what is shown of both
 module _ (a m : Rows) (room : ℕ) (s : Roomy) (is : record { rows = both a m; room = room } ≡ s) where
   pub seen : (k : RowKey) → get (both a m) k ≡ get s.rows k
   seen k = ap (λ (z : Roomy). get z.rows k) is
+
+  pub count-both : IsBeside a m → length (entries a) + length (entries m) ≡ length (entries s.rows)
+  count-both h =
+      ap₂ (λ (x y : ℕ). x + y) (sym (len-entries a)) (sym (len-entries m)) ∙ h.counted ∙ len-entries (both a m) ∙ ap (λ (z : Roomy). length (entries z.rows)) is
 
   -- with none aside, those of the tables
   pub seen-alone : a ≡ map.empty → m ≡ s.rows

@@ -25,7 +25,8 @@ pub record IsHeld (rows : List (RowKey × Row)) (capacity room : ℕ) : Type 0 w
 unfoldable pub both : Rows → Rows → Rows
 both aside rows = map.from_entries (map.entries aside ++ map.entries rows)
 
--- no key has a row in both, and those aside are of their keys' kinds
+-- no key has a row in both, those aside are of their keys' kinds, and there are as many as in both together
 pub record IsBeside (aside rows : Rows) : Type 0 where
   pub kinds : AreRows aside
   pub apart : (key : RowKey) → is_some (map.get aside key) ≡ true → map.get rows key ≡ None
+  pub counted : map.len aside + map.len rows ≡ map.len (both aside rows)

@@ -100,6 +100,13 @@ impl Aside {
         self.rows.as_slice()
     }
 
+    /// The number of rows.
+    pub fn len(&self) -> usize
+        ensures { result ≡ length (map.entries self.now.rows) }
+    {
+        self.as_slice().len()
+    }
+
     pub fn get(&self, key: &RowKey) -> Option<&Row>
         ensures { option_copied result ≡ map.get self.now.rows key.now }
     {

@@ -202,6 +202,13 @@ impl PointedTables {
         self.store.last_order(warehouse, district, customer)
     }
 
+    /// The number of rows.
+    pub fn len(&self) -> u128
+        ensures { result ≡ length (map.entries self.now.rows) }
+    {
+        self.store.len()
+    }
+
     /// Inserts or replaces the key's row; its leaf is dirty from now on.
     pub fn put(&mut self, key: RowKey, row: Row) -> Result<(), Memory>
         requires { fits key row ≡ true }

@@ -1,5 +1,5 @@
 //! Rows in tables, to which removed rows can come back without memory.
-ghost use Rattle.std.specs.Prelude.{◌≡◌, ◌<◌, ◌≤◌, ◌+◌, ◌-◌, cond, IfOk, IfSome, OnErr, OnOk, None, Some, is_some, option_copied, option_map, false, true};
+ghost use Rattle.std.specs.Prelude.{◌≡◌, ◌<◌, ◌≤◌, ◌+◌, ◌-◌, cond, IfOk, IfSome, OnErr, OnOk, None, Some, is_some, length, option_copied, option_map, false, true};
 ghost use Rattle.std.specs.FinMap as map;
 ghost use Rattle.serializability.specs.Changes.{changed};
 ghost use Rattle.row_tables.specs.References.{row_of};
@@ -206,6 +206,13 @@ impl RoomyTables {
     {
         let first = self.tables.last_order(warehouse, district, customer);
         greatest_order(self.aside.as_slice(), first, warehouse, district, customer)
+    }
+
+    /// The number of rows.
+    pub fn len(&self) -> u128
+        ensures { result ≡ length (map.entries self.now.rows) }
+    {
+        u128::from(self.tables.len()) + self.aside.len() as u128
     }
 
     /// Whether the key has a row.

@@ -1,0 +1,12 @@
+use Rattle.std.proofs.Common.{◌≡◌, ◌+◌, length, sym, ap, ap₂, ◌∙◌, arith}
+use Rattle.std.specs.FinMap.{entries, len, len-entries}
+use Rattle.pointed_tables.specs.Aside.{Roomy, both}
+use Rattle.pointed_tables.proofs.Besides.{count-both}
+use Rattle.pointed_tables.proofs.roomy.RoomyTables.len.Goals as goal
+
+pub returns : goal.returns
+returns c =
+    let tables = c.len.ensures in
+    let aside = c.len-2.ensures in
+    let both = count-both c.self.inside.aside.rows c.self.inside.tables c.self.inside.aside.room c.args.self.now c.self.view_is c.self.invariant in
+    omega (arith, tables, aside, both)
