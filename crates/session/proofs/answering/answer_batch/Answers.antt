@@ -18,5 +18,5 @@ pub returns-in-Ok-clause-text : goal.returns-in-Ok-clause-text
 returns-in-Ok-clause-text g c =
     let chain = c.args.executor.now in
     let batch = c.args.batch.now in
-    executed c.batch_text.result batch chain c.execute.new.self _ c.in-Ok.ensures.admitted c.in-Ok.ensures.chain
+    executed c.batch_text.result batch chain c.execute-executed.new.self _ c.in-Ok.ensures.admitted c.in-Ok.ensures.chain
     (recorded_text chain.cards chain.present batch c.in-Ok.record c.in-Ok.ensures.record) c.batch_text.ensures
