@@ -1,5 +1,6 @@
 -- A batch executed in order, each request within what is told of it, or within what it touches by the cards if nothing is.
-use Rattle.std.specs.Prelude.{◌≡◌, ℕ, Bool, List}
+use Rattle.std.specs.Prelude.{◌≡◌, ℕ, Bool, List, Option}
+use Rattle.serializability.specs.Footprints.{Footprint}
 use Rattle.serializability.specs.InTurn.{strays_in_turn}
 use Rattle.serializability.specs.Levels as levels
 use Rattle.serializability.specs.Levels.{Job}
@@ -23,6 +24,10 @@ use Rattle.executor.specs.declared.turn.Told.{Told}
 -- a request of a batch as a job, by what is told of it
 abbrev pub told_job : Cards → Told → Job Granule Request
 told_job cards told = record { number = told.number; request = told.request.now; declared = completed_at cards told.request.now told.footprint.now }
+
+-- what is told of a batch's requests, completed by the cards, is what they declare
+abbrev pub TellsDeclared : Cards → State → Batch → List (Option (Footprint Granule)) → Type 0
+TellsDeclared cards state batch told = completed cards batch.requests told ≡ declared_footprints cards state batch
 
 -- the replies and rows of a planned batch, executed in order
 abbrev pub plan_replies_in_turn : Cards → Rows → PlanInTurn → List Reply

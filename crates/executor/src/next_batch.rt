@@ -7,9 +7,10 @@ ghost use Rattle.executor.specs.States.{AreWithinLimits};
 use crate::limits::requests_within;
 use crate::stamp::Stamp;
 use requests::request::Batch;
+use tpcc_rows::id::END_OF_NUMBERS;
 
 /// Maximum number of a request, and of a batch.
-pub const LAST_NUMBER: u64 = 999_999_999_999_999;
+pub const LAST_NUMBER: u64 = END_OF_NUMBERS - 1;
 
 /// Maximum number of requests in a batch.
 pub const MOST_REQUESTS: usize = 1024;

@@ -1,9 +1,10 @@
 //! Executes a batch in order, by what is told of its requests as it begins.
 ghost use Rattle.std.specs.Prelude.{◌≡◌, IfOk, OnOk, Some, length, map};
+ghost use Rattle.executor.specs.InOrder.{TellsDeclared};
 ghost use Rattle.executor.specs.LevelRuns.{declared_footprints, strays};
 ghost use Rattle.executor.specs.Chains.{state_of};
 ghost use Rattle.executor.specs.States.{IsSoundState};
-ghost use Rattle.profiles.specs.Moving.{TellsMoving, completed};
+ghost use Rattle.profiles.specs.Moving.{TellsMoving};
 ghost use Rattle.rollback.specs.Pointed.{KeepsCleanLeaves};
 ghost use Rattle.tpcc_model.specs.Serial.{batch_replies, batch_rows};
 
@@ -31,7 +32,7 @@ fn execute_told<R: Threads + Sync, G: Gate>(
     requires sound { IsSoundState catalog.now (state_of store.old.rows next.now.stamp) }
     requires each { length told.now ≡ length next.now.batch.now.requests }
     requires moving { TellsMoving next.now.batch.now.requests told.now }
-    requires declared { completed catalog.now next.now.batch.now.requests told.now ≡ declared_footprints catalog.now (state_of store.old.rows next.now.stamp) next.now.batch.now }
+    requires declared { TellsDeclared catalog.now (state_of store.old.rows next.now.stamp) next.now.batch.now told.now }
     ensures strayed { IfOk result (λ pass. pass.strayed ≡ strays catalog.now (state_of store.old.rows next.now.stamp) next.now.batch.now) }
     ensures replies { IfOk result (λ pass. pass.replies.items ≡ batch_replies catalog.now (state_of store.old.rows next.now.stamp) next.now.batch.now) }
     ensures rows { OnOk result (store.new.rows ≡ batch_rows catalog.now (state_of store.old.rows next.now.stamp) next.now.batch.now) }

@@ -1,8 +1,5 @@
-use Rattle.std.proofs.Common.{◌≡◌, ◌∙◌, List, Some, ap, map, sym}
-use Rattle.serializability.specs.Footprints.{Footprint}
+use Rattle.std.proofs.Common.{◌≡◌, ◌∙◌, Some, ap, map, sym}
 use Rattle.serializability.specs.Levels as levels
-use Rattle.signatures_simd.specs.Bits.{bit}
-use Rattle.tpcc_rows.specs.declared.granule.Granule.{Granule}
 use Rattle.profiles.specs.Declarations.{declared}
 use Rattle.tpcc_model.specs.Database.{database}
 use Rattle.tpcc_model.specs.Machine.{tpcc}

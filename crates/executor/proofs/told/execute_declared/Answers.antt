@@ -1,4 +1,4 @@
-use Rattle.std.proofs.Common.{◌≡◌, ◌∙◌, List, Option, Some, map, length, ap, subst, sym}
+use Rattle.std.proofs.Common.{◌∙◌, List, Option, Some, length, ap, subst, sym}
 use Rattle.std.proofs.lemmas.List.{length-map}
 use Rattle.serializability.specs.Footprints.{Footprint}
 use Rattle.tpcc_rows.specs.declared.granule.Granule.{Granule}
