@@ -378,19 +378,17 @@ fn main(rt: HostRuntime) -> ExitCode {
                 at,
                 stats,
             },
-        ) => run_line(
-            &rt,
-            &RunOptions {
+        ) => {
+            let store = text_of(&store);
+            let options = RunOptions {
                 image: image.as_str(),
                 batches: batches.as_str(),
                 workers,
-                store: text_of(&store),
+                store,
                 at,
-            },
-            text_of(&from),
-            stats,
-            shown,
-        ),
+            };
+            run_line(&rt, &options, text_of(&from), stats, shown)
+        }
         Ok(Line::Check { image }) => check(&rt, path_of(image.as_str()), shown),
         Ok(
             Line::Make {
