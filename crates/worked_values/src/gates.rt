@@ -57,9 +57,13 @@ pub struct StrayGate {
 }
 
 /// A customer's number, or 0.
-fn customer_of(granule: Option<Granule>) -> u64 {
-    match granule {
-        Some(Granule::Customer { customer, .. }) => u64::from(customer.number()),
+fn customer_of(granule: &Granule) -> u64 {
+    match *granule {
+        Granule::Customer {
+            warehouse: _,
+            district: _,
+            customer: c,
+        } => u64::from(c.number()),
         _ => 0,
     }
 }
@@ -71,7 +75,9 @@ impl Gate for StrayGate {
 
     fn strayed(&self, place: usize, granule: Option<Granule>) {
         self.place.store(place as u64, Ordering::SeqCst);
-        self.customer.store(customer_of(granule), Ordering::SeqCst);
+        if let Some(granule) = &granule {
+            self.customer.store(customer_of(granule), Ordering::SeqCst);
+        }
     }
 }
 

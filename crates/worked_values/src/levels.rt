@@ -89,11 +89,11 @@ fn declared_itself<R: Threads + Sync>(
 }
 
 /// The requests at some places of a batch.
-fn run_at<R: Threads + Sync, G: Gate>(
+fn run_at<'a, R: Threads + Sync, G: Gate>(
     runtime: &Runtime<'_, R, G>,
     database: &Database,
-    declared: &Declared,
-    places: &[usize],
+    declared: &'a Declared,
+    places: &'a [usize],
 ) -> Result<Vec<Done>, Stop>
     requires some { 1 ≤ length places.now }
     requires few { length places.now ≤ MOST_PLACES }
