@@ -3,7 +3,7 @@
 #![tactic(auto)]
 
 ghost use Rattle.std.specs.Prelude.{◌≡◌, [], IfOk, OnErr, if◌then◌else◌};
-ghost use Rattle.executor.specs.Lines.{committed, extended};
+ghost use Rattle.executor.specs.Chains.{committed, extended};
 
 use executor::{Executor, Record, Refusal};
 use requests::{Batch, BatchReader, Counting, Reply};

@@ -50,12 +50,12 @@ abbrev pub number_text : List ℕ → Option ℕ → List ℕ → List ℕ
 number_text before None after = []
 number_text before (Some n) after = before ++ decimal n ++ after
 
--- `eve-tpcc: <part>: <code> <Name>`, the condition or the record if there is one, and a chain feed
+-- `eve-tpcc: <part>: <code> <Name>`, the condition or the record if there is one, and a line feed
 abbrev pub line_text : List ℕ → ℕ → List ℕ → Option ℕ → Option ℕ → List ℕ
 line_text part code name condition place =
     codes "eve-tpcc: " ++ part ++ codes ": " ++ decimal code ++ codes " " ++ name ++ number_text (codes "(") condition (codes ")") ++ number_text (codes " at record ") place [] ++ 10 ∷ []
 
--- the chain of a fault of a run
+-- the line of a fault of a run
 unfoldable pub fault_text : RunFault → List ℕ
 fault_text f = line_text (part_of f) (code_of f) (name_of f) (condition_of f) (place_of f)
 
@@ -71,7 +71,7 @@ store_name_of store_fault.Memory = codes "Memory"
 unfoldable pub store_fault_text : StoreFault → List ℕ
 store_fault_text f = line_text (codes "store") (store_code_of f) (store_name_of f) None None
 
--- the chain of a fault of such a run, and that of the image that wasn't written
+-- the line of a fault of such a run, and that of the image that wasn't written
 abbrev pub stored_fault_text : StoredRunFault → List ℕ
 stored_fault_text (stored_fault.Run f) = fault_text f
 stored_fault_text (stored_fault.Store f) = store_fault_text f

@@ -12,7 +12,7 @@ use Rattle.runner.specs.Text.{token_digits}
 abbrev pub stamp_word : Stamp → List ℕ
 stamp_word stamp = decimal stamp.sequence ++ codes "," ++ decimal stamp.next ++ codes "," ++ token_digits stamp.token
 
--- the chain `at,SEQ,NEXT,TOKEN`
+-- the line `at,SEQ,NEXT,TOKEN`
 abbrev pub at_text : Stamp → List ℕ
 at_text stamp = codes "at," ++ stamp_word stamp ++ codes "\n"
 

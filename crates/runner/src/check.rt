@@ -36,7 +36,7 @@ fn warehouse_count(catalog: &Catalog) -> usize
 
 /// The line about a database before any batch.
 fn line_of(alloc: Global, executor: &Executor) -> Result<Vec<u8>, Memory>
-    ensures { IfOk result (λ chain. chain.items ≡ check_text executor.now.cards executor.now.present) }
+    ensures { IfOk result (λ line. line.items ≡ check_text executor.now.cards executor.now.present) }
 {
     let mut line = Vec::new(alloc);
     let mut buffer = Buffer::new();

@@ -30,11 +30,11 @@ pub type FaultLine = ByteBuf<TWO_LINES>;
 
 /// Appends a number between two texts, if there is one.
 fn push_number(line: &mut FaultLine, before: &str, number: Option<u64>, after: &str)
-    requires room { length chain.old + NUMBER_BYTES ≤ TWO_LINES }
+    requires room { length line.old + NUMBER_BYTES ≤ TWO_LINES }
     requires before { length before.now ≤ SIDE_BYTES }
     requires after { length after.now ≤ SIDE_BYTES }
-    ensures text { chain.new ≡ chain.old ++ number_text before.now number after.now }
-    ensures short { length chain.new ≤ length chain.old + NUMBER_BYTES }
+    ensures text { line.new ≡ line.old ++ number_text before.now number after.now }
+    ensures short { length line.new ≤ length line.old + NUMBER_BYTES }
 {
     let Some(number) = number else {
         return;
@@ -53,11 +53,11 @@ fn push_line(
     condition: Option<u8>,
     place: Option<u64>,
 )
-    requires room { length chain.old ≤ LINE_BYTES }
+    requires room { length line.old ≤ LINE_BYTES }
     requires part { length part.now ≤ PART_BYTES }
     requires name { length name.now ≤ NAME_BYTES }
-    ensures text { chain.new ≡ chain.old ++ line_text part.now code name.now condition place }
-    ensures short { length chain.new ≤ length chain.old + LINE_BYTES }
+    ensures text { line.new ≡ line.old ++ line_text part.now code name.now condition place }
+    ensures short { length line.new ≤ length line.old + LINE_BYTES }
 {
     line.push(b"eve-tpcc: ");
     line.push(part.as_bytes());
@@ -72,9 +72,9 @@ fn push_line(
 
 /// Appends the line of a run's fault.
 fn push_run(line: &mut FaultLine, fault: RunFault)
-    requires { length chain.old ≤ LINE_BYTES }
-    ensures text { chain.new ≡ chain.old ++ fault_text fault }
-    ensures short { length chain.new ≤ length chain.old + LINE_BYTES }
+    requires { length line.old ≤ LINE_BYTES }
+    ensures text { line.new ≡ line.old ++ fault_text fault }
+    ensures short { length line.new ≤ length line.old + LINE_BYTES }
 {
     let (part, code, name) = (fault.part(), fault.code(), fault.name());
     push_line(line, part, code, name, fault.condition(), fault.record());
@@ -82,8 +82,8 @@ fn push_run(line: &mut FaultLine, fault: RunFault)
 
 /// Appends the line of an image that couldn't be written.
 fn push_store(line: &mut FaultLine, fault: StoreFault)
-    requires { length chain.old ≤ LINE_BYTES }
-    ensures { chain.new ≡ chain.old ++ store_fault_text fault }
+    requires { length line.old ≤ LINE_BYTES }
+    ensures { line.new ≡ line.old ++ store_fault_text fault }
 {
     push_line(line, "store", fault.code(), fault.name(), None, None);
 }

@@ -54,7 +54,7 @@ pub(crate) fn run_read<R: Host, B: TellingSource, S: Sink, G: Observer>(
     ensures ok { IfOk result (λ count. OfSource (B.left batches.old) (B.given batches.old) (B.given batches.new) (λ batch_bytes.
         RanFrom executor.old.cards executor.old.present batch_bytes (S.taken sink.old) (S.taken sink.new) count)) }
     ensures chain { OnOk result (OfSource (B.left batches.old) (B.given batches.old) (B.given batches.new) (λ batch_bytes.
-        executor.new ≡ line_after executor.old.cards executor.old.present batch_bytes)) }
+        executor.new ≡ chain_after executor.old.cards executor.old.present batch_bytes)) }
     ensures over { OnOk result (B.ended batches.new ≡ true) }
     ensures err { IfErr result (λ e. OfSource (B.left batches.old) (B.given batches.old) (B.given batches.new) (λ batch_bytes.
         LeavesChain e executor.old.cards executor.old.present batch_bytes (S.taken sink.old) (S.taken sink.new) executor.new)) }

@@ -26,9 +26,9 @@ pub type StampLine = ByteBuf<LINE_BYTES>;
 
 /// Appends `SEQ,NEXT,TOKEN`.
 fn push_word(line: &mut StampLine, stamp: &Stamp)
-    requires { length chain.old ≤ FRONT_BYTES }
-    ensures text { chain.new ≡ chain.old ++ stamp_word stamp.now }
-    ensures short { length chain.new ≤ length chain.old + WORD_BYTES }
+    requires { length line.old ≤ FRONT_BYTES }
+    ensures text { line.new ≡ line.old ++ stamp_word stamp.now }
+    ensures short { length line.new ≤ length line.old + WORD_BYTES }
 {
     line.push(Buffer::new().format(stamp.sequence).as_bytes());
     line.push(b",");

@@ -136,7 +136,7 @@ pub(crate) fn store_read<R: Host, B: TellingSource, S: Sink, K: Sink, G: Observe
         StoredFrom executor.old.cards executor.old.present batch_bytes
         (S.taken sink.old) (S.taken sink.new) (K.taken tables.old) (K.taken tables.new) count)) }
     ensures chain { OnOk result (OfSource (B.left batches.old) (B.given batches.old) (B.given batches.new) (λ batch_bytes.
-        executor.new ≡ line_after executor.old.cards executor.old.present batch_bytes)) }
+        executor.new ≡ chain_after executor.old.cards executor.old.present batch_bytes)) }
     ensures over { OnOk result (B.ended batches.new ≡ true) }
     ensures err { IfErr result (λ e. OfSource (B.left batches.old) (B.given batches.old) (B.given batches.new) (λ batch_bytes.
         LeavesStoredState e executor.old.cards executor.old.present batch_bytes

@@ -7,5 +7,5 @@ pub returns : goal.returns
 unfolding store_fault_text
 returns c =
     c.push_line.ensures.text
-    ∙ ap (λ code. c.args.chain.now ++ line_text (codes "store") code c.name.result.now None None) c.code.ensures
-    ∙ ap (λ name. c.args.chain.now ++ line_text (codes "store") (store_code_of c.args.fault) name None None) c.name.ensures
+    ∙ ap (λ code. c.args.line.now ++ line_text (codes "store") code c.name.result.now None None) c.code.ensures
+    ∙ ap (λ name. c.args.line.now ++ line_text (codes "store") (store_code_of c.args.fault) name None None) c.name.ensures
