@@ -1,7 +1,7 @@
 use Rattle.std.proofs.Common.{◌≡◌, ◌∙◌, ℕ, List, [], ◌∷◌, ◌++◌, get_or, refl, sym, ap, subst, arith}
 use Rattle.std.proofs.lemmas.List.{length_push}
 use Rattle.executor.specs.Chains.{HasNone, Chain, extended}
-use Rattle.executor.proofs.LineFacts.{is-ok}
+use Rattle.executor.proofs.ChainFacts.{is-ok}
 use Rattle.requests.specs.declared.request.Batch.{Batch}
 use Rattle.tpcc_model.specs.Serial.{State}
 use Rattle.embed.proofs.keep_granted.Goals as goal
