@@ -5,8 +5,9 @@ runs the program with `--stats`.
 PROGRAM is the built eve-tpcc. A session is a block indented by four spaces (in a help by two) that begins with `$ `; each such line is a
 command, and the lines up to the next one are what it prints. The sessions of a document share a folder, in which `examples` and `crates`
 are the repository's, `requests.csv` is that of the examples, and `eve-tpcc` is the program. `cat` of a missing file creates it with the lines
-shown. A command has a minute. With `--stats` a command writes the same bytes, and its statistics agree with them. Then each `old:` line of every wrong body must occur once in its file, as `rt must-fail` requires. Prints
-what failed, then `N passed, M failed`. Ends with status 1 if anything failed."""
+shown. A command has a minute. With `--stats` a command writes the same bytes, and its statistics agree with them. Then each `old:` line of
+every wrong body must occur once in its file, as `rt must-fail` requires. Prints what failed, then `N passed, M failed`. Ends with status 1
+if anything failed."""
 import csv
 import glob
 import json
