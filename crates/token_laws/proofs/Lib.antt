@@ -6,6 +6,6 @@ pub mod Replies
 pub mod Sound
 pub mod Search
 pub mod EqualTokens
-pub mod Chains
+pub mod HashChains
 pub mod StepReplies
 pub mod Runs

@@ -24,11 +24,11 @@ use Rattle.tpcc_rows.specs.declared.id.TheConstants.{END_OF_NUMBERS, LAST_REQUES
 use Rattle.token_laws.specs.Collisions.{IsCollision}
 use Rattle.token_laws.specs.Covered.{Covered, token}
 use Rattle.token_laws.specs.CoveredLimits.{AreBytes, IsReply, IsWithinLimits}
-use Rattle.token_laws.specs.Chains.{AreSameSince, IsChain, collision_since}
+use Rattle.token_laws.specs.HashChains.{AreSameSince, IsHashChain, collision_since}
 use Rattle.token_laws.specs.Runs.{EqualRuns, IsBatch, IsRun, covered_from, request_count}
 use Rattle.token_laws.specs.States.{of_batch, of_opening}
 use Rattle.token_laws.proofs.Bytes.{bytes-sha256}
-use Rattle.token_laws.proofs.Chains.{equal_chains}
+use Rattle.token_laws.proofs.HashChains.{equal_hash_chains}
 use Rattle.token_laws.proofs.Lists.{bytes-cons, no_bytes}
 use Rattle.token_laws.proofs.Sound.{sound_is_writable}
 use Rattle.token_laws.proofs.StepReplies.{step_replies}
@@ -60,23 +60,23 @@ unfolding token_of
 token-bytes c = bytes-sha256 _
 
 -- ---- batches from a state on
--- a state on which there is a chain, and batches that can follow
+-- a state whose token is the newest of a hash chain, and batches that can follow
 record IsStart (cards : Cards) (state : State) (batches : List Batch) (newest : Covered) (earlier : List Covered) : Type 0 where
   sound : IsSound (database cards state.rows)
   low : 1 ≤ state.next
   numbers : state.next + request_count batches ≤ END_OF_NUMBERS
   few : state.sequence + length batches < 2 ^ 64
   batches_within : AllByRecursion IsBatch batches
-  chain : IsChain newest earlier
+  linked : IsHashChain newest earlier
   own_token : token newest ≡ state.token
   own_sequence : newest.sequence ≡ state.sequence
 
--- the chain of all of them
+-- the hash chain of all of them
 record IsEnd (cards : Cards) (state : State) (batches : List Batch) (before : List Covered) : Type 0 where
   newest : Covered
   earlier : List Covered
   is : covered_from cards state batches before ≡ newest ∷ earlier
-  chain : IsChain newest earlier
+  linked : IsHashChain newest earlier
   own_token : token newest ≡ (serial cards state batches).token
   own_sequence : newest.sequence ≡ state.sequence + length batches
 
@@ -84,7 +84,7 @@ count-more : (batch : Batch) (batches : List Batch) → request_count (batch ∷
 count-more batch batches = sum_by-cons (λ (b : Batch). length b.requests) batch batches
 
 module _ (cards : Cards) where
-  -- the batch is added to the chain
+  -- the batch is added to the hash chain
   next_start : (state : State) (batch : Batch) (batches : List Batch) (c : Covered) (cs : List Covered) → IsStart cards state (batch ∷ batches) c cs → IsStart cards (after_batch cards state batch) batches (of_batch cards state batch) (c ∷ cs)
   next_start state batch batches c cs start =
       let own = start.batches_within.0 in
@@ -104,16 +104,16 @@ module _ (cards : Cards) where
         numbers = omega (arith, start.numbers, more);
         few = omega (arith, start.few);
         batches_within = start.batches_within.1;
-        chain = record { limits = (within, start.chain.limits); linked = (sym start.own_token, start.chain.linked) };
+        linked = record { limits = (within, start.linked.limits); linked = (sym start.own_token, start.linked.linked) };
         own_token = refl;
         own_sequence = refl;
       }
 
   to_end : (state : State) (batches : List Batch) (c : Covered) (cs : List Covered) → IsStart cards state batches c cs → IsEnd cards state batches (c ∷ cs)
-  to_end state [] c cs start = record { newest = c; earlier = cs; is = refl; chain = start.chain; own_token = start.own_token; own_sequence = omega (arith, start.own_sequence) }
+  to_end state [] c cs start = record { newest = c; earlier = cs; is = refl; linked = start.linked; own_token = start.own_token; own_sequence = omega (arith, start.own_sequence) }
   to_end state (batch ∷ batches) c cs start =
       let end = to_end (after_batch cards state batch) batches (of_batch cards state batch) (c ∷ cs) (next_start state batch batches c cs start) in
-      record { newest = end.newest; earlier = end.earlier; is = end.is; chain = end.chain; own_token = end.own_token; own_sequence = omega (arith, end.own_sequence) }
+      record { newest = end.newest; earlier = end.earlier; is = end.is; linked = end.linked; own_token = end.own_token; own_sequence = omega (arith, end.own_sequence) }
 
 -- ---- runs
 zeros : (n : ℕ) → AreBytes (replicate n 0)
@@ -140,7 +140,7 @@ run_end db batches run =
       numbers = run.numbers;
       few = omega (arith, run.sequence);
       batches_within = run.batches_within;
-      chain = record { limits = (within, tt); linked = tt };
+      linked = record { limits = (within, tt); linked = tt };
       own_token = refl;
       own_sequence = refl;
     })
@@ -149,7 +149,7 @@ pub equal_runs : EqualRuns
 equal_runs a b xs ys p q equal =
     let one = run_end a xs p in
     let other = run_end b ys q in
-    elim (equal_chains one.newest other.newest one.earlier other.earlier one.chain other.chain (one.own_token ∙ equal ∙ sym other.own_token)) [
+    elim (equal_hash_chains one.newest other.newest one.earlier other.earlier one.linked other.linked (one.own_token ∙ equal ∙ sym other.own_token)) [
       | inl same ↦ inl (record {
         count = omega (arith, one.own_sequence, other.own_sequence, same.0.sequence);
         same = subst₂ AreSameSince (sym one.is) (sym other.is) same;

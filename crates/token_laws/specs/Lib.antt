@@ -2,6 +2,6 @@ pub mod Covered
 pub mod CoveredLimits
 pub mod Collisions
 pub mod EqualTokens
-pub mod Chains
+pub mod HashChains
 pub mod States
 pub mod Runs

@@ -11,7 +11,7 @@ use Rattle.tpcc_rows.specs.Limits.{IsBetween}
 use Rattle.tpcc_rows.specs.declared.id.TheConstants.{END_OF_NUMBERS}
 use Rattle.token_laws.specs.Collisions.{IsCollision}
 use Rattle.token_laws.specs.Covered.{Covered}
-use Rattle.token_laws.specs.Chains.{AreSameSince, collision_since}
+use Rattle.token_laws.specs.HashChains.{AreSameSince, collision_since}
 use Rattle.token_laws.specs.States.{of_batch, of_opening}
 
 -- ---- runs

@@ -1,4 +1,4 @@
--- What the tokens of the states of a line cover.
+-- What the tokens of an executor's states cover.
 use Rattle.std.specs.Prelude.{◌≡◌, ◌+◌, []}
 use Rattle.catalog.specs.CardMap.{Cards}
 use Rattle.requests.specs.declared.request.Batch.{Batch}

@@ -1,4 +1,4 @@
--- Chains whose newest tokens are equal are the same, or a collision is found going back.
+-- Hash chains whose newest tokens are equal are the same as far back as both go, or a collision is found going back.
 use Rattle.std.proofs.Common.{◌≡◌, ◌⊎◌, inl, inr, ℕ, List, [], ◌∷◌, Option, Some, None, refl, sym, ◌∙◌}
 use Rattle.std.specs.Option.{option_or}
 use Rattle.std.specs.Prelude.{IsSomeAnd}
@@ -6,7 +6,7 @@ use Rattle.token_laws.specs.Collisions.{IsCollision, collision}
 use Rattle.token_laws.specs.Covered.{Covered, token}
 use Rattle.token_laws.specs.CoveredLimits.{IsWithinLimits}
 use Rattle.token_laws.specs.EqualTokens.{AreSame}
-use Rattle.token_laws.specs.Chains.{AreSameSince, EqualChains, collision_since}
+use Rattle.token_laws.specs.HashChains.{AreSameSince, EqualHashChains, collision_since}
 use Rattle.token_laws.proofs.EqualTokens.{none_is_same, some_collides}
 
 -- what is found for the newest comes first; where nothing is, they are the same, and so are their tokens before
@@ -20,10 +20,10 @@ newest_first a b None later Earlier is p q equal back =
       | inr found ↦ inr found
     ]
 
-pub equal_chains : EqualChains
+pub equal_hash_chains : EqualHashChains
 unfolding collision_since
-equal_chains a b [] ys h g equal = newest_first a b (collision a b) None (Unit {0}) refl h.limits.0 g.limits.0 equal (λ prior. inl tt)
-equal_chains a b (x ∷ xs) [] h g equal = newest_first a b (collision a b) None (Unit {0}) refl h.limits.0 g.limits.0 equal (λ prior. inl tt)
-equal_chains a b (x ∷ xs) (y ∷ ys) h g equal =
+equal_hash_chains a b [] ys h g equal = newest_first a b (collision a b) None (Unit {0}) refl h.limits.0 g.limits.0 equal (λ prior. inl tt)
+equal_hash_chains a b (x ∷ xs) [] h g equal = newest_first a b (collision a b) None (Unit {0}) refl h.limits.0 g.limits.0 equal (λ prior. inl tt)
+equal_hash_chains a b (x ∷ xs) (y ∷ ys) h g equal =
     newest_first a b (collision a b) (collision_since (x ∷ xs) (y ∷ ys)) (AreSameSince (x ∷ xs) (y ∷ ys)) refl h.limits.0 g.limits.0 equal (λ prior.
-    equal_chains x y xs ys (record { limits = h.limits.1; linked = h.linked.1 }) (record { limits = g.limits.1; linked = g.linked.1 }) (sym h.linked.0 ∙ prior ∙ g.linked.0))
+    equal_hash_chains x y xs ys (record { limits = h.limits.1; linked = h.linked.1 }) (record { limits = g.limits.1; linked = g.linked.1 }) (sym h.linked.0 ∙ prior ∙ g.linked.0))

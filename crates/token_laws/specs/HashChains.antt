@@ -1,4 +1,4 @@
--- What equal tokens say of the batches before.
+-- Hash chains: tokens of which each hashes the one before; and what equal tokens say of the batches before.
 use Rattle.std.specs.Prelude.{◌≡◌, ◌⊎◌, ℕ, List, [], ◌∷◌, Option, None, zip, IsSomeAnd}
 use Rattle.std.specs.List.{AllByRecursion}
 use Rattle.std.specs.Option.{option_or}
@@ -7,12 +7,13 @@ use Rattle.token_laws.specs.CoveredLimits.{IsWithinLimits}
 use Rattle.token_laws.specs.Collisions.{IsCollision, collision}
 use Rattle.token_laws.specs.EqualTokens.{AreSame}
 
--- the newest first: the token before each one is that of the next
+-- the newest first: each one's previous token is the next one's token
 abbrev pub AreLinked : Covered → List Covered → Type 0
 AreLinked newest [] = Unit {0}
 AreLinked newest (earlier ∷ others) = (newest.prior ≡ token earlier) × AreLinked earlier others
 
-pub record IsChain (newest : Covered) (earlier : List Covered) : Type 0 where
+-- the newest of them, and those before it, the newest first
+pub record IsHashChain (newest : Covered) (earlier : List Covered) : Type 0 where
   pub limits : AllByRecursion IsWithinLimits (newest ∷ earlier)
   pub linked : AreLinked newest earlier
 
@@ -26,8 +27,8 @@ collision_since [] ys = None
 collision_since (x ∷ xs) [] = None
 collision_since (x ∷ xs) (y ∷ ys) = option_or (collision x y) (collision_since xs ys)
 
--- where the newest tokens of two chains are equal, all that the tokens of both cover is the same, as far back as both go,
+-- where the newest tokens of two hash chains are equal, all that the tokens of both cover is the same, as far back as both go,
 -- or the search gives two different texts with one SHA-256
-abbrev pub EqualChains : Type 0
-EqualChains = (a b : Covered) (before_a before_b : List Covered) → IsChain a before_a → IsChain b before_b → token a ≡ token b
+abbrev pub EqualHashChains : Type 0
+EqualHashChains = (a b : Covered) (before_a before_b : List Covered) → IsHashChain a before_a → IsHashChain b before_b → token a ≡ token b
     → AreSameSince (a ∷ before_a) (b ∷ before_b) ⊎ IsSomeAnd (collision_since (a ∷ before_a) (b ∷ before_b)) IsCollision
