@@ -1,6 +1,6 @@
--- What the requests of a batch declare: what each will read and write, told on the database as the batch begins, with the
--- requests before it in mind. A delivery takes the next order of each district for each delivery of its warehouse before
--- it, and a stock level also looks at the items that are ordered before it; any other request declares what it touches.
+-- What the requests of a batch declare: what each will read and write, predicted from the database at the batch's beginning and
+-- from the requests before it. A delivery skips one order of each district for each delivery of its warehouse before it, and a
+-- stock level also looks at the items that are ordered before it; any other request declares what it touches on that database.
 use Rattle.std.specs.Prelude.{ℕ, Bool, false, ◌==◌, ◌&&◌, if◌then◌else◌, List, [], ◌∷◌, length, map, Option, slice_get}
 use Rattle.std.specs.List.{filter}
 use Rattle.catalog.specs.CardMap.{Cards}
@@ -39,10 +39,13 @@ deliveries_of w requests = length (filter (is_delivery_of w) requests)
 unfoldable pub nth_new_order : Rows → ℕ → ℕ → ℕ → Option ℕ
 nth_new_order rows w d n = slice_get (picked (new_pick w d) rows) n
 
--- n deliveries of the warehouse come first
+-- the ten districts of a delivery that n others of its warehouse precede
+abbrev pub districts_touch : Rows → ℕ → Delivery → Footprint Granule
+districts_touch rows n p = joined_all (map (λ d. delivered_touch rows p d (nth_new_order rows p.warehouse d n)) ten)
+
+-- a delivery that n others of its warehouse precede
 unfoldable pub later_delivery : Database → ℕ → Delivery → Footprint Granule
-later_delivery db n p =
-    touch_by (λ card. joined_all (map (λ d. delivered_touch db.rows p d (nth_new_order db.rows p.warehouse d n)) ten)) (known (warehouse_card db.cards p.warehouse))
+later_delivery db n p = touch_by (λ card. districts_touch db.rows n p) (known (warehouse_card db.cards p.warehouse))
 
 -- ---- Stock-Level (clause 2.8)
 abbrev pub ordered_item_touch : Cards → StockLevel → OrderedLine → Footprint Granule
@@ -56,12 +59,13 @@ abbrev pub is_order_of : ℕ → ℕ → Request → Bool
 is_order_of w d (request.NewOrder order) = order.warehouse == w && order.district == d
 is_order_of w d _ = false
 
--- the items of a new order of the district, which comes first
+-- the items of an earlier request, if it is a new order of the district
 abbrev pub earlier_touch : Cards → StockLevel → Request → Footprint Granule
-earlier_touch cards p (request.NewOrder order) = if is_order_of p.warehouse p.district (request.NewOrder order) then ordered_items_touch cards p order else untouched
+earlier_touch cards p (request.NewOrder order) =
+    if is_order_of p.warehouse p.district (request.NewOrder order) then ordered_items_touch cards p order else untouched
 earlier_touch cards p _ = untouched
 
--- these come first
+-- a stock level that these precede
 unfoldable pub later_stock_level : Database → List Request → StockLevel → Footprint Granule
 later_stock_level db earlier p =
     touch_by (λ card. joined (counted_touch db p) (joined_all (map (earlier_touch db.cards p) earlier))) (known (district_card db.cards p.warehouse p.district))

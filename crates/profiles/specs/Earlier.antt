@@ -14,8 +14,8 @@ abbrev pub last_order_of : ℕ → ℕ → List Request → ℕ
 last_order_of w d [] = 0
 last_order_of w d (q ∷ qs) = cond (is_order_of w d q) (suc (length qs)) (last_order_of w d qs)
 
--- what a request has to know of those before it: a delivery how many of its warehouse there are, a new order or a stock
--- level where the last order of its district stands
+-- what a request has to know of those before it: a delivery, how many of its warehouse there are; a new order or a stock
+-- level, where the last order of its district stands
 abbrev pub known_of : List Request → Request → ℕ
 known_of earlier (request.Delivery p) = deliveries_of p.warehouse earlier
 known_of earlier (request.NewOrder p) = last_order_of p.warehouse p.district earlier

@@ -1,4 +1,4 @@
--- What the moving requests of a batch declare. What any other touches is settled by the cards, and is the same on all rows.
+-- What the moving requests of a batch declare. What any other touches is settled by the cards, and is the same on any rows.
 use Rattle.std.specs.Prelude.{◌≡◌, ℕ, Bool, true, false, List, [], ◌∷◌, Option, None, Some, slice_get}
 use Rattle.std.specs.FinMap as map
 use Rattle.catalog.specs.CardMap.{Cards}
@@ -22,11 +22,11 @@ is_settled (request.StockLevel p) = false
 abbrev pub touch_by_cards : Cards → Request → Footprint Granule
 touch_by_cards cards q = touch (database cards map.empty) q
 
--- the law: a settled request touches that on any rows
+-- the law: a settled request touches the same on any rows
 abbrev pub SettledTouchesAreByCards : Type 0
 SettledTouchesAreByCards = (cards : Cards) (rows : Rows) (q : Request) → is_settled q ≡ true → touch (database cards rows) q ≡ touch_by_cards cards q
 
--- what is told of a request; where nothing is, what it touches by the cards
+-- the footprint that a request declared; if it declared none, what it touches by the cards
 abbrev pub completed_at : Cards → Request → Option (Footprint Granule) → Footprint Granule
 completed_at cards q None = touch_by_cards cards q
 completed_at cards q (Some footprint) = footprint
@@ -37,6 +37,6 @@ completed cards [] told = []
 completed cards (q ∷ requests) [] = []
 completed cards (q ∷ requests) (place ∷ told) = completed_at cards q place ∷ completed cards requests told
 
--- a request of which nothing is told is settled
+-- a request that declared nothing is settled
 abbrev pub TellsMoving : List Request → List (Option (Footprint Granule)) → Type 0
 TellsMoving requests told = (n : ℕ) (q : Request) → slice_get requests n ≡ Some q → slice_get told n ≡ Some None → is_settled q ≡ true

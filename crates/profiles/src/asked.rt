@@ -1,10 +1,10 @@
-//! Which requests of a batch declare.
+//! Which requests of a batch are to declare what they touch.
 ghost use Rattle.std.specs.Prelude.{◌≡◌};
 ghost use Rattle.profiles.specs.Moving.{is_settled};
 
 use requests::request::Request;
 
-/// All requests of a batch, or the moving ones alone.
+/// All requests of a batch, or only the moving ones.
 #[derive(Clone, Copy)]
 pub(crate) enum Asked {
     All,
@@ -20,7 +20,7 @@ impl Asked {
     }
 }
 
-/// Whether cards alone settle what the request touches.
+/// Whether what the request touches depends only on cards.
 pub(crate) fn is_settled(request: &Request) -> bool
     ensures { result ≡ is_settled request.now }
 {

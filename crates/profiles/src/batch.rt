@@ -1,4 +1,4 @@
-//! What the requests of a batch declare, told on threads.
+//! What the requests of a batch declare, computed on several threads.
 ghost use Rattle.std.specs.Prelude.{◌≡◌, ◌<◌, IfOk, Some, length, map, slice_get};
 ghost use Rattle.profiles.specs.Declarations.{declared, declared_after};
 ghost use Rattle.profiles.specs.Earlier.{before};
@@ -17,17 +17,17 @@ use std::thread::{self, Threads};
 use tpcc_rows::footprint::Footprint;
 use tpcc_rows::memory::Memory;
 
-/// A thread declares so many requests at least: so many that it is worth its start.
+/// The fewest requests that are worth starting a thread for.
 const REQUESTS_A_THREAD: usize = 64;
 
-/// On how many threads so many requests are declared, of so many at most.
+/// The number of threads on which to declare these many requests: at least one, and otherwise at most `most`.
 pub(crate) fn threads_for(requests: usize, most: usize) -> usize
     ensures { 0 < result }
 {
     (requests / REQUESTS_A_THREAD).clamp(1, most.max(1))
 }
 
-/// What a request declares that stands at this place of the batch.
+/// What the request at this place of the batch declares.
 #[tactic(auto, unfolding(tpcc_model::specs::Touches::touch))]
 fn declare_at(
     alloc: Global,
@@ -54,7 +54,7 @@ fn declare_at(
     }
 }
 
-/// What the request at this place of the batch declares, if it is asked and memory isn't refused.
+/// What the request at this place of the batch declares; `None` if it isn't asked, or if memory is refused.
 fn told_at(
     alloc: Global,
     catalog: &Catalog,
@@ -73,7 +73,7 @@ fn told_at(
     declare_at(alloc, catalog, request, batch, place, store).ok()
 }
 
-/// A place for what each of so many requests declares.
+/// Empty places for what this number of requests declare.
 fn places(alloc: Global, count: usize) -> Result<Vec<Option<Footprint>>, Memory>
     ensures { IfOk result (λ places. length places.items ≡ count) }
 {
@@ -84,8 +84,8 @@ fn places(alloc: Global, count: usize) -> Result<Vec<Option<Footprint>>, Memory>
     Ok(places)
 }
 
-/// Fills the place of each request that is asked with what it declares, on so many threads at most. Where memory is refused, it
-/// has nothing.
+/// Puts what each request declares into its place, on at most `threads` threads. The place of a request that isn't asked is
+/// empty, and so is one for which memory is refused.
 fn fill<R: Threads + Sync>(
     rt: &R,
     alloc: Global,
@@ -113,7 +113,7 @@ fn fill<R: Threads + Sync>(
     );
 }
 
-/// What each request declares that is asked. Where memory is refused, it has nothing.
+/// What each request declares; `None` for one that isn't asked, or for which memory is refused.
 pub(crate) fn tell<R: Threads + Sync>(
     rt: &R,
     alloc: Global,
@@ -145,7 +145,7 @@ pub(crate) fn tell<R: Threads + Sync>(
     Ok(places)
 }
 
-/// The footprints at all places, unless one has none.
+/// The footprints of all places, or `Memory` if a place is empty.
 fn taken(alloc: Global, places: Vec<Option<Footprint>>) -> Result<Vec<Footprint>, Memory>
     ensures { IfOk result (λ footprints. map Some footprints.items ≡ places.items) }
 {
@@ -156,7 +156,7 @@ fn taken(alloc: Global, places: Vec<Option<Footprint>>) -> Result<Vec<Footprint>
     Ok(footprints)
 }
 
-/// What each request of a batch will read and write, told as the batch begins, on so many threads at most.
+/// What each request of a batch will read and write, declared when the batch begins. At most `threads` threads compute it.
 pub fn declare_batch<R: Threads + Sync>(
     rt: &R,
     alloc: Global,
@@ -165,7 +165,8 @@ pub fn declare_batch<R: Threads + Sync>(
     store: &PointedStore,
     threads: usize,
 ) -> Result<Vec<Footprint>, Memory>
-    ensures declared { IsSound (database catalog.now store.now.rows) → IfOk result (λ footprints. footprints.items ≡ declared (database catalog.now store.now.rows) requests.now) }
+    ensures declared { IsSound (database catalog.now store.now.rows)
+        → IfOk result (λ footprints. footprints.items ≡ declared (database catalog.now store.now.rows) requests.now) }
     ensures each { IfOk result (λ footprints. length footprints.items ≡ length requests.now) }
 {
     let threads = threads_for(requests.len(), threads);

@@ -1,13 +1,13 @@
-//! Delivery (TPC-C clause 2.7): where the warehouse has a card, the book of each district is written with the customer of
-//! the new order that is delivered, and the book of a district without one is read.
-ghost use Rattle.std.specs.Prelude.{◌≡◌, ◌+◌, map, option_copied, IfOk, OnOk};
-ghost use Rattle.profiles.specs.Declarations.{later_delivery, nth_new_order};
-ghost use Rattle.serializability.specs.Footprints.{joined, joined_all};
+//! Delivery (TPC-C clause 2.7): if the warehouse has a card, it writes the book of each district in which it delivers an order,
+//! and the customer of that order; the book of a district with no order to deliver is only read.
+ghost use Rattle.std.specs.Prelude.{◌≡◌, ◌+◌, option_copied, IfOk, OnOk};
+ghost use Rattle.profiles.specs.Declarations.{districts_touch, later_delivery, nth_new_order};
+ghost use Rattle.serializability.specs.Footprints.{joined};
 ghost use Rattle.catalog.specs.CardMap.{Cards};
 ghost use Rattle.tpcc_model.specs.Database.{database};
 ghost use Rattle.tpcc_model.specs.Soundness.{IsSound};
 ghost use Rattle.tpcc_model.specs.Touches.{credited_touch, delivered_touch};
-ghost use Rattle.tpcc_rows.specs.Limits.{between, ten};
+ghost use Rattle.tpcc_rows.specs.Limits.{between};
 
 use catalog::Catalog;
 use requests::request::Delivery;
@@ -21,7 +21,7 @@ use tpcc_rows::memory::Memory;
 use tpcc_rows::row::OrderRow;
 use worker_rows::order_row;
 
-/// The customer of the order, where it is there.
+/// The customer of the order, if the order exists.
 fn touch_customer(
     p: &Delivery,
     district: DistrictId,
@@ -40,7 +40,7 @@ fn touch_customer(
     }
 }
 
-/// The number that is n above an order's.
+/// The order number that is `n` above this one.
 fn number_above(order: OrderId, n: usize) -> Option<OrderId>
     ensures { result ≡ between 1 9999999 (order + n) }
 {
@@ -48,8 +48,8 @@ fn number_above(order: OrderId, n: usize) -> Option<OrderId>
     OrderId::new(order.number().checked_add(above)?)
 }
 
-/// The district's new order before which there are n others. On a sound database new orders are numbered without a gap
-/// (TPC-C clause 3.3.2.3).
+/// The district's new order that `n` others precede. On a sound database new orders are numbered without gaps (TPC-C clause
+/// 3.3.2.3).
 fn nth_new_order(
     store: &PointedStore,
     warehouse: WarehouseId,
@@ -69,7 +69,7 @@ fn nth_new_order(
     Some(order)
 }
 
-/// The district's book, and who is credited for its order, if one is delivered.
+/// The district's book, and the customer who is credited for its order, if one is delivered.
 fn touch_district(
     p: &Delivery,
     district: DistrictId,
@@ -94,7 +94,7 @@ fn touch_district(
     }
 }
 
-/// The ten districts, of whose new orders n others are delivered first.
+/// The ten districts, in each of which `n` new orders are delivered before.
 fn touch_districts(
     p: &Delivery,
     n: usize,
@@ -102,7 +102,7 @@ fn touch_districts(
     footprint: &mut Footprint,
 ) -> Result<(), Memory>
     ensures { (cards : Cards) → IsSound (database cards store.now.rows)
-        → OnOk result (footprint.new ≡ joined footprint.old (joined_all (map (λ d. delivered_touch store.now.rows p.now d (nth_new_order store.now.rows p.now.warehouse d n)) ten))) }
+        → OnOk result (footprint.new ≡ joined footprint.old (districts_touch store.now.rows n p.now)) }
 {
     for district in &DistrictId::all() {
         let order = nth_new_order(store, p.warehouse, *district, n);
@@ -111,7 +111,7 @@ fn touch_districts(
     Ok(())
 }
 
-/// What a delivery declares that n of its warehouse precede in the batch.
+/// What a Delivery declares that `n` others of its warehouse precede in the batch.
 #[tactic(auto, unfolding(crate::specs::Declarations::later_delivery))]
 pub(crate) fn declare(
     alloc: Global,
@@ -120,7 +120,8 @@ pub(crate) fn declare(
     n: usize,
     store: &PointedStore,
 ) -> Result<Footprint, Memory>
-    ensures { IsSound (database catalog.now store.now.rows) → IfOk result (λ footprint. footprint ≡ later_delivery (database catalog.now store.now.rows) n p.now) }
+    ensures { IsSound (database catalog.now store.now.rows)
+        → IfOk result (λ footprint. footprint ≡ later_delivery (database catalog.now store.now.rows) n p.now) }
 {
     let mut footprint = Footprint::new(alloc);
     if catalog.warehouse(p.warehouse).is_none() {

@@ -9,14 +9,14 @@ use std::alloc::Global;
 use tpcc_rows::id::{DistrictId, WarehouseId};
 use tpcc_rows::memory::Memory;
 
-/// Warehouses are numbered from 1.
+/// A warehouse's index is its number, from 1 to 100.
 const WAREHOUSES: usize = 101;
 
-/// A district stands at ten times its warehouse's number and its own.
+/// A district's index is ten times its warehouse's number, plus its own.
 const DISTRICTS: usize = 1_011;
 
-/// The requests of a batch, and what each has to know of those before it: a Delivery how many of its warehouse there are, a
-/// New-Order or a Stock-Level 1 more than the place of the last New-Order of its district, or 0.
+/// The requests of a batch, and what each has to know of those before it: a Delivery, how many others of its warehouse there
+/// are; a New-Order or a Stock-Level, 1 more than the place of the last New-Order of its district, or 0 if there is none.
 #[derive(Clone, Copy)]
 pub(crate) struct Counted<'a> {
     pub requests: &'a [Request],
@@ -32,7 +32,7 @@ impl Counted<'_> {
         &self.requests[place]
     }
 
-    /// What the request at the place has to know.
+    /// What the request at this place has to know.
     pub fn known(&self, place: usize, request: &Request) -> usize
         requires { slice_get self.now.requests.now place ≡ Some request.now }
         ensures { result ≡ known_of (before self.now.requests.now place) request.now }
@@ -41,7 +41,8 @@ impl Counted<'_> {
     }
 }
 
-/// Counts of the requests so far: of Deliveries by warehouse, and where the last New-Order of each district stands.
+/// What the requests so far come to: the number of Deliveries by warehouse, and 1 more than the place of the last New-Order by
+/// district.
 #[derive(Drop)]
 struct Counts {
     deliveries: [usize; WAREHOUSES],

@@ -1,4 +1,4 @@
-//! Profiles: what the requests of a batch will touch, told before it runs.
+//! Profiles: what the requests of a batch will touch, predicted before the batch runs.
 #![tactic(auto)]
 
 mod asked;

@@ -1,4 +1,4 @@
-//! What the moving requests of a batch declare: those whose touch depends on rows, and not on cards alone.
+//! What the moving requests of a batch declare: those for which it depends on rows, and not only on cards.
 ghost use Rattle.std.specs.Prelude.{◌≡◌, IfOk, OnOk, is_none, length, map};
 ghost use Rattle.profiles.specs.Declarations.{declared};
 ghost use Rattle.profiles.specs.Moving.{completed, is_settled};
@@ -15,10 +15,10 @@ use std::thread::Threads;
 use tpcc_rows::footprint::Footprint;
 use tpcc_rows::memory::Memory;
 
-/// A moving request takes as long to declare as so many settled ones, or longer.
+/// A moving request takes at least as long to declare as this many settled ones.
 const AS_LONG: usize = 4;
 
-/// How long the moving requests take to declare, in settled ones.
+/// How long the moving requests take to declare, counted in settled ones.
 fn time_of(requests: &[Request]) -> usize {
     let mut time = 0usize;
     for request in requests {
@@ -29,7 +29,7 @@ fn time_of(requests: &[Request]) -> usize {
     time
 }
 
-/// Memory was refused, unless each moving request has told what it declares.
+/// Memory was refused, unless just the moving requests have declared.
 fn all_told(requests: &[Request], told: &[Option<Footprint>]) -> Result<(), Memory>
     requires { length told.now ≡ length requests.now }
     ensures { OnOk result (map is_none told.now ≡ map is_settled requests.now) }
@@ -42,8 +42,8 @@ fn all_told(requests: &[Request], told: &[Option<Footprint>]) -> Result<(), Memo
     Ok(())
 }
 
-/// What each moving request of a batch will read and write, told as the batch begins, on so many threads at most. A New-Order, a
-/// Payment or an Order-Status tells nothing.
+/// What each moving request of a batch will read and write, declared when the batch begins; `None` for a New-Order, a Payment
+/// or an Order-Status. At most `threads` threads compute it.
 pub fn declare_moving<R: Threads + Sync>(
     rt: &R,
     alloc: Global,
@@ -52,7 +52,8 @@ pub fn declare_moving<R: Threads + Sync>(
     store: &PointedStore,
     threads: usize,
 ) -> Result<Vec<Option<Footprint>>, Memory>
-    ensures declared { IsSound (database catalog.now store.now.rows) → IfOk result (λ told. completed catalog.now requests.now told.items ≡ declared (database catalog.now store.now.rows) requests.now) }
+    ensures declared { IsSound (database catalog.now store.now.rows)
+        → IfOk result (λ told. completed catalog.now requests.now told.items ≡ declared (database catalog.now store.now.rows) requests.now) }
     ensures moving { IfOk result (λ told. map is_none told.items ≡ map is_settled requests.now) }
 {
     let threads = threads_for(time_of(requests), threads);

@@ -1,5 +1,5 @@
-//! New-Order (TPC-C clause 2.4): where each of its keys has a card, the number that its district has next, the
-//! district's book and the stocks of its lines are written.
+//! New-Order (TPC-C clause 2.4): if each of its keys has a card, it writes its district's next order number, the district's
+//! book, and the stock of each line.
 ghost use Rattle.std.specs.Prelude.{◌≡◌, is_ok, map, IfOk, OnOk};
 ghost use Rattle.std.specs.List.{list_all};
 ghost use Rattle.serializability.specs.Footprints.{joined, joined_all};
@@ -16,7 +16,7 @@ use tpcc_rows::footprint::Footprint;
 use tpcc_rows::granule::Granule;
 use tpcc_rows::memory::Memory;
 
-/// Whether the item of the line and its stock have their cards.
+/// Whether the item of the line and its stock have cards.
 fn has_line_cards(catalog: &Catalog, line: &OrderedLine) -> bool
     ensures { result ≡ has_cards catalog.now line.now }
 {
@@ -29,7 +29,7 @@ fn have_cards(catalog: &Catalog, lines: &[OrderedLine]) -> bool
     lines.iter().all(|line| has_line_cards(catalog, line))
 }
 
-/// Whether each key of the order has its card.
+/// Whether each key of the order has a card.
 #[tactic(auto, using(crate::proofs::FoundCards::all_found))]
 pub(crate) fn has_cards(catalog: &Catalog, p: &NewOrder) -> bool
     ensures { result ≡ is_ok (found_cards catalog.now p.now) }
@@ -55,7 +55,7 @@ fn touch_stocks(lines: &[OrderedLine], footprint: &mut Footprint) -> Result<(), 
     Ok(())
 }
 
-/// What a new order touches, whatever the rows are.
+/// What a New-Order touches, whatever the rows are.
 #[tactic(auto, unfolding(tpcc_model::specs::Touches::new_order_touch))]
 pub(crate) fn declare(alloc: Global, catalog: &Catalog, p: &NewOrder) -> Result<Footprint, Memory>
     ensures { (rows : Rows) → IfOk result (λ footprint. footprint ≡ new_order_touch (database catalog.now rows) p.now) }

@@ -1,4 +1,4 @@
-//! Order-Status (TPC-C clause 2.6): where the customer has a card, the customer and the district's book are read.
+//! Order-Status (TPC-C clause 2.6): if the customer has a card, it reads the customer and the district's book.
 ghost use Rattle.std.specs.Prelude.{◌≡◌, IfOk};
 ghost use Rattle.tpcc_model.specs.Database.{database};
 ghost use Rattle.tpcc_model.specs.Touches.{asked_customer, order_status_touch};
@@ -14,7 +14,7 @@ use tpcc_rows::granule::Granule;
 use tpcc_rows::id::CustomerId;
 use tpcc_rows::memory::Memory;
 
-/// The customer who is asked about, with a card.
+/// The customer who is asked about, if there is such a card.
 #[tactic(auto, unfolding(tpcc_model::specs::Touches::asked_customer))]
 fn asked_customer(catalog: &Catalog, p: &OrderStatus) -> Result<CustomerId, RequestRefusal>
     ensures { result ≡ asked_customer catalog.now p.now }
@@ -27,7 +27,7 @@ fn asked_customer(catalog: &Catalog, p: &OrderStatus) -> Result<CustomerId, Requ
     Ok(customer)
 }
 
-/// What an order status touches, whatever the rows are.
+/// What an Order-Status touches, whatever the rows are.
 #[tactic(auto, unfolding(tpcc_model::specs::Touches::order_status_touch))]
 pub(crate) fn declare(
     alloc: Global,

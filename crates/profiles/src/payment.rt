@@ -1,5 +1,5 @@
-//! Payment (TPC-C clause 2.5): where each of its keys has a card, the sums of its warehouse and its district and the
-//! customer, who may be of another district, are written.
+//! Payment (TPC-C clause 2.5): if each of its keys has a card, it writes the totals of its warehouse and its district, and the
+//! customer, who may be of another district.
 ghost use Rattle.std.specs.Prelude.{◌≡◌, IfOk};
 ghost use Rattle.profiles.specs.Found.{paying_customer};
 ghost use Rattle.tpcc_model.specs.Database.{database};
@@ -16,7 +16,7 @@ use tpcc_rows::granule::Granule;
 use tpcc_rows::id::CustomerId;
 use tpcc_rows::memory::Memory;
 
-/// The customer who pays, where each key of the payment has its card.
+/// The customer who pays, if each key of the payment has a card.
 #[tactic(auto, unfolding(tpcc_model::specs::Payments::found_cards))]
 fn paying_customer(catalog: &Catalog, p: &Payment) -> Option<CustomerId>
     ensures { known result ≡ paying_customer catalog.now p.now }
@@ -29,7 +29,7 @@ fn paying_customer(catalog: &Catalog, p: &Payment) -> Option<CustomerId>
     Some(customer)
 }
 
-/// What a payment touches, whatever the rows are.
+/// What a Payment touches, whatever the rows are.
 #[tactic(auto, unfolding(tpcc_model::specs::Touches::payment_touch))]
 pub(crate) fn declare(alloc: Global, catalog: &Catalog, p: &Payment) -> Result<Footprint, Memory>
     ensures { (rows : Rows) → IfOk result (λ footprint. footprint ≡ payment_touch (database catalog.now rows) p.now) }

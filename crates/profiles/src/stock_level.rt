@@ -1,5 +1,5 @@
-//! Stock-Level (TPC-C clause 2.8): where the district has a card, the number that it has next and its book are read, and
-//! the stocks of the items in the lines of its last twenty orders and of the orders before it in the batch.
+//! Stock-Level (TPC-C clause 2.8): if the district has a card, it reads the district's next order number and book, and the
+//! stock of each item in the lines of the district's last twenty orders, and of its orders earlier in the batch.
 ghost use Rattle.std.specs.Prelude.{◌≡◌, ◌<◌, Some, length, map, option_copied, IfOk, OnOk};
 ghost use Rattle.catalog.specs.Lookups.{stock_card};
 ghost use Rattle.profiles.specs.Declarations.{earlier_touch, later_stock_level, ordered_item_touch, ordered_items_touch};
@@ -22,7 +22,7 @@ use tpcc_rows::memory::Memory;
 use tpcc_rows::row::{DistrictNextRow, OrderLineRow};
 use worker_rows::{district_next_row, order_line_row};
 
-/// The stock of an item, where it has a card.
+/// The stock of an item, if it has a card.
 fn touch_item(
     catalog: &Catalog,
     p: &StockLevel,
@@ -120,8 +120,8 @@ fn touch_order(
     touch_items(catalog, p, order.lines.as_slice(), footprint)
 }
 
-/// The orders of the district among the requests before this place, the nearest first: `last` is what a stock level there
-/// knows of them.
+/// The orders of the district among the requests before this place, the nearest first. `last` is what a Stock-Level at this
+/// place knows of them.
 fn touch_earlier(
     catalog: &Catalog,
     p: &StockLevel,
@@ -145,7 +145,7 @@ fn touch_earlier(
     Ok(())
 }
 
-/// What a stock level at this place of the batch declares: `last` is what it knows of the orders before it.
+/// What a Stock-Level at this place of the batch declares. `last` is what it knows of the orders before it.
 #[tactic(auto, unfolding(crate::specs::Declarations::later_stock_level))]
 pub(crate) fn declare(
     alloc: Global,
