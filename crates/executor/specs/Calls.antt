@@ -23,7 +23,7 @@ pub data Call : Type 0 where
 abbrev pub IsRecordOfEither : Cards → State → Batch → Record → Type 0
 IsRecordOfEither cards state batch r = IsRecordOf cards state batch (path_of cards state batch) r ⊎ IsRecordOf cards state batch path.Sequential r
 
--- ---- the lines
+-- ---- the chains
 -- before and after a call
 abbrev pub Leads : Call → Chain → Chain → Type 0
 Leads (Executed batch r) old new =

@@ -1,4 +1,4 @@
--- A batch executed in order, each request within what is told of it, or within what it touches by the cards if nothing is.
+-- A batch executed in order, each request within what it declared, or within what it touches by the cards if it declared nothing.
 use Rattle.std.specs.Prelude.{◌≡◌, ℕ, Bool, List, Option}
 use Rattle.serializability.specs.Footprints.{Footprint}
 use Rattle.serializability.specs.InTurn.{strays_in_turn}
@@ -21,11 +21,11 @@ use Rattle.executor.specs.States.{AreWithinLimits}
 use Rattle.executor.specs.declared.turn.PlanInTurn.{PlanInTurn}
 use Rattle.executor.specs.declared.turn.Told.{Told}
 
--- a request of a batch as a job, by what is told of it
+-- a request of a batch as a job, by what it declared
 abbrev pub told_job : Cards → Told → Job Granule Request
 told_job cards told = record { number = told.number; request = told.request.now; declared = completed_at cards told.request.now told.footprint.now }
 
--- what is told of a batch's requests, completed by the cards, is what they declare
+-- these footprints of a batch's requests, completed by the cards, are what the requests declare
 abbrev pub TellsDeclared : Cards → State → Batch → List (Option (Footprint Granule)) → Type 0
 TellsDeclared cards state batch told = completed cards batch.requests told ≡ declared_footprints cards state batch
 
@@ -36,7 +36,7 @@ plan_replies_in_turn cards rows plan = replies (database cards rows) plan.batch.
 abbrev pub plan_rows_in_turn : Cards → Rows → PlanInTurn → Rows
 plan_rows_in_turn cards rows plan = rows_after (database cards rows) plan.batch.now.moment plan.first plan.batch.now.requests
 
--- some request touches more than was told of it, on the rows that those before it leave
+-- some request touches more than it declared, on the rows that those before it leave
 abbrev pub plan_strays_in_turn : Cards → Rows → PlanInTurn → Bool
 plan_strays_in_turn cards rows plan
     = strays_in_turn (tpcc cards plan.batch.now.moment) rows (levels.jobs plan.first plan.batch.now.requests (completed cards plan.batch.now.requests plan.told.now))

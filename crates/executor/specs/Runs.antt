@@ -11,7 +11,7 @@ use Rattle.executor.specs.declared.refusal.Refusal.{Refusal}
 use Rattle.executor.specs.declared.refusal.Refusal.TheVariants as refusal
 use Rattle.executor.specs.declared.run.RunEnd.{RunEnd}
 
--- the present state alone: all batches are committed
+-- only the present state: all batches are committed
 abbrev pub alone : Chain → Chain
 alone chain = record { cards = chain.cards; earlier = []; present = chain.present }
 

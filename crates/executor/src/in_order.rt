@@ -23,14 +23,14 @@ use transactions::{Stop, execute};
 use worker_rows::Loan;
 use workers::{Db, Gate, Job, Runtime, tell_stray};
 
-/// The replies to a batch, in order, and whether it strays.
+/// The replies to a batch, in order, and whether a request strayed.
 #[derive(Drop)]
 pub(crate) struct Pass {
     pub replies: Vec<Reply>,
     pub strayed: bool,
 }
 
-/// The outcome of a request: on the rows that it declared, or on all rows once one has strayed, itself included.
+/// The outcome of a request: on the rows that it declared, or on all rows, once this or an earlier one has strayed.
 fn executed_within<R: Threads + Sync, G: Gate>(
     runtime: &Runtime<'_, R, G>,
     catalog: &Catalog,
@@ -63,7 +63,7 @@ fn executed_within<R: Threads + Sync, G: Gate>(
     executed(alloc, catalog, request, number, moment, store)
 }
 
-/// The outcome of a request: on the rows that it declared; on all rows if nothing is told of it, or once one has strayed.
+/// The outcome of a request: on the rows that it declared, or on all rows, if it declared nothing or once one has strayed.
 fn executed_as_told<R: Threads + Sync, G: Gate>(
     runtime: &Runtime<'_, R, G>,
     catalog: &Catalog,
@@ -97,7 +97,7 @@ fn executed_as_told<R: Threads + Sync, G: Gate>(
 }
 
 /// Executes the requests of a batch one after the other, and applies the changes of each before the next. If an allocation
-/// fails, some of the changes have been applied.
+/// fails, some of the changes may have been applied.
 #[tactic(auto, unfolding(tpcc_rows::specs::Changing::after))]
 pub(crate) fn execute_in_order<R: Threads + Sync, G: Gate>(
     runtime: &Runtime<'_, R, G>,

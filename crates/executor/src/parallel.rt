@@ -136,8 +136,8 @@ fn run_levels<R: Threads + Sync, G: Gate>(
 }
 
 /// Executes a batch level by level, by the footprints that its requests declare on the rows that it meets. Stops if a request
-/// strays; then, and if an allocation fails, the rows are in no defined state. If threads don't pay and no gate listens, the
-/// batch is executed in order instead, to its end; if that is plain beforehand, its moving requests alone declare.
+/// strays; then, and if an allocation fails, the state of the rows is undefined. If threads don't pay and no gate listens, the
+/// batch is executed in order instead, to its end; if that is plain beforehand, only its moving requests declare.
 pub(crate) fn execute_parallel<R: Threads + Sync, G: Gate>(
     runtime: &Runtime<'_, R, G>,
     catalog: &Catalog,

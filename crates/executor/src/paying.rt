@@ -1,4 +1,4 @@
-//! Whether threads pay. It only chooses between two ways that have one result, so no contract here says when they do.
+//! Whether threads pay. This only chooses between two ways to the same result, so no contract here says when they do.
 ghost use Rattle.std.specs.Prelude.{◌<◌, ◌≤◌, IfOk, IfSome, length};
 ghost use Rattle.executor.specs.LevelRuns.{IsCutBySome};
 
@@ -8,20 +8,21 @@ use std::alloc::Global;
 use tpcc_rows::footprint::Footprint;
 use tpcc_rows::memory::Memory;
 
-/// Minimum average level size for which threads pay: starting one takes as long as executing a dozen requests or more, and
-/// each level starts its own.
+/// The smallest average size of levels for which threads pay: each level starts threads of its own, and starting one takes as
+/// long as executing a dozen requests or more.
 const REQUESTS_A_LEVEL: usize = 128;
 
-/// The most levels of so many requests for which threads pay.
+/// The greatest number of levels into which these many requests may be cut for threads to pay.
 fn most_levels(requests: usize) -> usize {
     requests / REQUESTS_A_LEVEL
 }
 
-/// Warehouses stand from 1 on, and the districts of each at ten times its number and 100 more.
+/// The end of the indices of rows: a warehouse's is its number, and a district's is 100, plus ten times its warehouse's number,
+/// plus its own.
 const ROWS: usize = 1_111;
 
-/// The row that a request writes and any other of its kind there: a Payment its warehouse's, a New-Order its district's with
-/// the next order number.
+/// The index of a row that the request writes, as do all others of its kind there: a Payment, its warehouse's; a New-Order, its
+/// district's with the next order number.
 fn shared_row(request: &Request) -> Option<usize>
     ensures { IfSome result (λ row. row < ROWS) }
 {
@@ -35,8 +36,8 @@ fn shared_row(request: &Request) -> Option<usize>
     }
 }
 
-/// Whether no row is sure to have more writers than this, of which each is on a level of its own. A request counts that is
-/// refused, and so writes nothing.
+/// Whether none of these rows has more than `most` writers, each of which takes a level of its own. A request that will be
+/// refused, and so writes nothing, is counted as a writer.
 fn is_shallow(requests: &[Request], most: usize) -> bool {
     let mut writers = [0u16; ROWS];
     for request in requests {
@@ -50,7 +51,7 @@ fn is_shallow(requests: &[Request], most: usize) -> bool {
     true
 }
 
-/// Whether threads may pay for these requests, told before any declares.
+/// Whether threads may pay for these requests, judged before any of them declares.
 pub(crate) fn may_pay(requests: &[Request], workers: usize) -> bool {
     workers > 1
         && requests.len() >= REQUESTS_A_LEVEL

@@ -1,4 +1,4 @@
-//! Executes a batch in order, by what is told of its requests as it begins.
+//! Executes a batch in order, given the footprints that its requests declared when it began.
 ghost use Rattle.std.specs.Prelude.{◌≡◌, IfOk, OnOk, Some, length, map};
 ghost use Rattle.executor.specs.InOrder.{TellsDeclared};
 ghost use Rattle.executor.specs.LevelRuns.{declared_footprints, strays};
@@ -21,7 +21,7 @@ use tpcc_rows::footprint::Footprint;
 use tpcc_rows::memory::Memory;
 use workers::{Gate, Runtime};
 
-/// Executes a batch in order, where this is told of its requests.
+/// Executes a batch in order, where its requests declared these footprints.
 fn execute_told<R: Threads + Sync, G: Gate>(
     runtime: &Runtime<'_, R, G>,
     catalog: &Catalog,
@@ -49,7 +49,7 @@ fn execute_told<R: Threads + Sync, G: Gate>(
     execute_in_order(runtime, catalog, store, &plan)
 }
 
-/// Executes a batch in order, where its moving requests alone declare. If an allocation fails, the rows are in no defined state.
+/// Executes a batch in order, where only its moving requests declare. If an allocation fails, the state of the rows is undefined.
 pub(crate) fn execute_moving<R: Threads + Sync, G: Gate>(
     runtime: &Runtime<'_, R, G>,
     catalog: &Catalog,
@@ -69,7 +69,7 @@ pub(crate) fn execute_moving<R: Threads + Sync, G: Gate>(
     execute_told(runtime, catalog, store, next, told.as_slice())
 }
 
-/// Each footprint, as it is told of its request.
+/// The footprints of requests that all declared one.
 fn each_told(alloc: Global, footprints: Vec<Footprint>) -> Result<Vec<Option<Footprint>>, Memory>
     ensures { IfOk result (λ told. told.items ≡ map Some footprints.items) }
 {
@@ -80,8 +80,8 @@ fn each_told(alloc: Global, footprints: Vec<Footprint>) -> Result<Vec<Option<Foo
     Ok(told)
 }
 
-/// Executes a batch in order, where each request has declared its footprint. If an allocation fails, the rows are in no defined
-/// state.
+/// Executes a batch in order, where each request has declared its footprint. If an allocation fails, the state of the rows is
+/// undefined.
 pub(crate) fn execute_declared<R: Threads + Sync, G: Gate>(
     runtime: &Runtime<'_, R, G>,
     catalog: &Catalog,

@@ -1,4 +1,4 @@
-//! A batch to execute in order, and what is told of its requests.
+//! A batch to execute in order, and what its requests declared.
 ghost use Rattle.std.specs.Prelude.{◌≡◌, ◌+◌, ◌≤◌, None, length, true};
 ghost use Rattle.executor.specs.declared.next_batch.TheConstants.{MOST_REQUESTS};
 ghost use Rattle.profiles.specs.Moving.{TellsMoving, is_settled};
@@ -9,8 +9,8 @@ use tpcc_rows::footprint::Footprint;
 use tpcc_rows::id::RequestNumber;
 use tpcc_rows::number::Moment;
 
-/// A batch, the number of its first request, and what is told of each request: the footprint that it declared, or nothing, if
-/// cards alone settle what it touches.
+/// A batch, the number of its first request, and the footprint that each request declared; `None` for one that declared nothing,
+/// since what it touches depends only on cards.
 #[derive(Clone, Copy)]
 pub(crate) struct PlanInTurn<'a> {
     pub batch: &'a Batch,
@@ -23,7 +23,7 @@ pub(crate) struct PlanInTurn<'a> {
     pub ghost high: { first + length batch.now.requests ≤ END_OF_NUMBERS },
 }
 
-/// The request at `place` in a batch, with its number, its moment and what is told of it.
+/// The request at `place` in a batch, with its number, its moment, and the footprint that it declared, if any.
 #[derive(Clone, Copy)]
 pub(crate) struct Told<'a> {
     pub place: usize,

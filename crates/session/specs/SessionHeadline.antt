@@ -1,7 +1,7 @@
 -- The headline of a session. For every consistent database, list of commands, and number of workers, the states that a session can go
 -- back to and the present one are those that one thread leaves after the batches that are kept, with their tables, next numbers and
 -- tokens; each answer, with replies, path and token, is that of these states; and before the first command and after every one the
--- database is sound, and TPC-C's consistency conditions 1 to 4 hold. A fault in the place of a command is told, and changes nothing.
+-- database is sound, and TPC-C's consistency conditions 1 to 4 hold. A fault in the place of a command is reported, and changes nothing.
 use Rattle.std.specs.Prelude.{◌≡◌, ℕ, ◌+◌, ◌≤◌, Bool, true, false, List, [], ◌∷◌, ◌++◌, length, map, Some, slice_get, take}
 use Rattle.catalog.specs.CardMap.{Cards}
 use Rattle.commands.specs.declared.command.Command.TheVariants as command
@@ -48,7 +48,7 @@ abbrev pub chain_after : Cards → State → List Turn → Chain
 chain_after cards start turns = serial_chain cards start (kept start turns)
 
 -- ---- the headline
--- of these turns, the first of which met this state alone, and which led to this chain
+-- of these turns, the first of which met a chain with only this state, and which led to this chain
 pub record SessionHeadline (cards : Cards) (start : State) (turns : List Turn) (chain : Chain) : Type 0 where
   -- the last committed state and those behind it are the ones that one thread leaves
   pub states_as_serial : chain ≡ chain_after cards start turns

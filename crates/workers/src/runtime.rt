@@ -1,4 +1,4 @@
-//! What batches are executed with.
+//! What it takes to execute batches.
 use std::alloc::Global;
 use tickets::Workers;
 

@@ -1,4 +1,4 @@
-//! What a gate is told of a stray.
+//! What a gate learns of a stray.
 ghost use Rattle.std.specs.Prelude.{◌<◌, length};
 
 use crate::gate::Gate;
