@@ -116,7 +116,7 @@ program_app =
     with_subcommand (with_subcommand (with_subcommand (with_subcommand bare_app run_app.top) check_app.top)
     make_app.top) serve_app.top
 
--- an argument of this form, of its own command alone
+-- an argument of this form, of its own command only
 abbrev pub IsArgument : Rule → Arg → Type 0
 IsArgument rule argument = (rule_of argument ≡ rule) × (argument.global ≡ false)
 

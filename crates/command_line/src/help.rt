@@ -1,4 +1,4 @@
-//! What stands at the end of each help: a worked example, and where files are described.
+//! The end of each help text: a worked example, and where files are described.
 
 /// The end of the program's help.
 pub const PROGRAM: &str = "Images, batches and replies are CSV text, described in docs/FORMATS.md";

@@ -1,4 +1,4 @@
-//! Reads the commands of a text, as its bytes come.
+//! Reads the commands of a text as its bytes arrive.
 ghost use Rattle.std.specs.Prelude.{◌≡◌, ◌+◌, ◌<◌, ◌≤◌, ◌^◌, ℕ, List, Option, [], Err, IfErr, IfNone, IfOk, IfSome, None, OnOk, OnSome, Some, if◌then◌else◌, option_map};
 ghost use Rattle.commands.specs.Commands.{Gives, IsOver, StopsBy, commands, is_read};
 ghost use Rattle.commands.specs.Reader.{heard_from};

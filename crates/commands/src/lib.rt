@@ -1,4 +1,4 @@
-//! Reads the commands of a session from a text as its bytes come: batches to execute, commits, rollbacks and queries.
+//! Reads the commands of a session from a text as its bytes arrive: batches to execute, commits, rollbacks and queries.
 #![tactic(auto)]
 
 mod chunk;

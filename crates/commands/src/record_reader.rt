@@ -1,4 +1,4 @@
-//! Reads the records of a text, as its bytes come.
+//! Reads the records of a text as its bytes arrive.
 ghost use Rattle.std.specs.Prelude.{◌≡◌, ◌⊎◌, ◌+◌, ◌-◌, ◌<◌, ◌≤◌, ◌^◌, ◌++◌, ◌∷◌, [], ℕ, List, Option, true, IfErr, IfNone, IfOk, IfSome, OnOk, OnSome, if◌then◌else◌, is_ok, option_map};
 ghost use Rattle.std.specs.Io.KnownBytes.{Keeps};
 ghost use Rattle.commands.specs.Commands.{Progress, StopsBy, commands_of, ended, is_read, told};

@@ -1,4 +1,4 @@
-//! Columns: a number a slot.
+//! Columns: a number for each slot.
 ghost use Rattle.std.specs.Prelude.{◌≡◌, length, map, vec_len};
 ghost use Rattle.mixer.specs.Columns.{IsRaised, highest};
 ghost use Rattle.mixer.specs.Slots.{slot};

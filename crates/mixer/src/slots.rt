@@ -5,7 +5,7 @@ ghost use Rattle.mixer.specs.Slots.{slot};
 use signatures_simd::{MULTIPLIER, packed};
 use tpcc_rows::granule::Granule;
 
-/// The number of slots: so many that few granules of a batch share one.
+/// The number of slots: large enough for few granules of a batch to share one.
 pub(crate) const SLOTS: usize = 262_144;
 
 /// The slot of a granule, from 0 to 262,143.

@@ -1,4 +1,4 @@
-//! The levels of the requests before one, by the slots of their granules.
+//! The levels of the requests so far, by the slots of their granules.
 ghost use Rattle.std.specs.Prelude.{◌≡◌, ◌+◌, ◌<◌, ◌≤◌, ◌++◌, ◌∷◌, [], IfOk, vec_len};
 ghost use Rattle.mixer.specs.Columns.{IsBelow};
 ghost use Rattle.mixer.specs.declared.slots.TheConstants.{SLOTS};

@@ -1,4 +1,4 @@
-//! A database that is stored goes on as if it had stayed: a call of such a function proves its law.
+//! The law that a stored database goes on as if it had stayed in memory, stated as the contract of a function.
 #![tactic(auto)]
 
 ghost use Rattle.resuming_laws.specs.Resuming.{StoredRunsGoOn};
@@ -6,8 +6,8 @@ ghost use Rattle.resuming_laws.specs.Resuming.{StoredRunsGoOn};
 use executor::laws::sound_states;
 use loader_laws::image_read_back;
 
-/// Of two lists of batches: a run of the first, whose last state is stored, and a run of the second on the image that was stored, from
-/// where that state stood, reply and leave what one run of both does, with its numbers and tokens.
+/// For any two lists of batches: a run of the first that stores its last state, and a run of the second on the stored image, from
+/// that state's stamp on, reply and leave what one run of both does, with its numbers and tokens.
 pub fn stored_runs_go_on()
     ensures { StoredRunsGoOn }
 {

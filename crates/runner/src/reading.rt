@@ -1,4 +1,4 @@
-//! The bytes of batches.
+//! Reads the bytes of batches.
 ghost use Rattle.std.specs.Prelude.{◌≡◌, ◌≢◌, ◌+◌, ◌<◌, ◌^◌, true, IfErr, IfOk, IsErrOf, OnOk};
 ghost use Rattle.runner.specs.WholeRuns.{IsInputFault};
 ghost use Rattle.telling.specs.Told.{OfSource};
