@@ -69,7 +69,7 @@ pub(crate) fn execute_moving<R: Threads + Sync, G: Gate>(
     execute_told(runtime, catalog, store, next, told.as_slice())
 }
 
-/// The footprints of requests that all declared one.
+/// The footprints as options, where each request has declared one.
 fn each_told(alloc: Global, footprints: Vec<Footprint>) -> Result<Vec<Option<Footprint>>, Memory>
     ensures { IfOk result (λ told. told.items ≡ map Some footprints.items) }
 {

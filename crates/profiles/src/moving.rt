@@ -29,7 +29,7 @@ fn time_of(requests: &[Request]) -> usize {
     time
 }
 
-/// Memory was refused, unless just the moving requests have declared.
+/// Checks that exactly the moving requests have declared; otherwise memory was refused.
 fn all_told(requests: &[Request], told: &[Option<Footprint>]) -> Result<(), Memory>
     requires { length told.now ≡ length requests.now }
     ensures { OnOk result (map is_none told.now ≡ map is_settled requests.now) }
