@@ -13,7 +13,7 @@ use Rattle.requests.specs.declared.reply.RequestRefusal.TheVariants as refusal
 use Rattle.requests.specs.declared.request.RequestKind.{RequestKind}
 use Rattle.requests.specs.declared.request.RequestKind.TheVariants as kind
 
--- a count with so many more, as far as 64 bits hold it
+-- a count with this many more, at most the maximum of 64 bits
 abbrev pub with_more : ℕ → ℕ → ℕ
 with_more count more = min (count + more) (2 ^ 64 - 1)
 

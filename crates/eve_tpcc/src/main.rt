@@ -3,6 +3,7 @@
 #![tactic(auto)]
 
 ghost use Rattle.std.specs.Prelude.{IfSome};
+ghost use Rattle.command_line.specs.CommandLine.{IsWithinBounds};
 ghost use Rattle.executor.specs.Stamps.{IsWithinLimits};
 ghost use Rattle.tpcc_rows.specs.Limits.{IsBetween};
 
@@ -13,14 +14,16 @@ mod resuming;
 mod statistics;
 mod stopwatch;
 mod store_file;
+mod streams;
 mod summary;
 mod tally;
 
 use crate::inputs::{is_standard_input, path_of};
-use crate::progress::{Shown, shown_batches, shown_bytes};
+use crate::progress::Shown;
 use crate::resuming::{RunOptions, run_resumed, serve_from, stamp_from};
 use crate::statistics::Statistics;
 use crate::store_file::open_store;
+use crate::streams::{batches_source, image_sink, image_source, reply_sink};
 use command_line::{Line, LineFault, WordsFault, line_of, line_status, words_of};
 use executor::Stamp;
 use hashers::Host;
@@ -37,15 +40,6 @@ use std::time::Clock;
 use std::{fs, io, str};
 use telling::Telling;
 use workers::Workers;
-
-/// What is counted while the image is read.
-const IMAGE_READ: &str = "bytes of the image read";
-
-/// What is counted while the batches are read.
-const BATCHES_READ: &str = "bytes of the batches read";
-
-/// What is counted while an image is made.
-const IMAGE_WRITTEN: &str = "bytes of the image written";
 
 fn cannot_open(rt: &impl Eprint, path: &str) -> ExitCode {
     let _ = eprintln!(rt; "eve-tpcc: cannot open {path}");
@@ -83,21 +77,14 @@ where
     let Ok(batches_file) = fs::open(rt, batches) else {
         return cannot_open(rt, batches);
     };
-    let mut image_source = Telling::new(Counting::new(shown_bytes(
-        rt, image_file, IMAGE_READ, shown,
-    )));
-    let mut batches_source = Telling::new(Counting::new(shown_bytes(
-        rt,
-        batches_file,
-        BATCHES_READ,
-        shown,
-    )));
-    let mut output = Telling::new(Counting::new(shown_batches(rt, io::writer(rt), shown)));
+    let mut image = image_source(rt, image_file, shown);
+    let mut batches = batches_source(rt, batches_file, shown);
+    let mut output = reply_sink(rt, io::writer(rt), shown);
     let ran = run_text(
         rt,
         rt.alloc(),
-        &mut image_source,
-        &mut batches_source,
+        &mut image,
+        &mut batches,
         &mut output,
         workers,
         observer,
@@ -131,22 +118,15 @@ where
     let Ok(store_file) = open_store(rt, path) else {
         return cannot_create(rt, path);
     };
-    let mut image_source = Telling::new(Counting::new(shown_bytes(
-        rt, image_file, IMAGE_READ, shown,
-    )));
-    let mut batches_source = Telling::new(Counting::new(shown_bytes(
-        rt,
-        batches_file,
-        BATCHES_READ,
-        shown,
-    )));
-    let mut output = Telling::new(Counting::new(shown_batches(rt, io::writer(rt), shown)));
+    let mut image = image_source(rt, image_file, shown);
+    let mut batches = batches_source(rt, batches_file, shown);
+    let mut output = reply_sink(rt, io::writer(rt), shown);
     let mut tables = Telling::new(Counting::new(store_file));
     let ran = run_and_store(
         rt,
         rt.alloc(),
-        &mut image_source,
-        &mut batches_source,
+        &mut image,
+        &mut batches,
         &mut output,
         &mut tables,
         workers,
@@ -170,11 +150,9 @@ where
     let Ok(image_file) = fs::open(rt, image) else {
         return cannot_open(rt, image);
     };
-    let mut image_source = Telling::new(Counting::new(shown_bytes(
-        rt, image_file, IMAGE_READ, shown,
-    )));
+    let mut image = image_source(rt, image_file, shown);
     let mut output = Telling::new(Counting::new(io::writer(rt)));
-    match check_text(rt, rt.alloc(), &mut image_source, &mut output) {
+    match check_text(rt, rt.alloc(), &mut image, &mut output) {
         Ok(()) => ExitCode::SUCCESS,
         Err(fault) => report(rt, &StoredRunFault::Run(fault)),
     }
@@ -192,12 +170,7 @@ fn make<R: Print + Eprint + AllocGlobal + Clock>(
     requires customers { IsBetween 1 3000 customers }
     requires items { IsBetween 1 100000 items }
 {
-    let mut output = Telling::new(Counting::new(shown_bytes(
-        rt,
-        io::writer(rt),
-        IMAGE_WRITTEN,
-        shown,
-    )));
+    let mut output = image_sink(rt, io::writer(rt), shown);
     match make_text(rt.alloc(), warehouses, customers, items, &mut output) {
         Ok(()) => ExitCode::SUCCESS,
         Err(fault) => report(rt, &StoredRunFault::Run(fault)),
@@ -272,7 +245,6 @@ fn run_with<R: Files + Print + Eprint + AllocGlobal + Clock + Host, G: Observer>
     rt: &R,
     options: &RunOptions<'_>,
     from: &Option<Stamp>,
-    shown: Shown,
     observer: &G,
 ) -> ExitCode
 where
@@ -280,6 +252,7 @@ where
     requires { IfSome from.now IsWithinLimits }
 {
     let (image, batches, workers) = (options.image, options.batches, options.workers);
+    let shown = options.shown;
     match (options.store, from, options.at) {
         (None, None, false) => run(rt, image, batches, workers, shown, observer),
         (Some(path), None, false) => {
@@ -295,7 +268,6 @@ fn run_line<R: Files + Print + Eprint + AllocGlobal + Clock + Host>(
     options: &RunOptions<'_>,
     from: Option<&str>,
     stats: bool,
-    shown: Shown,
 ) -> ExitCode
 where
     R::File: Drop,
@@ -313,7 +285,7 @@ where
         ..*options
     };
     let statistics = Statistics::new(rt, stats);
-    let status = run_with(rt, &options, &from, shown, &statistics);
+    let status = run_with(rt, &options, &from, &statistics);
     statistics.print();
     status
 }
@@ -361,6 +333,52 @@ where
     status
 }
 
+/// What a command line may need of the runtime.
+trait System: Files + Input + Print + Eprint + AllocGlobal + Clock + Host {}
+
+impl<R: Files + Input + Print + Eprint + AllocGlobal + Clock + Host> System for R {}
+
+/// Does what a command line asks.
+fn perform<R: System>(rt: &R, line: &Line, shown: Shown) -> ExitCode
+where
+    R::File: Drop,
+    requires { IsWithinBounds line.now }
+{
+    match line {
+        Line::Run {
+            image,
+            batches,
+            workers,
+            store,
+            from,
+            at,
+            stats,
+        } => {
+            let options = RunOptions {
+                image: image.as_str(),
+                batches: batches.as_str(),
+                workers: *workers,
+                store: text_of(store),
+                at: *at,
+                shown,
+            };
+            run_line(rt, &options, text_of(from), *stats)
+        }
+        Line::Check { image } => check(rt, path_of(image.as_str()), shown),
+        Line::Make {
+            warehouses,
+            customers,
+            items,
+        } => make(rt, *warehouses, *customers, *items, shown),
+        Line::Serve {
+            image,
+            workers,
+            from,
+            stats,
+        } => serve_line(rt, image.as_str(), *workers, text_of(from), *stats),
+    }
+}
+
 fn main(rt: HostRuntime) -> ExitCode {
     let shown = Shown::on(&rt.stderr());
     let words = match words_of(&rt, rt.alloc()) {
@@ -368,43 +386,7 @@ fn main(rt: HostRuntime) -> ExitCode {
         Err(fault) => return words_unread(&rt, fault),
     };
     match line_of(rt.alloc(), words) {
-        Ok(
-            Line::Run {
-                image,
-                batches,
-                workers,
-                store,
-                from,
-                at,
-                stats,
-            },
-        ) => {
-            let store = text_of(&store);
-            let options = RunOptions {
-                image: image.as_str(),
-                batches: batches.as_str(),
-                workers,
-                store,
-                at,
-            };
-            run_line(&rt, &options, text_of(&from), stats, shown)
-        }
-        Ok(Line::Check { image }) => check(&rt, path_of(image.as_str()), shown),
-        Ok(
-            Line::Make {
-                warehouses,
-                customers,
-                items,
-            },
-        ) => make(&rt, warehouses, customers, items, shown),
-        Ok(
-            Line::Serve {
-                image,
-                workers,
-                from,
-                stats,
-            },
-        ) => serve_line(&rt, image.as_str(), workers, text_of(&from), stats),
+        Ok(line) => perform(&rt, &line, shown),
         Err(fault) => explain(&rt, &fault),
     }
 }

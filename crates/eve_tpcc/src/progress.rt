@@ -9,7 +9,7 @@ pub struct Shown {
 }
 
 impl Shown {
-    /// Shown on a terminal alone.
+    /// Shown only on a terminal.
     pub fn on(errors: &impl IsTerminal) -> Shown {
         Shown {
             is_shown: errors.is_terminal(),
@@ -54,7 +54,7 @@ impl<'a, R: Eprint + Clock> Progress<'a, R> {
         }
     }
 
-    /// Counts so many more.
+    /// Adds to the count, and shows it once a second has gone by.
     fn add(&mut self, more: u64) {
         self.count = self.count.saturating_add(more);
         if self.is_due() {
@@ -127,7 +127,7 @@ pub fn shown_batches<'a, R: Eprint + Clock, T>(
 }
 
 impl<R: Eprint + Clock, T> ShownBatches<'_, R, T> {
-    /// Counts the records of batches, which alone begin with a letter.
+    /// Counts the batches among these replies: each has one record that begins with `b`.
     fn count(&mut self, bytes: &[u8]) {
         let mut batches = 0u64;
         for byte in bytes {

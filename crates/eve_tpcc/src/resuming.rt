@@ -3,7 +3,9 @@ ghost use Rattle.std.specs.Prelude.{◌≡◌, ◌≤◌, [], IfOk, IfSome};
 ghost use Rattle.executor.specs.Stamps.{IsWithinLimits};
 ghost use Rattle.executor.specs.States.{IsSoundState};
 
+use crate::progress::Shown;
 use crate::store_file::{StoreFile, open_store};
+use crate::streams::{batches_source, image_source, reply_sink};
 use crate::{cannot_create, cannot_open, report};
 use executor::{Executor, NumbersTaken, Stamp};
 use hashers::Host;
@@ -16,6 +18,7 @@ use session::serve_on;
 use std::io::Input;
 use std::process::ExitCode;
 use std::rt::Files;
+use std::time::Clock;
 use std::{fs, io, str};
 use telling::Telling;
 use workers::Workers;
@@ -79,16 +82,18 @@ pub struct RunOptions<'a> {
     pub store: Option<&'a str>,
     /// Whether to print the stamp of the last state.
     pub at: bool,
+    /// Whether to show progress.
+    pub shown: Shown,
 }
 
 /// Runs batches from the executor's present state on, and stores the last state in a file.
 #[inline(never)]
-fn run_and_store_batches<R: Files + Print + AllocGlobal + Host, G: Observer>(
+fn run_and_store_batches<R: Files + Print + Eprint + AllocGlobal + Clock + Host, G: Observer>(
     rt: &R,
     executor: &mut Executor,
     batches: R::File,
     store: StoreFile<R::File>,
-    workers: Workers,
+    options: &RunOptions<'_>,
     observer: &G,
 ) -> Result<u64, StoredRunFault>
 where
@@ -97,17 +102,17 @@ where
     requires sound { IsSoundState executor.old.cards executor.old.present }
     requires low { 1 ≤ executor.old.present.next }
 {
-    let mut batches_source = Telling::new(Counting::new(batches));
-    let mut output = Telling::new(Counting::new(io::writer(rt)));
+    let mut batches = batches_source(rt, batches, options.shown);
+    let mut output = reply_sink(rt, io::writer(rt), options.shown);
     let mut tables = Telling::new(Counting::new(store));
     run_and_store_on(
         rt,
         rt.alloc(),
         executor,
-        &mut batches_source,
+        &mut batches,
         &mut output,
         &mut tables,
-        workers,
+        options.workers,
         observer,
     )
 }
@@ -122,7 +127,7 @@ fn is_left_whole(ran: &Result<u64, StoredRunFault>) -> bool {
 }
 
 /// Runs batches on a loaded executor, and prints the last state's stamp if asked.
-fn run_loaded<R: Files + Print + Eprint + AllocGlobal + Host, G: Observer>(
+fn run_loaded<R: Files + Print + Eprint + AllocGlobal + Clock + Host, G: Observer>(
     rt: &R,
     executor: &mut Executor,
     batches: R::File,
@@ -141,7 +146,7 @@ where
     if let Err(status) = resume(rt, executor, from) {
         return status;
     }
-    let ran = run_and_store_batches(rt, executor, batches, store, options.workers, observer);
+    let ran = run_and_store_batches(rt, executor, batches, store, options, observer);
     if options.at && is_left_whole(&ran) {
         tell(rt, &executor.stamp());
     }
@@ -167,7 +172,7 @@ fn store_of<R: Files + Eprint>(
 
 /// Runs batches on the database of an image from a stamp on, if there is one, and prints the last state's stamp if asked.
 #[inline(never)]
-fn run_unstored<R: Files + Print + Eprint + AllocGlobal + Host, G: Observer>(
+fn run_unstored<R: Files + Print + Eprint + AllocGlobal + Clock + Host, G: Observer>(
     rt: &R,
     image: R::File,
     batches: R::File,
@@ -179,15 +184,15 @@ where
     R::File: Drop,
     requires { IfSome from.now IsWithinLimits }
 {
-    let mut image_source = Telling::new(Counting::new(image));
-    let mut batches_source = Telling::new(Counting::new(batches));
-    let mut output = Telling::new(Counting::new(io::writer(rt)));
+    let mut image = image_source(rt, image, options.shown);
+    let mut batches = batches_source(rt, batches, options.shown);
+    let mut output = reply_sink(rt, io::writer(rt), options.shown);
     let resumed = run_from(
         rt,
         rt.alloc(),
-        &mut image_source,
+        &mut image,
         *from,
-        &mut batches_source,
+        &mut batches,
         &mut output,
         options.workers,
         observer,
@@ -206,7 +211,7 @@ where
 
 /// Runs batches on the database of an image, whose state has the given stamp; without one it is a state before any batch.
 #[inline(never)]
-pub fn run_resumed<R: Files + Print + Eprint + AllocGlobal + Host, G: Observer>(
+pub fn run_resumed<R: Files + Print + Eprint + AllocGlobal + Clock + Host, G: Observer>(
     rt: &R,
     options: &RunOptions<'_>,
     from: &Option<Stamp>,
@@ -227,9 +232,9 @@ where
         Ok(None) => return run_unstored(rt, image, batches, options, from, observer),
         Err(status) => return status,
     };
-    let mut image_source = Telling::new(Counting::new(image));
+    let mut image = image_source(rt, image, options.shown);
     observer.begins(Phase::Load);
-    let mut loaded = load_told(rt, rt.alloc(), &mut image_source);
+    let mut loaded = load_told(rt, rt.alloc(), &mut image);
     match &mut loaded {
         Ok(executor) => run_loaded(rt, executor, batches, store, options, from, observer),
         Err(fault) => report(rt, &StoredRunFault::Run(*fault)),
