@@ -1,20 +1,19 @@
-//! The hash tree against plain SHA-256 of the same bytes, and look-ups on pages against those in one map.
+//! The hash tree against plain SHA-256 of the same bytes, and look-ups in tables against those in one map.
 use crate::images::{Population, image, with_stocks};
 use crate::loading::made_image;
 use crate::timing::{print_ratio, print_share, since, start};
-use leaf_rows::LeafRows;
 use loader::load;
 use made_database::make;
 use merkle::Tree;
 use requests::BytesSource;
-use rollback::PointedStore;
+use row_store::{LeafPage, PointedStore};
 use sha2::{Digest, Sha256};
 use std::alloc::{AllocError, Global};
 use std::rt::Clock;
 use std::thread::Threads;
 use std::time::Duration;
 use tpcc_rows::codes::LEAVES;
-use tpcc_rows::encoding::{append_row, encode_row, enough_bytes};
+use tpcc_rows::encoding::{append_row, encode_row};
 use tpcc_rows::id::{ItemId, WarehouseId};
 use tpcc_rows::key::RowKey;
 use tpcc_rows::plain;
@@ -24,12 +23,17 @@ use tpcc_rows::row_buf::{ByteBuf, RowBuf};
 /// Runs of each measurement, of which the fastest counts.
 const ROUNDS: u32 = 20;
 
+/// As many leaves as the tree prefetches at once.
+const WINDOW: usize = 128;
+
 /// Appends the hashed bytes of a page's rows.
-pub fn push_page(page: &LeafRows, bytes: &mut Vec<u8>) -> Result<(), AllocError> {
+pub fn push_page(page: LeafPage<'_>, bytes: &mut Vec<u8>) -> Result<(), AllocError> {
     let mut buffer = RowBuf::new();
-    for (key, row) in page.as_slice() {
-        encode_row(key, row, &mut buffer);
-        bytes.extend_from_slice(buffer.as_slice())?;
+    for slot in 0..page.len() {
+        if let Some((key, row)) = page.at(slot) {
+            encode_row(&key, row, &mut buffer);
+            bytes.extend_from_slice(buffer.as_slice())?;
+        }
     }
     Ok(())
 }
@@ -43,39 +47,27 @@ fn encoded(alloc: Global, store: &PointedStore) -> Result<Vec<u8>, AllocError> {
     Ok(bytes)
 }
 
-/// Enough bytes for the rows of a page.
-fn prefetch_rows(page: &LeafRows) -> usize {
-    let mut bytes = 0usize;
-    for (_, row) in page.as_slice() {
-        bytes = bytes.saturating_add(enough_bytes(row));
-    }
-    bytes
-}
-
 /// Encodes the rows of a page as the tree does, and returns their bytes.
-fn encode_page(page: &LeafRows) -> u64 {
+fn encode_page(page: LeafPage<'_>) -> u64 {
     let mut waiting = ByteBuf::<4096>::new();
     let mut count = 0u64;
-    if waiting.room() < prefetch_rows(page) {
-        waiting.push_8(0);
-    }
-    for (key, row) in page.as_slice() {
+    for slot in 0..page.len() {
         if waiting.room() < 536 {
             count = count.wrapping_add(waiting.as_slice().len() as u64);
             waiting.clear();
         }
-        append_row(key, row, &mut waiting);
+        if let Some((key, row)) = page.at(slot) {
+            append_row(&key, row, &mut waiting);
+        }
     }
     count.wrapping_add(waiting.as_slice().len() as u64)
 }
 
-/// Prefetches the first rows of eight leaves, as the tree does.
-fn prefetch_first_rows(store: &PointedStore, first: usize) -> u64 {
+/// Prefetches the rows of a window of leaves, as the tree does.
+fn prefetch(store: &PointedStore, first: usize) -> u64 {
     let mut bytes = 0u64;
-    for leaf in first..first.saturating_add(8).min(LEAVES) {
-        if let Some((_, row)) = store.page(leaf).as_slice().first() {
-            bytes = bytes.wrapping_add(enough_bytes(row) as u64);
-        }
+    for leaf in first..first.saturating_add(WINDOW).min(LEAVES) {
+        bytes = bytes.wrapping_add(store.page(leaf).estimate() as u64);
     }
     bytes
 }
@@ -83,8 +75,8 @@ fn prefetch_first_rows(store: &PointedStore, first: usize) -> u64 {
 fn encode_all(store: &PointedStore) -> u64 {
     let mut count = 0u64;
     for leaf in 0..LEAVES {
-        if leaf % 8 == 0 {
-            count = count.wrapping_add(prefetch_first_rows(store, leaf));
+        if leaf % WINDOW == 0 {
+            count = count.wrapping_add(prefetch(store, leaf));
         }
         count = count.wrapping_add(encode_page(store.page(leaf)));
     }
@@ -107,7 +99,7 @@ fn stock_key(turn: u32) -> Option<RowKey> {
     Some(RowKey::Stock { warehouse, item })
 }
 
-fn look_up_on_pages(store: &PointedStore) -> u64 {
+fn look_up_in_tables(store: &PointedStore) -> u64 {
     let mut found = 0u64;
     for turn in 0..100_000u32 {
         if let Some(key) = stock_key(turn) {
@@ -127,10 +119,13 @@ fn look_up_in_one_map(store: &plain::RowMap) -> u64 {
     found
 }
 
-fn put_page(page: &LeafRows, rows: &mut plain::RowMap) -> Option<()> {
-    for (key, row) in page.as_slice() {
-        if fits(key, row) {
-            rows.put(*key, row.copied().ok()?).ok()?;
+fn put_page(page: LeafPage<'_>, rows: &mut plain::RowMap) -> Option<()> {
+    for slot in 0..page.len() {
+        if let Some((key, row)) = page.at(slot) {
+            let row = row.copied().ok()?;
+            if fits(&key, &row) {
+                rows.put(key, row).ok()?;
+            }
         }
     }
     Some(())
@@ -147,19 +142,19 @@ fn in_one_map(alloc: Global, store: &PointedStore) -> Option<plain::RowMap> {
 
 fn measure_look_ups<R: Clock + Eprint + AllocGlobal>(rt: &R, store: &PointedStore) -> Option<()> {
     let rows = in_one_map(rt.alloc(), store)?;
-    let (mut paged, mut alone, mut differs) = (Duration::MAX, Duration::MAX, false);
+    let (mut in_tables, mut alone, mut differs) = (Duration::MAX, Duration::MAX, false);
     for _ in 0..5 {
         let begin = start(rt);
-        let found = look_up_on_pages(store);
-        paged = paged.min(since(rt, begin));
+        let found = look_up_in_tables(store);
+        in_tables = in_tables.min(since(rt, begin));
         let begin = start(rt);
         differs = found != look_up_in_one_map(&rows) || differs;
         alone = alone.min(since(rt, begin));
     }
     print_ratio(
         rt,
-        "100,000 look-ups on pages",
-        paged,
+        "100,000 look-ups in tables",
+        in_tables,
         "those in one map",
         alone,
     );

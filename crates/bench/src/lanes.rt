@@ -1,12 +1,12 @@
 //! Four hashes at once against one at a time: the tree of a warehouse of full scale, and inner nodes alone.
 use crate::hashing::full_scale;
 use crate::timing::{print_ratio, since, start};
-use leaf_rows::LeafRows;
 use loader::load;
 use merkle::Tree;
 use merkle::hashing::{hash_leaf, join};
 use requests::BytesSource;
-use rollback::{Dirty, PointedStore};
+use rollback::Dirty;
+use row_store::{LeafPage, PointedStore};
 use sha2_lanes::{SecondBlocks, digests_of_four_nodes};
 use std::alloc::Global;
 use std::rt::Clock;
@@ -17,6 +17,7 @@ use tpcc_rows::key::RowKey;
 use tpcc_rows::row::{
     CustomerRow, DistrictNextRow, DistrictYtdRow, Row, StockRow, WarehouseRow, fits,
 };
+use tpcc_rows::row_ref::RowRef;
 
 /// Runs of each measurement, of which the fastest counts.
 const ROUNDS: u32 = 20;
@@ -37,22 +38,22 @@ fn paid(row: &CustomerRow) -> Option<Row> {
 }
 
 /// A different row; `None` for a kind that a warehouse has none of before its first order.
-fn changed(row: &Row) -> Option<Row> {
+fn changed(row: RowRef<'_>) -> Option<Row> {
     match row {
-        Row::Warehouse(row) => {
+        RowRef::Warehouse(row) => {
             let ytd = row.ytd.raised(1)?;
             Some(Row::Warehouse(WarehouseRow { ytd }))
         }
-        Row::Customer(row) => paid(row),
-        Row::Stock(row) => {
+        RowRef::Customer(row) => paid(row),
+        RowRef::Stock(row) => {
             let ytd = row.ytd.raised(1)?;
             Some(Row::Stock(StockRow { ytd, ..*row }))
         }
-        Row::DistrictYtd(row) => {
+        RowRef::DistrictYtd(row) => {
             let ytd = row.ytd.raised(1)?;
             Some(Row::DistrictYtd(DistrictYtdRow { ytd }))
         }
-        Row::DistrictNext(row) => {
+        RowRef::DistrictNext(row) => {
             let next_order = row.next_order.next()?;
             Some(Row::DistrictNext(DistrictNextRow { next_order }))
         }
@@ -61,9 +62,14 @@ fn changed(row: &Row) -> Option<Row> {
 }
 
 /// The key of a page's first row, and a different row for it.
-fn first_changed(page: &LeafRows) -> Option<(RowKey, Row)> {
-    let (key, row) = page.as_slice().first()?;
-    Some((*key, changed(row)?))
+fn first_changed(page: LeafPage<'_>) -> Option<(RowKey, Row)> {
+    if page.len() > 0 {
+        if let Some((key, row)) = page.at(0) {
+            let changed = changed(row)?;
+            return Some((key, changed));
+        }
+    }
+    None
 }
 
 /// All leaves with rows. The first row of each is changed, so that its whole text is hashed, whatever is cached.
@@ -84,7 +90,9 @@ fn hash_alone(store: &PointedStore, dirty: &Dirty) -> u64 {
     let mut mixed = 0u64;
     for leaf in 0..LEAVES {
         if dirty.has(leaf) {
-            let hash = hash_leaf(store.page(leaf));
+            let page = store.page(leaf);
+            mixed = mixed.wrapping_add(page.estimate() as u64);
+            let hash = hash_leaf(page);
             last = join(&last, &hash);
             mixed = mixed.wrapping_add(u64::from(last[0]));
         }

@@ -5,7 +5,7 @@ ghost use Rattle.merkle.specs.Nodes.{IsOfClean};
 
 use catalog::Catalog;
 use merkle::Tree;
-use rollback::PointedStore;
+use row_store::PointedStore;
 
 /// A database's cards with their digest, and its rows with their tree, whose hashes of dirty leaves may be stale.
 #[derive(Drop)]

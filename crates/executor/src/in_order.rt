@@ -13,7 +13,7 @@ use crate::sequential::executed;
 use crate::turn::{PlanInTurn, Told};
 use catalog::Catalog;
 use requests::reply::Reply;
-use rollback::PointedStore;
+use row_store::PointedStore;
 use std::thread::Threads;
 use tpcc_rows::delta::Delta;
 use tpcc_rows::id::RequestNumber;

@@ -1,29 +1,31 @@
 //! What an executor starts with: the number of the first request, and the catalog's digest, computed beside other work.
-ghost use Rattle.std.specs.Prelude.{◌≡◌, ◌≤◌, unwrap_or};
+ghost use Rattle.std.specs.Prelude.{◌≡◌, ◌≤◌, filter_map, unwrap_or};
 ghost use Rattle.catalog.specs.CardBytes.{catalog_digest};
+ghost use Rattle.row_store.specs.Slots.{filled, slots};
 ghost use Rattle.tpcc_model.specs.Serial.{history_pick, next_number};
 ghost use Rattle.tpcc_rows.specs.Limits.{IsBetween};
-ghost use Rattle.tpcc_rows.specs.Picks.{greatest, picked};
+ghost use Rattle.tpcc_rows.specs.Picks.{greatest};
 
 use crate::next_batch::LAST_NUMBER;
 use catalog::Catalog;
-use leaf_rows::LeafRows;
-use rollback::PointedStore;
+use row_store::{LeafPage, PointedStore};
 use std::num::NonZeroUsize;
 use std::thread::{self, Threads, join};
 use tpcc_rows::codes::LEAVES;
 use tpcc_rows::id::END_OF_NUMBERS;
 use tpcc_rows::key::RowKey;
 
-/// The greatest HISTORY number on a page, or 0.
-#[tactic(auto, unfolding(tpcc_rows::specs::Picks::picked))]
-fn last_on_page(page: &LeafRows) -> u64
-    ensures value { result ≡ unwrap_or (greatest (picked history_pick page.now)) 0 }
+/// The greatest HISTORY number on a leaf, or 0.
+fn last_on_page(page: LeafPage<'_>) -> u64
+    ensures value { result ≡ unwrap_or (greatest (filter_map (λ e. history_pick e.0 e.1) (filled (slots page.entry)))) 0 }
     ensures range { result ≤ LAST_NUMBER }
 {
     let mut last = 0u64;
-    for (key, _) in page.as_slice() {
-        if let RowKey::History { number } = key {
+    for slot in 0..page.len() {
+        let Some((key, _)) = page.at(slot) else {
+            continue;
+        };
+        if let RowKey::History { number } = &key {
             last = last.max(number.number());
         }
     }

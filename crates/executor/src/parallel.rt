@@ -23,7 +23,7 @@ use gather::ReplyBook;
 use mixer::{Cut, mix};
 use profiles::declare_batch;
 use requests::reply::Reply;
-use rollback::PointedStore;
+use row_store::PointedStore;
 use std::alloc::Global;
 use std::thread::Threads;
 use tpcc_rows::delta::Delta;

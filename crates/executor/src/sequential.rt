@@ -11,7 +11,7 @@ use crate::next_batch::NextBatch;
 use catalog::Catalog;
 use requests::reply::Reply;
 use requests::request::Request;
-use rollback::PointedStore;
+use row_store::PointedStore;
 use std::alloc::Global;
 use tpcc_rows::delta::Delta;
 use tpcc_rows::id::RequestNumber;

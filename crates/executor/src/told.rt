@@ -14,7 +14,7 @@ use crate::next_batch::NextBatch;
 use crate::turn::PlanInTurn;
 use catalog::Catalog;
 use profiles::declare_moving;
-use rollback::PointedStore;
+use row_store::PointedStore;
 use std::alloc::Global;
 use std::thread::Threads;
 use tpcc_rows::footprint::Footprint;

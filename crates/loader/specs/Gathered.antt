@@ -15,7 +15,7 @@ gathered (variant.AnyOrder rows) = rows
 abbrev pub gathered_database : GatheredTables → Database
 gathered_database tables = database tables.cards (gathered tables.rows)
 
--- the rows not yet on pages
+-- the rows not yet in a store
 abbrev pub unpaged : Unpaged → Rows
 unpaged (way.Sorted rows) = rows
 unpaged (way.Mapped store) = store

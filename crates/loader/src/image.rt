@@ -15,7 +15,7 @@ use image_records::fault::LoadError;
 use records::fault::ReadError;
 use records::io::Source;
 use records::slurp::slurp;
-use rollback::PointedStore;
+use row_store::PointedStore;
 use std::alloc::Global;
 use telling::{TellingSource, slurp_told};
 use tpcc_rows::memory::Memory;
@@ -39,7 +39,7 @@ fn read_text(alloc: Global, text: Vec<u8>) -> Result<(Catalog, UnpagedRows), Loa
     Ok((catalog, rows))
 }
 
-/// The cards and rows of the image that a source has left, as in `load`, but not on pages.
+/// The cards and rows of the image that a source has left, as in `load`, but not in a store.
 pub fn read_image<S: Source>(
     alloc: Global,
     source: &mut S,
@@ -130,7 +130,7 @@ pub fn load<S: Source>(alloc: Global, source: &mut S) -> Result<(Catalog, Pointe
         Ok(database) => database,
         Err(error) => return Err(error),
     };
-    match rows.on_pages(alloc) {
+    match rows.into_store(alloc) {
         Ok(store) => Ok((catalog, store)),
         Err(Memory) => Err(LoadError::Memory),
     }

@@ -16,5 +16,5 @@ pub mod unpaged;
 
 pub use gathered_tables::GatheredTables;
 pub use image::{load, read_image, read_told};
-pub use mapped_rows::on_pages;
+pub use mapped_rows::into_store;
 pub use unpaged::UnpagedRows;

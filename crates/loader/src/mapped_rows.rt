@@ -5,7 +5,7 @@ ghost use Rattle.std.specs.List.{list_all};
 ghost use Rattle.rollback.specs.Marks.{AreClean};
 ghost use Rattle.tpcc_rows.specs.RowKinds.{fits};
 
-use rollback::PointedStore;
+use row_store::PointedStore;
 use std::alloc::Global;
 use tpcc_rows::key::RowKey;
 use tpcc_rows::memory::Memory;
@@ -24,14 +24,13 @@ fn listed(alloc: Global, rows: RowMap) -> Result<Vec<(RowKey, Row)>, Memory>
     Ok(list)
 }
 
-/// The rows on their leaves' pages, all clean, without a point. They pass through a list, so that the map is freed before
-/// the pages are allocated.
-pub fn on_pages(alloc: Global, rows: RowMap) -> Result<PointedStore, Memory>
+/// The rows in a store, all leaves clean, without a point. They pass through a list, so that the map is freed before the store
+/// is allocated.
+pub fn into_store(alloc: Global, rows: RowMap) -> Result<PointedStore, Memory>
     ensures rows { IfOk result (λ store. store.rows ≡ rows) }
     ensures points { IfOk result (λ store. store.points ≡ []) }
     ensures clean { IfOk result (λ store. AreClean store.dirty) }
 {
     let list = listed(alloc, rows)?;
-    let store = pages::RowStore::from_rows(alloc, list)?;
-    Ok(PointedStore::new(alloc, store))
+    PointedStore::from_rows(alloc, list)
 }

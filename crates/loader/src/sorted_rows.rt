@@ -10,7 +10,7 @@ ghost use Rattle.tpcc_rows.specs.Places.{are_in_order};
 ghost use Rattle.tpcc_rows.specs.RowKinds.{fits};
 ghost use Rattle.tpcc_rows.specs.RowMap.{row_key_cmp};
 
-use rollback::PointedStore;
+use row_store::PointedStore;
 use std::alloc::Global;
 use std::marker::Model;
 use tpcc_rows::key::RowKey;
@@ -60,13 +60,12 @@ impl SortedRows {
         self.rows
     }
 
-    /// The rows on their leaves' pages, all clean, without a point.
-    pub(crate) fn on_pages(self, alloc: Global) -> Result<PointedStore, Memory>
+    /// The rows in a store, all leaves clean, without a point.
+    pub(crate) fn into_store(self, alloc: Global) -> Result<PointedStore, Memory>
         ensures rows { IfOk result (λ store. store.rows ≡ self) }
         ensures points { IfOk result (λ store. store.points ≡ []) }
         ensures clean { IfOk result (λ store. AreClean store.dirty) }
     {
-        let store = pages::RowStore::from_rows(alloc, self.rows)?;
-        Ok(PointedStore::new(alloc, store))
+        PointedStore::from_rows(alloc, self.rows)
     }
 }

@@ -1,4 +1,4 @@
-//! Rows that aren't on pages yet.
+//! Rows that aren't in a store yet.
 ghost use Rattle.std.specs.Prelude.{◌≡◌, [], IfErr, IfOk, Ok, OnOk, true};
 ghost use Rattle.std.specs.FinMap as map;
 ghost use Rattle.std.specs.List.{list_all};
@@ -12,12 +12,12 @@ ghost use Rattle.tpcc_rows.specs.RowKinds.{fits};
 
 use crate::gathered::Gathered;
 use crate::kind_lists::is_in_order;
-use crate::mapped_rows::on_pages;
+use crate::mapped_rows::into_store;
 use crate::sorted_rows::SortedRows;
 use catalog::Catalog;
 use image_checks::{check, check_sorted};
 use image_records::fault::LoadError;
-use rollback::PointedStore;
+use row_store::PointedStore;
 use std::alloc::Global;
 use std::marker::Model;
 use tpcc_rows::key::RowKey;
@@ -84,15 +84,15 @@ impl UnpagedRows {
         }
     }
 
-    /// The rows on their leaves' pages, all clean, without a point.
-    pub fn on_pages(self, alloc: Global) -> Result<PointedStore, Memory>
+    /// The rows in a store, all leaves clean, without a point.
+    pub fn into_store(self, alloc: Global) -> Result<PointedStore, Memory>
         ensures rows { IfOk result (λ store. store.rows ≡ self) }
         ensures points { IfOk result (λ store. store.points ≡ []) }
         ensures clean { IfOk result (λ store. AreClean store.dirty) }
     {
         match self.rows {
-            Unpaged::Sorted(rows) => rows.on_pages(alloc),
-            Unpaged::Mapped(store) => on_pages(alloc, store),
+            Unpaged::Sorted(rows) => rows.into_store(alloc),
+            Unpaged::Mapped(store) => into_store(alloc, store),
         }
     }
 }

@@ -14,7 +14,7 @@ use catalog::Catalog;
 use catalog::builder::CatalogError;
 use image_records::image_record::ImageRecord;
 use loader::GatheredTables;
-use rollback::PointedStore;
+use row_store::PointedStore;
 use std::alloc::Global;
 use tpcc_rows::id::{CustomerId, DistrictId, ItemId, WarehouseId};
 use tpcc_rows::memory::Memory;
@@ -234,5 +234,5 @@ pub fn make(
     let mut tables = GatheredTables::new(alloc)?;
     fill(alloc, &mut tables, warehouses, customers, items)?;
     let (catalog, rows) = tables.finish()?;
-    Ok((catalog, rows.on_pages(alloc)?))
+    Ok((catalog, rows.into_store(alloc)?))
 }

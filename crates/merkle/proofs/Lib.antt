@@ -5,3 +5,4 @@ pub mod Texts
 pub mod Marking
 pub mod Chunks
 pub mod NodeTexts
+pub mod PageTexts

@@ -1,6 +1,6 @@
 -- Marks of places in heap order, and the first place from one on that passes a test.
 use Rattle.std.specs.Prelude.{◌≡◌, ℕ, ◌+◌, ◌*◌, ◌<◌, ◌≤◌, Bool, true, false, ◌||◌, List}
-use Rattle.pages.specs.BitSets.{has_bit}
+use Rattle.bit_sets.specs.BitSets.{has_bit}
 
 -- whether a child of the node is marked
 abbrev pub is_above : List ℕ → ℕ → Bool

@@ -1,20 +1,20 @@
 //! Hashes of leaves and of nodes, one at a time or four at once.
 ghost use Rattle.std.specs.Prelude.{◌≡◌, ◌≤◌, ◌+◌, ◌++◌, ◌∷◌, [], ℕ, List, length};
 ghost use Rattle.std.specs.Bool.{OnFalse, OnTrue};
-ghost use Rattle.std.specs.FinMap as map;
 ghost use Rattle.sha2.specs.Sha256.{sha256};
-ghost use Rattle.merkle.specs.Hashing.{IsFed, leaf_text};
+ghost use Rattle.merkle.specs.Hashing.{IsFed, page_text};
 ghost use Rattle.tpcc_model.specs.Roots.{joined};
-ghost use Rattle.tpcc_rows.specs.Encodings.{row_bytes, rows_bytes};
+ghost use Rattle.tpcc_rows.specs.Encodings.{row_bytes};
+ghost use Rattle.tpcc_rows.specs.References.{row_of};
 
 use hashers::{LONG_BYTES, SHORT_BYTES};
-use leaf_rows::LeafRows;
+use row_store::LeafPage;
 use sha2::{Digest, Sha256};
 use sha2_lanes::digests_of_four;
-use tpcc_rows::encoding::{append_row, enough_bytes};
+use tpcc_rows::encoding::append_row;
 use tpcc_rows::key::RowKey;
-use tpcc_rows::row::Row;
 use tpcc_rows::row_buf::ByteBuf;
+use tpcc_rows::row_ref::RowRef;
 
 /// First byte of a leaf's text.
 const LEAF: u8 = 0;
@@ -65,8 +65,8 @@ impl Gathered {
         }
     }
 
-    fn push_row(&mut self, key: &RowKey, row: &Row)
-        ensures { (m : List ℕ) → IsFed self.old m → IsFed self.new (m ++ row_bytes key.now row.now) }
+    fn push_row(&mut self, key: &RowKey, row: RowRef<'_>)
+        ensures { (m : List ℕ) → IsFed self.old m → IsFed self.new (m ++ row_bytes key.now (row_of row.entry)) }
     {
         self.make_room(ROW_BYTES);
         append_row(key, row, &mut self.waiting);
@@ -100,24 +100,15 @@ impl TwoTexts {
     }
 }
 
-/// Enough bytes for a page's rows. Reading all rows first prefetches the customers' texts, which lie apart from the page, so
-/// that the encoder doesn't wait for one after the other.
-pub(crate) fn prefetch_rows(page: &LeafRows) -> usize {
-    let mut bytes = 0usize;
-    for (_, row) in page.as_slice() {
-        bytes = bytes.saturating_add(enough_bytes(row));
-    }
-    bytes
-}
-
-/// The hash of a leaf: of its rows in key order.
-pub fn hash_leaf(page: &LeafRows) -> [u8; 32]
-    ensures { result ≡ sha256 (0 ∷ rows_bytes (map.entries page.now)) }
+/// The hash of a leaf: of its rows in key order. They are best prefetched before.
+pub fn hash_leaf(page: LeafPage<'_>) -> [u8; 32]
+    ensures { result ≡ sha256 (page_text page.entry) }
 {
     let mut gathered = Gathered::of_leaf();
-    gathered.make_room(prefetch_rows(page));
-    for (key, row) in page.as_slice() {
-        gathered.push_row(key, row);
+    for slot in 0..page.len() {
+        if let Some((key, row)) = page.at(slot) {
+            gathered.push_row(&key, row);
+        }
     }
     gathered.finish()
 }
@@ -132,26 +123,28 @@ pub(crate) fn hash_no_rows() -> [u8; 32]
 }
 
 /// Writes the text of a leaf, and returns true; or leaves the buffer empty if the text may not fit.
-pub(crate) fn encode_leaf(page: &LeafRows, text: &mut ByteBuf<LEAF_BYTES>) -> bool
-    ensures whole { OnTrue result (text.new ≡ leaf_text page.now) }
+pub(crate) fn encode_leaf(page: LeafPage<'_>, text: &mut ByteBuf<LEAF_BYTES>) -> bool
+    ensures whole { OnTrue result (text.new ≡ page_text page.entry) }
     ensures empty { OnFalse result (text.new ≡ []) }
 {
     text.clear();
     text.push_8(LEAF);
-    for (key, row) in page.as_slice() {
+    for slot in 0..page.len() {
         if text.room() < ROW_BYTES {
             text.clear();
             return false;
         }
-        append_row(key, row, text);
+        if let Some((key, row)) = page.at(slot) {
+            append_row(&key, row, text);
+        }
     }
     true
 }
 
 /// The hash of a leaf: the given one, if it is of the whole text.
-fn hash_from(page: &LeafRows, is_whole: bool, hash: [u8; 32]) -> [u8; 32]
-    requires { OnTrue is_whole (hash ≡ sha256 (leaf_text page.now)) }
-    ensures { result ≡ sha256 (leaf_text page.now) }
+fn hash_from(page: LeafPage<'_>, is_whole: bool, hash: [u8; 32]) -> [u8; 32]
+    requires { OnTrue is_whole (hash ≡ sha256 (page_text page)) }
+    ensures { result ≡ sha256 (page_text page.entry) }
 {
     if is_whole { hash } else { hash_leaf(page) }
 }
@@ -160,13 +153,13 @@ fn hash_from(page: &LeafRows, is_whole: bool, hash: [u8; 32]) -> [u8; 32]
 pub(crate) fn hash_four_leaves(
     front: &mut TwoTexts,
     back: &mut TwoTexts,
-    first: &LeafRows,
-    second: &LeafRows,
-    third: &LeafRows,
-    fourth: &LeafRows,
+    first: LeafPage<'_>,
+    second: LeafPage<'_>,
+    third: LeafPage<'_>,
+    fourth: LeafPage<'_>,
 ) -> [[u8; 32]; 4]
-    ensures { result ≡ sha256 (leaf_text first.now) ∷ sha256 (leaf_text second.now) ∷ sha256 (leaf_text third.now)
-        ∷ sha256 (leaf_text fourth.now) ∷ [] }
+    ensures { result ≡ sha256 (page_text first.entry) ∷ sha256 (page_text second.entry) ∷ sha256 (page_text third.entry)
+        ∷ sha256 (page_text fourth.entry) ∷ [] }
 {
     let first_is_whole = encode_leaf(first, &mut front.first);
     let second_is_whole = encode_leaf(second, &mut front.second);

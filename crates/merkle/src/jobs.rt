@@ -1,6 +1,6 @@
 //! Jobs: places of a tree to be hashed, and their hashes.
 ghost use Rattle.std.specs.Prelude.{◌≡◌, ◌<◌, ◌≤◌, ◌+◌, ◌||◌, ℕ, List, All, cond, length, slice_index_or, vec_capacity};
-ghost use Rattle.pages.specs.BitSets.{has_bit};
+ghost use Rattle.bit_sets.specs.BitSets.{has_bit};
 ghost use Rattle.merkle.specs.Jobs.{AreHashed, IsDone, has_place};
 ghost use Rattle.merkle.specs.Marking.{is_above};
 ghost use Rattle.merkle.specs.Nodes.{at};

@@ -1,19 +1,17 @@
 //! Hashing leaves.
 ghost use Rattle.std.specs.Prelude.{◌≡◌, ◌<◌, ◌≤◌, ◌+◌, ◌∷◌, [], ℕ, All, cond, length, vec_capacity};
-ghost use Rattle.pages.specs.BitSets.{has_bit};
+ghost use Rattle.bit_sets.specs.BitSets.{has_bit};
 ghost use Rattle.merkle.specs.Jobs.{IsDone};
 ghost use Rattle.merkle.specs.Nodes.{at};
 ghost use Rattle.tpcc_model.specs.Roots.{leaf_hash};
 
-use crate::hashing::{
-    LEAF_BYTES, TwoTexts, encode_leaf, hash_four_leaves, hash_leaf, prefetch_rows,
-};
+use crate::hashing::{LEAF_BYTES, TwoTexts, encode_leaf, hash_four_leaves, hash_leaf};
 use crate::helped::{Encodes, Helped};
 use crate::jobs::{Job, gather_leaves, put_hashes};
 use crate::marks::Marks;
 use crate::places::Places;
 use crate::shares::{Context, do_jobs_on};
-use rollback::PointedStore;
+use row_store::PointedStore;
 use std::thread::Threads;
 use tpcc_rows::codes::LEAVES;
 use tpcc_rows::row_buf::ByteBuf;
@@ -43,7 +41,7 @@ impl Places for Leaves<'_> {
     }
 
     fn measure(&self, n: usize) -> usize {
-        prefetch_rows(self.store.page(n))
+        self.store.page(n).estimate()
     }
 
     #[tactic(auto, unfolding(tpcc_model::specs::Roots::leaf_hash))]
@@ -79,7 +77,7 @@ impl Encodes<LEAF_BYTES> for Leaves<'_> {
     }
 }
 
-/// Number of rows on these leaves, counted up to about `most`.
+/// Number of rows on these leaves, removed ones included, counted up to about `most`.
 fn rows_of(jobs: &[Job], store: &PointedStore, most: usize) -> usize
     requires { All (λ job. job.place < LEAVES) jobs.now }
 {

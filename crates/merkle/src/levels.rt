@@ -1,6 +1,6 @@
 //! Hashing inner nodes.
 ghost use Rattle.std.specs.Prelude.{◌≡◌, ◌<◌, ◌≤◌, ◌+◌, ◌*◌, ℕ, All, length, vec_capacity};
-ghost use Rattle.pages.specs.BitSets.{has_bit};
+ghost use Rattle.bit_sets.specs.BitSets.{has_bit};
 ghost use Rattle.sha2.specs.Sha256.{sha256};
 ghost use Rattle.merkle.specs.Jobs.{IsDone};
 ghost use Rattle.merkle.specs.Nodes.{IsJoinedFrom, IsNearlyTree, IsTree, at, join_at};

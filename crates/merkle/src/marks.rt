@@ -1,15 +1,15 @@
 //! Marks of a tree's places to be rehashed.
 ghost use Rattle.std.specs.Prelude.{◌≡◌, ◌<◌, ◌≤◌, ◌+◌, ◌∷◌, [], ℕ, IfSome, None, false};
-ghost use Rattle.std.specs.FinMap as map;
 ghost use Rattle.sha2.specs.Sha256.{sha256};
-ghost use Rattle.pages.specs.BitSets.{has_bit};
+ghost use Rattle.bit_sets.specs.BitSets.{has_bit};
 ghost use Rattle.merkle.specs.Marking.{IsNext, is_above};
+ghost use Rattle.row_store.specs.Slots.{slots};
 ghost use Rattle.rollback.specs.Marks.{is_dirty};
 ghost use Rattle.tpcc_model.specs.Roots.{leaf_hash};
 
-use leaf_rows::LeafRows;
-use pages::bits::{Bits, WORD_BITS};
-use rollback::{Dirty, PointedStore};
+use bit_sets::{Bits, WORD_BITS};
+use rollback::Dirty;
+use row_store::{LeafPage, PointedStore};
 use tpcc_rows::codes::LEAVES;
 
 /// A bit for each place in heap order: for node i bit i, for leaf n bit `LEAVES` + n.
@@ -30,13 +30,13 @@ pub(crate) fn mark_dirty(marks: &mut Marks, dirty: &Dirty)
     }
 }
 
-/// Marks a leaf if its page has rows.
-fn mark_if_filled(marks: &mut Marks, page: &LeafRows, n: usize)
+/// Marks a leaf if its page has slots.
+fn mark_if_filled(marks: &mut Marks, page: LeafPage<'_>, n: usize)
     requires { n < LEAVES }
     ensures kept { (i : ℕ) → has_bit marks.new.words i ≡ false → has_bit marks.old.words i ≡ false }
-    ensures empty { has_bit marks.new.words (LEAVES + n) ≡ false → map.entries page.now ≡ [] }
+    ensures empty { has_bit marks.new.words (LEAVES + n) ≡ false → slots page.entry ≡ [] }
 {
-    if !page.as_slice().is_empty() {
+    if page.len() > 0 {
         marks.add(LEAVES + n);
     }
 }

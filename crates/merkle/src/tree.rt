@@ -1,6 +1,6 @@
 //! The hash tree.
 ghost use Rattle.std.specs.Prelude.{◌≡◌, ◌<◌, ◌≤◌, ◌+◌, ℕ, IfOk, cond, drop, vec_capacity};
-ghost use Rattle.pages.specs.BitSets.{has_bit};
+ghost use Rattle.bit_sets.specs.BitSets.{has_bit};
 ghost use Rattle.merkle.specs.Nodes.{IsOf, IsOfClean, IsTree, at, rehashed};
 ghost use Rattle.tpcc_model.specs.Roots.{leaf_hash, root};
 ghost use Rattle.tpcc_rows.specs.RowMap.{Rows};
@@ -13,7 +13,8 @@ use crate::levels::rejoin;
 use crate::marks::{Marks, mark_dirty, mark_filled};
 use crate::shares::{Context, Task};
 use hashers::Host;
-use rollback::{Dirty, PointedStore};
+use rollback::Dirty;
+use row_store::PointedStore;
 use sha2_lanes::SecondBlocks;
 use std::alloc::Global;
 use std::marker::Model;

@@ -2,11 +2,9 @@
 #![tactic(auto)]
 
 pub mod aside;
-pub mod dirty;
 pub mod log;
 pub mod picks;
 pub mod pointed;
 pub mod roomy;
 
-pub use dirty::Dirty;
 pub use pointed::PointedTables;

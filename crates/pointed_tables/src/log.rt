@@ -5,8 +5,8 @@ ghost use Rattle.serializability.specs.Changes.{changed};
 ghost use Rattle.tpcc_rows.specs.RowKinds.{fits};
 ghost use Rattle.pointed_tables.specs.Logs.{IsLogOf, IsNoted, IsSame, KeepsOthers, undone};
 
-use crate::dirty::Dirty;
 use crate::roomy::RoomyTables;
+use rollback::Dirty;
 use std::alloc::Global;
 use std::default::MadeWith;
 use tpcc_rows::codes::leaf;

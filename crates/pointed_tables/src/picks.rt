@@ -1,76 +1,12 @@
 //! Searches among rows.
 ghost use Rattle.std.specs.Prelude.{◌≡◌};
 ghost use Rattle.std.specs.List.{filter_map};
-ghost use Rattle.tpcc_rows.specs.Picks.{greatest, larger, larger_of, least, lesser, lesser_of, new_pick, order_pick};
+ghost use Rattle.tpcc_rows.specs.Picks.{greatest, larger_of, least, lesser_of, new_pick, order_pick};
 
 use tpcc_rows::id::{CustomerId, DistrictId, OrderId, WarehouseId};
 use tpcc_rows::key::RowKey;
 use tpcc_rows::row::Row;
-
-/// The number of the new order, if it is the district's.
-fn new_pick(
-    warehouse: WarehouseId,
-    district: DistrictId,
-    key: &RowKey,
-    row: &Row,
-) -> Option<OrderId>
-    ensures { result ≡ new_pick warehouse district key.now row.now }
-{
-    match (key, row) {
-        (
-            RowKey::NewOrder {
-                warehouse: w,
-                district: d,
-                order,
-            },
-            Row::NewOrder,
-        ) if *w == warehouse && *d == district => Some(*order),
-        _ => None,
-    }
-}
-
-/// The number of the order, if it is the customer's, in the district.
-fn order_pick(
-    warehouse: WarehouseId,
-    district: DistrictId,
-    customer: CustomerId,
-    key: &RowKey,
-    row: &Row,
-) -> Option<OrderId>
-    ensures { result ≡ order_pick warehouse district customer key.now row.now }
-{
-    match (key, row) {
-        (
-            RowKey::Order {
-                warehouse: w,
-                district: d,
-                order,
-            },
-            Row::Order(row),
-        ) if *w == warehouse && *d == district && row.customer == customer => Some(*order),
-        _ => None,
-    }
-}
-
-/// The lesser of a number and another, if any.
-fn lesser(order: OrderId, other: Option<OrderId>) -> OrderId
-    ensures { result ≡ lesser order other }
-{
-    match other {
-        Some(other) => order.min(other),
-        None => order,
-    }
-}
-
-/// The greater of a number and another, if any.
-fn larger(order: OrderId, other: Option<OrderId>) -> OrderId
-    ensures { result ≡ larger order other }
-{
-    match other {
-        Some(other) => order.max(other),
-        None => order,
-    }
-}
+use tpcc_rows::searching::{larger, lesser, new_pick, order_pick};
 
 /// The least number of the district's new orders and this one, if any.
 pub(crate) fn least_new(

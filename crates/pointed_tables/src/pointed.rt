@@ -2,7 +2,7 @@
 ghost use Rattle.std.specs.Prelude.{◌≡◌, ◌<◌, ◌≤◌, ◌+◌, ◌↔◌, [], ◌∷◌, ◌++◌, take, drop, IfOk, IfSome, IsErr, None, Some, OnOk, OnErr, length, option_copied, option_map, slice_get, true};
 ghost use Rattle.std.specs.FinMap as map;
 ghost use Rattle.serializability.specs.Changes.{changed};
-ghost use Rattle.row_tables.specs.References.{row_of};
+ghost use Rattle.tpcc_rows.specs.References.{row_of};
 ghost use Rattle.tpcc_rows.specs.Changing.{IsMadeInPart, after, new_row_fits};
 ghost use Rattle.tpcc_rows.specs.Leaves.{leaf};
 ghost use Rattle.tpcc_rows.specs.Picks.{latest, oldest};
@@ -12,12 +12,10 @@ ghost use Rattle.rollback.specs.Marks.{AreClean, HasAlso, HasAlsoThose};
 ghost use Rattle.rollback.specs.Pointed.{KeepsCleanLeaves};
 ghost use Rattle.pointed_tables.specs.Logs.{IsPointed, points_of};
 
-use crate::dirty::Dirty;
 use crate::log::{Log, put_noting, remove_noting, undo_all};
 use crate::roomy::RoomyTables;
 use arrayvec::ArrayVec;
-use rollback::{NoSuchPoint, POINTS, PointsFull};
-use row_tables::row_ref::RowRef;
+use rollback::{Dirty, NoSuchPoint, POINTS, PointsFull};
 use row_tables::store::RowTables;
 use std::alloc::Global;
 use std::marker::Model;
@@ -30,6 +28,7 @@ use tpcc_rows::row::{
     CustomerRow, DistrictNextRow, DistrictYtdRow, OrderLineRow, OrderRow, Row, StockRow,
     WarehouseRow,
 };
+use tpcc_rows::row_ref::RowRef;
 
 /// Rows in tables, points to which they can go back, and the set of the leaves on which they have changed since it was last
 /// taken. A point is a log of what has changed since it was made and before the next one was.
@@ -115,6 +114,12 @@ impl PointedTables {
         ensures kind { IfSome (option_map row_of result) (λ row. fits key.now row ≡ true) }
     {
         self.store.get(key)
+    }
+
+    /// About the size of the rank's row when it is encoded, in bytes: an estimate, on which nothing relies. Computing it reads the
+    /// row, so that the next read needn't wait for memory.
+    pub fn estimate(&self, rank: u64) -> usize {
+        self.store.estimate(rank)
     }
 
     pub fn warehouse(&self, warehouse: WarehouseId) -> Option<&WarehouseRow>

@@ -2,7 +2,7 @@
 ghost use Rattle.std.specs.Prelude.{◌≡◌, ◌<◌, ◌≤◌, ◌+◌, ◌-◌, cond, IfOk, IfSome, OnErr, OnOk, None, Some, is_some, length, option_copied, option_map, false, true};
 ghost use Rattle.std.specs.FinMap as map;
 ghost use Rattle.serializability.specs.Changes.{changed};
-ghost use Rattle.row_tables.specs.References.{row_of};
+ghost use Rattle.tpcc_rows.specs.References.{row_of};
 ghost use Rattle.tpcc_rows.specs.Changing.{new_row_fits};
 ghost use Rattle.tpcc_rows.specs.Picks.{latest, oldest};
 ghost use Rattle.tpcc_rows.specs.RowKinds.{fits};
@@ -11,7 +11,6 @@ ghost use Rattle.pointed_tables.specs.Logs.{wants};
 
 use crate::aside::Aside;
 use crate::picks::{greatest_order, least_new};
-use row_tables::row_ref::RowRef;
 use row_tables::store::RowTables;
 use std::alloc::Global;
 use std::marker::Model;
@@ -22,6 +21,7 @@ use tpcc_rows::row::{
     CustomerRow, DistrictNextRow, DistrictYtdRow, OrderLineRow, OrderRow, Row, StockRow,
     WarehouseRow,
 };
+use tpcc_rows::row_ref::RowRef;
 
 /// A finite map from keys to rows, and room held for removed rows. A row whose table is refused memory when it comes back
 /// stands aside, in that room.
@@ -74,6 +74,12 @@ impl RoomyTables {
             Some(row) => Some(RowRef::of(row)),
             None => self.tables.get(key),
         }
+    }
+
+    /// About the size of the rank's row when it is encoded, in bytes: an estimate, on which nothing relies. Computing it reads the
+    /// row, so that the next read needn't wait for memory.
+    pub fn estimate(&self, rank: u64) -> usize {
+        self.tables.estimate(rank)
     }
 
     pub fn warehouse(&self, warehouse: WarehouseId) -> Option<&WarehouseRow>

@@ -11,7 +11,7 @@ use crate::earlier::{Counted, count};
 use crate::{delivery, new_order, order_status, payment, stock_level};
 use catalog::Catalog;
 use requests::request::Request;
-use rollback::PointedStore;
+use row_store::PointedStore;
 use std::alloc::Global;
 use std::thread::{self, Threads};
 use tpcc_rows::footprint::Footprint;

@@ -11,7 +11,7 @@ ghost use Rattle.tpcc_rows.specs.Limits.{between};
 
 use catalog::Catalog;
 use requests::request::Delivery;
-use rollback::PointedStore;
+use row_store::PointedStore;
 use std::alloc::Global;
 use tpcc_rows::footprint::Footprint;
 use tpcc_rows::granule::Granule;

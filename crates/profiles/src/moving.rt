@@ -9,7 +9,7 @@ use crate::asked::{Asked, is_settled};
 use crate::batch::{tell, threads_for};
 use catalog::Catalog;
 use requests::request::Request;
-use rollback::PointedStore;
+use row_store::PointedStore;
 use std::alloc::Global;
 use std::thread::Threads;
 use tpcc_rows::footprint::Footprint;

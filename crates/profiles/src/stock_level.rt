@@ -12,7 +12,7 @@ use crate::earlier::Counted;
 use crate::new_order::has_cards;
 use catalog::Catalog;
 use requests::request::{NewOrder, OrderedLine, Request, StockLevel};
-use rollback::PointedStore;
+use row_store::PointedStore;
 use std::alloc::Global;
 use tpcc_model::number::{line_number, order_id};
 use tpcc_rows::footprint::Footprint;

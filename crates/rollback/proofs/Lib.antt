@@ -1,2 +1,2 @@
+pub mod Paging
 pub mod Marking
-pub mod Pointing

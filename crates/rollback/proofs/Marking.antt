@@ -10,7 +10,7 @@ use Rattle.tpcc_rows.specs.declared.row.Row.{Row}
 use Rattle.tpcc_rows.specs.RowMap.{Rows}
 use Rattle.tpcc_rows.specs.Leaves.{leaf, page_rows}
 use Rattle.tpcc_rows.proofs.Keys.{row_key_cmp_total, exact_keys}
-use Rattle.pages.proofs.Paging.{get-page_rows, other_leaf}
+use Rattle.rollback.proofs.Paging.{get-page_rows, other_leaf}
 use Rattle.rollback.specs.Marks.{is_dirty, HasAlso}
 use Rattle.rollback.specs.Pointed.{Pointed, KeepsCleanLeaves}
 

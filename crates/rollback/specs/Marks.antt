@@ -4,10 +4,7 @@ use Rattle.std.specs.List.{list_any}
 use Rattle.std.specs.FinMap as map
 use Rattle.tpcc_rows.specs.Leaves.{leaf}
 use Rattle.tpcc_rows.specs.RowMap.{Changes}
-use Rattle.pages.specs.BitSets.{has_bit}
-use Rattle.pages.specs.declared.saved.Saved.{Saved}
-use Rattle.pages.specs.Points.{before_of}
-use Rattle.pages.specs.Saving.{has_of_leaf}
+use Rattle.bit_sets.specs.BitSets.{has_bit}
 
 -- whether the leaf is one of them
 abbrev pub is_dirty : List ℕ → ℕ → Bool
@@ -19,10 +16,6 @@ AreClean leaves = (n : ℕ) → is_dirty leaves n ≡ false
 -- the new leaves are the old ones and this one
 abbrev pub HasAlso : List ℕ → ℕ → List ℕ → Type 0
 HasAlso old leaf new = (n : ℕ) → is_dirty new n ≡ (eqb n leaf || is_dirty old n)
-
--- the new leaves are the old ones and those of which something is saved
-abbrev pub HasAlsoSaved : List ℕ → Saved → List ℕ → Type 0
-HasAlsoSaved old saved new = (n : ℕ) → is_dirty new n ≡ (has_of_leaf (before_of saved) n || is_dirty old n)
 
 -- whether one of the changes is on the leaf
 abbrev pub changes_leaf : Changes → ℕ → Bool

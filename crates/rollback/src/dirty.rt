@@ -1,10 +1,9 @@
 //! Sets of leaves.
 ghost use Rattle.std.specs.Prelude.{◌≡◌, ◌<◌, ◌≤◌, ℕ, IfSome, None, false};
-ghost use Rattle.pages.specs.BitSets.{IsFirstFrom};
-ghost use Rattle.rollback.specs.Marks.{AreClean, HasAlso, HasAlsoSaved, is_dirty};
+ghost use Rattle.bit_sets.specs.BitSets.{IsFirstFrom};
+ghost use Rattle.rollback.specs.Marks.{AreClean, HasAlso, is_dirty};
 
-use pages::Saved;
-use pages::bits::{Bits, LEAF_WORDS};
+use bit_sets::{Bits, LEAF_WORDS};
 use std::marker::Model;
 use std::mem;
 use tpcc_rows::codes::LEAVES;
@@ -25,7 +24,7 @@ impl Model for Dirty {
 
 impl Dirty {
     /// No leaves.
-    pub(crate) fn new() -> Dirty
+    pub fn new() -> Dirty
         ensures { AreClean result }
     {
         Dirty {
@@ -41,7 +40,7 @@ impl Dirty {
         self.leaves.has(leaf)
     }
 
-    /// The least leaf of the set from this one on.
+    /// The least leaf of the set that is `from` or greater.
     pub fn first_from(&self, from: usize) -> Option<usize>
         ensures some { IfSome result (λ n. (n < LEAVES) × IsFirstFrom self.now from n) }
         ensures none { result ≡ None → (n : ℕ) → from ≤ n → n < LEAVES → is_dirty self.now n ≡ false }
@@ -49,22 +48,16 @@ impl Dirty {
         self.leaves.first_from(from)
     }
 
-    pub(crate) fn add(&mut self, leaf: usize)
+    /// Inserts the leaf.
+    pub fn add(&mut self, leaf: usize)
         requires { leaf < LEAVES }
         ensures { HasAlso self.old leaf self.new }
     {
         self.leaves.add(leaf);
     }
 
-    /// The leaves of which something is saved are in the set too from now on.
-    pub(crate) fn add_saved(&mut self, saved: &Saved)
-        ensures { HasAlsoSaved self.old saved.now self.new }
-    {
-        saved.add_leaves(&mut self.leaves);
-    }
-
-    /// The set as it was; it is empty from now on.
-    pub(crate) fn take(&mut self) -> Dirty
+    /// Empties the set, and returns what it was.
+    pub fn take(&mut self) -> Dirty
         ensures taken { result ≡ self.old }
         ensures clean { AreClean self.new }
     {

@@ -1,10 +1,9 @@
-//! A store whose rows can go back to what they were at a point, and that knows on which leaves they have changed.
+//! What every store has whose rows go back to what they were at a point: the leaves on which they have changed, its points' number,
+//! and its refusals.
 #![tactic(auto)]
 
 pub mod dirty;
-pub mod pointed;
-pub mod refusal;
+pub mod points;
 
 pub use dirty::Dirty;
-pub use pointed::{POINTS, PointedStore};
-pub use refusal::{NoSuchPoint, PointsFull};
+pub use points::{NoSuchPoint, POINTS, PointsFull};

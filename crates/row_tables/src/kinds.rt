@@ -4,11 +4,10 @@ ghost use Rattle.std.specs.FinMap as map;
 ghost use Rattle.row_tables.specs.Kinds.{table_of, table_of_row};
 ghost use Rattle.row_tables.specs.LastOrders.{as_orders, order_rows};
 ghost use Rattle.row_tables.specs.NewRows.{as_rows, new_rows};
-ghost use Rattle.row_tables.specs.References.{row_of};
 ghost use Rattle.tables.specs.Shelves.{place_of};
+ghost use Rattle.tpcc_rows.specs.References.{row_of};
 ghost use Rattle.tpcc_rows.specs.declared.row.Row.TheVariants.{Customer, DistrictNext, DistrictYtd, History, NewOrder, Order, OrderLine, Stock, Warehouse};
 
-use crate::row_ref::RowRef;
 use std::alloc::Global;
 use std::marker::Model;
 use tables::shelf::Shelf;
@@ -20,6 +19,13 @@ use tpcc_rows::row::{
     CustomerRow, DistrictNextRow, DistrictYtdRow, HistoryRow, OrderLineRow, OrderRow, Row,
     StockRow, WarehouseRow,
 };
+use tpcc_rows::row_ref::RowRef;
+
+/// The size of a customer's row when it is encoded, in bytes, without its text.
+const CUSTOMER_BYTES: usize = 36;
+
+/// About the size of a row of another kind.
+const ROW_BYTES: usize = 54;
 
 /// A finite map from ranks to rows, each in its kind's table.
 #[derive(Drop)]
@@ -160,6 +166,29 @@ impl KindTables {
             9 => Some(RowRef::DistrictYtd(self.district_ytd(rank)?)),
             _ => Some(RowRef::DistrictNext(self.district_next(rank)?)),
         }
+    }
+
+    /// About the size of a customer's row.
+    fn estimate_customer(&self, rank: u64) -> usize {
+        match self.customers.get(rank) {
+            Some(row) => CUSTOMER_BYTES.wrapping_add(row.data.as_bytes().len()),
+            None => 0,
+        }
+    }
+
+    /// About the size of the rank's row when it is encoded, in bytes: an estimate, on which nothing relies. Computing it reads the
+    /// row, so that the next read needn't wait for memory.
+    pub fn estimate(&self, rank: u64) -> usize {
+        let is_at_hand = match rank / 0x0100_0000_0000_0000 {
+            3 => return self.estimate_customer(rank),
+            4 => self.stocks.touch(rank),
+            5 => self.orders.touch(rank),
+            6 => self.new_orders.touch(rank),
+            7 => self.lines.touch_near(rank, self.starts.guess(rank)),
+            8 => self.history.touch(rank),
+            _ => true,
+        };
+        if is_at_hand { ROW_BYTES } else { 0 }
     }
 
     /// The ranks of the new orders of the rank's district, in ascending order.

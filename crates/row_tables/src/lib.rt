@@ -2,5 +2,4 @@
 #![tactic(auto)]
 
 pub mod kinds;
-pub mod row_ref;
 pub mod store;

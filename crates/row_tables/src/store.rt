@@ -2,15 +2,14 @@
 ghost use Rattle.std.specs.Prelude.{◌≡◌, ◌+◌, ◌-◌, ◌<◌, ◌^◌, cond, IfOk, IfSome, None, OnErr, OnOk, is_some, length, option_and_then, option_copied, option_map, slice_get, true};
 ghost use Rattle.std.specs.FinMap as map;
 ghost use Rattle.row_tables.specs.LastOrders.{last_of};
-ghost use Rattle.row_tables.specs.References.{row_of};
 ghost use Rattle.tables.specs.Keys.{order_of};
 ghost use Rattle.tpcc_rows.specs.Changing.{new_row_fits};
 ghost use Rattle.tpcc_rows.specs.Picks.{latest, new_pick, oldest, picked};
+ghost use Rattle.tpcc_rows.specs.References.{row_of};
 ghost use Rattle.tpcc_rows.specs.RowKinds.{fits};
 ghost use Rattle.tpcc_rows.specs.Rows.{customer_row, district_next_row, district_ytd_row, order_line_row, order_row, stock_row, warehouse_row};
 
 use crate::kinds::KindTables;
-use crate::row_ref::RowRef;
 use std::alloc::Global;
 use std::marker::Model;
 use tables::keys::order_of;
@@ -25,6 +24,7 @@ use tpcc_rows::row::{
     CustomerRow, DistrictNextRow, DistrictYtdRow, OrderLineRow, OrderRow, Row, StockRow,
     WarehouseRow,
 };
+use tpcc_rows::row_ref::RowRef;
 
 /// A finite map from keys to rows, each of its key's kind and in that kind's table.
 #[derive(Drop)]
@@ -107,6 +107,12 @@ impl RowTables {
         ensures kind { IfSome (option_map row_of result) (λ row. fits key.now row ≡ true) }
     {
         self.tables.get(rank(key))
+    }
+
+    /// About the size of the rank's row when it is encoded, in bytes: an estimate, on which nothing relies. Computing it reads the
+    /// row, so that the next read needn't wait for memory.
+    pub fn estimate(&self, rank: u64) -> usize {
+        self.tables.estimate(rank)
     }
 
     pub fn warehouse(&self, warehouse: WarehouseId) -> Option<&WarehouseRow>

@@ -13,7 +13,7 @@ use Rattle.executor.specs.declared.path.Path.{Path}
 use Rattle.executor.specs.declared.record.Record.{Record}
 use Rattle.executor.specs.declared.refusal.Refusal.TheVariants as refusal
 use Rattle.requests.specs.declared.request.Batch.{Batch}
-use Rattle.rollback.specs.declared.pointed.TheConstants.{POINTS}
+use Rattle.rollback.specs.declared.points.TheConstants.{POINTS}
 use Rattle.runner.specs.Runs.{Completes, NumbersFit}
 use Rattle.runner.specs.Text.{batch_record_text, batch_text, completed_text, replies_text}
 use Rattle.tpcc_model.specs.Serial.{State}

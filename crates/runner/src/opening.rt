@@ -20,18 +20,18 @@ use image_records::LoadError;
 use loader::{UnpagedRows, read_image, read_told};
 use merkle::Tree;
 use records::io::Source;
-use rollback::PointedStore;
+use row_store::PointedStore;
 use std::alloc::Global;
 use std::thread::Threads;
 use telling::TellingSource;
 
-/// Puts the rows on pages.
-fn paged(alloc: Global, rows: UnpagedRows) -> Result<PointedStore, RunFault>
+/// Puts the rows in a store.
+fn stored(alloc: Global, rows: UnpagedRows) -> Result<PointedStore, RunFault>
     ensures rows { IfOk result (λ store. store.rows ≡ rows) }
     ensures points { IfOk result (λ store. store.points ≡ []) }
     ensures err { IfErr result (λ e. e ≡ run_fault.Load load_error.Memory) }
 {
-    match rows.on_pages(alloc) {
+    match rows.into_store(alloc) {
         Ok(store) => Ok(store),
         Err(_) => Err(RunFault::Load(LoadError::Memory)),
     }
@@ -53,7 +53,7 @@ fn boxed(
     }
 }
 
-/// Builds the tree of rows on pages.
+/// Builds the tree of a store.
 fn treed<R: Threads + Sync>(rt: &R, alloc: Global, store: &PointedStore) -> Result<Tree, RunFault>
     ensures tree { IfOk result (λ tree. IsOf tree store.now.rows) }
     ensures err { IfErr result (λ e. e ≡ run_fault.Exec refusal.Memory) }
@@ -64,7 +64,7 @@ fn treed<R: Threads + Sync>(rt: &R, alloc: Global, store: &PointedStore) -> Resu
     Ok(tree)
 }
 
-/// Puts the rows on pages, and builds their tree.
+/// Puts the rows in a store, and builds its tree.
 #[inline(never)]
 fn build<R: Threads + Sync>(
     rt: &R,
@@ -76,7 +76,7 @@ fn build<R: Threads + Sync>(
     ensures tree { IfOk result (λ built. IsOf built.value.1 built.value.0.rows) }
     ensures err { IfErr result IsRefused }
 {
-    let store = match paged(alloc, rows) {
+    let store = match stored(alloc, rows) {
         Ok(store) => store,
         Err(fault) => return Err(fault),
     };
@@ -87,7 +87,7 @@ fn build<R: Threads + Sync>(
     boxed(alloc, store, tree)
 }
 
-/// The executor of a database. If there are many cards, another thread hashes them while this one builds pages and tree.
+/// The executor of a database. If there are many cards, another thread hashes them while this one builds store and tree.
 #[inline(never)]
 fn executor_of<R: Threads + Sync>(
     rt: &R,

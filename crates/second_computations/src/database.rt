@@ -1,13 +1,12 @@
 //! Generated databases, and what batches do to them.
 use catalog::Catalog;
-use leaf_rows::LeafRows;
 use made_database::make;
 use mixer::{Cut, mix};
 use profiles::declare_batch;
 use requests::reply::Reply;
 use requests::request::{Batch, Request};
 use requests::{BatchReader, write_reply};
-use rollback::PointedStore;
+use row_store::{LeafPage, PointedStore};
 use sha2::{Digest, Sha256};
 use std::alloc::Global;
 use std::slice;
@@ -30,11 +29,13 @@ fn batch_of(alloc: Global, requests: &str) -> Option<Batch> {
 }
 
 /// Hashes the rows of a page.
-fn push_page(page: &LeafRows, hasher: &mut Sha256) {
+fn push_page(page: LeafPage<'_>, hasher: &mut Sha256) {
     let mut buffer = RowBuf::new();
-    for (key, row) in page.as_slice() {
-        encode_row(key, row, &mut buffer);
-        hasher.update(buffer.as_slice());
+    for slot in 0..page.len() {
+        if let Some((key, row)) = page.at(slot) {
+            encode_row(&key, row, &mut buffer);
+            hasher.update(buffer.as_slice());
+        }
     }
 }
 

@@ -2,7 +2,7 @@
 //! rows by key, and from the numbers that the database was generated with.
 use crate::columns::{byte, column, short, word};
 use crate::granules::{BOOK, CUSTOMER, NEXT, STOCK, Touch, WAREHOUSE, YTD, packed};
-use rollback::PointedStore;
+use row_store::PointedStore;
 use std::alloc::Global;
 use tpcc_rows::id::{DistrictId, LineNumber, OrderId, WarehouseId};
 use tpcc_rows::key::RowKey;

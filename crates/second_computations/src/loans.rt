@@ -8,6 +8,7 @@ use tpcc_rows::encoding::encode_row;
 use tpcc_rows::footprint::Footprint;
 use tpcc_rows::granule::Granule;
 use tpcc_rows::row_buf::RowBuf;
+use tpcc_rows::row_ref::RowRef;
 use transactions::{Stop, execute};
 use worker_rows::Loan;
 
@@ -15,7 +16,7 @@ fn push_changes(delta: &Delta, bytes: &mut Vec<u8>) -> Option<()> {
     let mut buffer = RowBuf::new();
     for (key, change) in delta.as_slice() {
         match change {
-            Some(row) => encode_row(key, row, &mut buffer),
+            Some(row) => encode_row(key, RowRef::of(row), &mut buffer),
             None => buffer.clear(),
         }
         bytes.extend_from_slice(buffer.as_slice()).ok()?;

@@ -3,7 +3,6 @@ use crate::drawn::{Dice, random_rows};
 use crate::printing::{print_agreeing, print_hash};
 use crate::rows::{lines_of, stored};
 use crate::second_root::{leaf_of, second_root};
-use leaf_rows::LeafRows;
 use merkle::Tree;
 use merkle::hashing::hash_leaf;
 use std::alloc::Global;
@@ -126,11 +125,8 @@ fn show_random<R: Threads + Sync + Print>(rt: &R, alloc: Global) -> Option<()> {
 }
 
 pub fn show<R: Threads + Sync + Print>(rt: &R, alloc: Global) -> Option<()> {
-    print_hash(
-        rt,
-        "hash of an empty leaf",
-        &hash_leaf(&LeafRows::new(alloc)),
-    );
+    let no_rows = stored(alloc, &[])?;
+    print_hash(rt, "hash of an empty leaf", &hash_leaf(no_rows.page(0)));
     for (name, text) in &CHOSEN {
         show_chosen(rt, alloc, name, text)?;
     }

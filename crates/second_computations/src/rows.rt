@@ -2,8 +2,7 @@
 //! they are hashed. Whether an order line is delivered is a column before the date; 0 is no carrier.
 use crate::columns::{byte, column, long, short, signed, word};
 use crate::format::code;
-use pages::RowStore;
-use rollback::PointedStore;
+use row_store::PointedStore;
 use std::alloc::Global;
 use tpcc_rows::id::{
     CustomerId, DistrictId, ItemId, LineNumber, OrderId, RequestNumber, WarehouseId,
@@ -148,7 +147,7 @@ fn row_of(alloc: Global, line: &str) -> Option<Row> {
     })
 }
 
-fn put(alloc: Global, store: &mut RowStore, line: &str) -> Option<()> {
+fn put(alloc: Global, store: &mut PointedStore, line: &str) -> Option<()> {
     let (key, row) = (key_of(line)?, row_of(alloc, line)?);
     if fits(&key, &row) {
         store.put(key, row).ok()?;
@@ -158,11 +157,11 @@ fn put(alloc: Global, store: &mut RowStore, line: &str) -> Option<()> {
 
 /// A store of the rows.
 pub fn stored(alloc: Global, lines: &[&str]) -> Option<PointedStore> {
-    let mut store = RowStore::new(alloc).ok()?;
+    let mut store = PointedStore::new(alloc).ok()?;
     for line in lines {
         put(alloc, &mut store, line)?;
     }
-    Some(PointedStore::new(alloc, store))
+    Some(store)
 }
 
 fn has_code(lines: &[&str], wanted: u64) -> bool {

@@ -12,7 +12,7 @@ use Rattle.records.specs.Io.{AppendsFront}
 use Rattle.records.specs.declared.fault.ReadError.{ReadError}
 use Rattle.requests.specs.Batches.{clean, fault}
 use Rattle.requests.specs.declared.request.Batch.{Batch}
-use Rattle.rollback.specs.declared.pointed.TheConstants.{POINTS}
+use Rattle.rollback.specs.declared.points.TheConstants.{POINTS}
 use Rattle.runner.specs.Runs.{Taken}
 use Rattle.runner.specs.Text.{batch_text}
 use Rattle.runner.proofs.RunLemmas.{then_kept}

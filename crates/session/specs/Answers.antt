@@ -12,7 +12,7 @@ use Rattle.executor.specs.States.{IsSoundState}
 use Rattle.executor.specs.declared.refusal.Refusal.{Refusal}
 use Rattle.executor.specs.declared.refusal.Refusal.TheVariants as refusal
 use Rattle.requests.specs.declared.request.Batch.{Batch}
-use Rattle.rollback.specs.declared.pointed.TheConstants.{POINTS}
+use Rattle.rollback.specs.declared.points.TheConstants.{POINTS}
 use Rattle.runner.specs.StampText.{at_text}
 use Rattle.runner.specs.Text.{batch_text}
 use Rattle.session.specs.AnswerText.{commit_text, fault_text, image_answer, refused_text, rollback_text, state_text}

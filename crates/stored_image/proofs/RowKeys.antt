@@ -1,5 +1,5 @@
--- The keys of rows with records of their own, gathered page by page, and those records.
-use Rattle.std.proofs.Common.{◌≡◌, ◌∙◌, inl, inr, ℕ, ◌+◌, List, [], ◌∷◌, cond, T, Bool, true, false, ◌&&◌, ◌||◌, eqb, ltb, Option, Some, None, refl, sym, ap, arith}
+-- The keys of rows with records of their own, gathered leaf by leaf, and those records.
+use Rattle.std.proofs.Common.{◌≡◌, ◌∙◌, inl, inr, ℕ, ◌+◌, ◌<◌, List, [], ◌∷◌, cond, T, Bool, true, false, ◌&&◌, ◌||◌, eqb, ltb, Option, Some, None, drop, get_or, length, refl, sym, ap, arith}
 use Rattle.std.specs.Prelude.{filter_map, is_some}
 use Rattle.std.specs.BTreeMap.{is_at}
 use Rattle.std.specs.BTreeSet.{BTreeSet, contains}
@@ -12,6 +12,7 @@ use Rattle.std.specs.Option.{option_and_then, option_map}
 use Rattle.std.specs.Ordering.{eq_by_cmp, is_lt}
 use Rattle.std.specs.declared.cmp.Ordering.TheVariants.{Less}
 use Rattle.std.proofs.lemmas.Bool.{cases_Bool, cases_eq, cases_lt, eq-eqb, le-ltb, lt-ltb, ne_eqb}
+use Rattle.std.proofs.lemmas.List.{at_drop_more}
 use Rattle.std.proofs.lemmas.Map.Keys.{sorted_head, sorted_tail}
 use Rattle.tpcc_rows.specs.declared.key.RowKey.{RowKey}
 use Rattle.tpcc_rows.specs.declared.key.RowKey.TheVariants as key
@@ -21,7 +22,8 @@ use Rattle.tpcc_rows.specs.RowMap.{Rows, row_key_cmp}
 use Rattle.tpcc_rows.proofs.Keys.{exact_keys, row_key_cmp_total}
 use Rattle.tpcc_rows.proofs.LeafPicks.{leaf-small}
 use Rattle.tpcc_rows.proofs.Singles.{tied}
-use Rattle.pages.proofs.Paging.{get-page_rows}
+use Rattle.rollback.proofs.Paging.{get-page_rows}
+use Rattle.row_store.specs.Slots.{filled}
 use Rattle.stored_image.specs.StoredImage.{HasAlsoAlone, row_said, rows_said, said_at, stands_alone}
 use Rattle.stored_image.specs.declared.stored_record.RowPart.{RowPart}
 use Rattle.stored_image.specs.declared.stored_record.RowPart.TheVariants as row_part
@@ -132,8 +134,13 @@ said-in_order p rows keys ordered all =
     ∙ sym (find-where_key row_key_cmp stands_alone q (λ x t. ap stands_alone (sym (exact_keys q x t))) (entries rows))) in
     said-rows_at rows p keys.keys ∙ ap (rows_said p) same ∙ said-where p (entries rows)
 
--- ---- the keys of one page
--- the keys so far and those of the rest of the page are the earlier keys and those of the whole page
+-- ---- the keys of one leaf
+-- what is filled from a slot on
+pub filled-more : (ss : List (Option (RowKey × Row))) (i : ℕ) (o : Option (RowKey × Row)) → i < length ss → o ≡ get_or ss i None
+    → filled (drop i ss) ≡ cons_option o (filled (drop (i + 1) ss))
+filled-more ss i o lt is = at_drop_more filled ss i None lt ∙ ap (λ s. cons_option s (filled (drop (i + 1) ss))) (sym is)
+
+-- the keys so far and those of the leaf's other rows are the earlier keys and those of all its rows
 pub record IsAdding (old : BTreeSet RowKey) (page left : List (RowKey × Row)) (new : BTreeSet RowKey) : Type 0 where
   pub whole : (q : RowKey) → (contains row_key_cmp new q || (stands_alone q && is_some (find row_key_cmp q left))) ≡ (contains row_key_cmp old q || (stands_alone q && is_some (find row_key_cmp q page)))
 
@@ -177,11 +184,10 @@ module _ (old : BTreeSet RowKey) (page : List (RowKey × Row)) (e : RowKey × Ro
     ];
   }
 
-pub adding-whole : (old : BTreeSet RowKey) (page : Rows) (new : BTreeSet RowKey) → IsAdding old (entries page) [] new → HasAlsoAlone old page new
-adding-whole old page new h q =
-    sym (or-false (contains row_key_cmp new q) (stands_alone q)) ∙ h.whole q ∙ ap (λ o. contains row_key_cmp old q || (stands_alone q && is_some o)) (sym (get-entries page q))
+pub adding-whole : (old : BTreeSet RowKey) (page : List (RowKey × Row)) (new : BTreeSet RowKey) → IsAdding old page [] new → HasAlsoAlone old page new
+adding-whole old page new h q = sym (or-false (contains row_key_cmp new q) (stands_alone q)) ∙ h.whole q
 
--- ---- the keys of all pages
+-- ---- the keys of all leaves
 -- the keys of rows with records of their own on the leaves below n
 pub record HasBelow (rows : Rows) (n : ℕ) (keys : BTreeSet RowKey) : Type 0 where
   pub has : (q : RowKey) → contains row_key_cmp keys q ≡ (ltb (leaf q) n && (stands_alone q && has_row rows q))
@@ -191,11 +197,11 @@ below-none rows keys empty = record {
   has = λ q. ap (list_any (is_at (row_key_cmp q))) empty ∙ sym (ap (λ b. b && (stands_alone q && has_row rows q)) (le-ltb (leaf q) 0 (omega arith)));
 }
 
-pub below-more : (rows : Rows) (n : ℕ) (old new : BTreeSet RowKey) → HasBelow rows n old → HasAlsoAlone old (page_rows rows n) new → HasBelow rows (n + 1) new
+pub below-more : (rows : Rows) (n : ℕ) (old new : BTreeSet RowKey) → HasBelow rows n old → HasAlsoAlone old (entries (page_rows rows n)) new → HasBelow rows (n + 1) new
 below-more rows n old new h more = record {
   has = λ q.
-      more q ∙ ap (λ b. b || (stands_alone q && has_row (page_rows rows n) q)) (h.has q)
-      ∙ ap (λ o. (ltb (leaf q) n && (stands_alone q && has_row rows q)) || (stands_alone q && is_some o)) (get-page_rows rows n q)
+      more q ∙ ap (λ b. b || (stands_alone q && is_some (find row_key_cmp q (entries (page_rows rows n))))) (h.has q)
+      ∙ ap (λ o. (ltb (leaf q) n && (stands_alone q && has_row rows q)) || (stands_alone q && is_some o)) (sym (get-entries (page_rows rows n) q) ∙ get-page_rows rows n q)
       ∙ by q (stands_alone q) (get rows q);
 }
   where

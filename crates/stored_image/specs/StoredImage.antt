@@ -1,5 +1,5 @@
 -- The image of a database.
-use Rattle.std.specs.Prelude.{◌≡◌, ◌&&◌, ◌||◌, Bool, true, false, ℕ, List, [], ◌∷◌, ◌++◌, map, length, filter_map, Option, Some, None, option_map}
+use Rattle.std.specs.Prelude.{◌≡◌, ◌&&◌, ◌||◌, Bool, true, false, ℕ, List, [], ◌∷◌, ◌++◌, map, length, filter_map, Option, Some, None, is_some, option_map}
 use Rattle.std.specs.Option.{option_and_then}
 use Rattle.std.specs.BTreeSet.{BTreeSet, contains}
 use Rattle.std.specs.FinMap as finmap
@@ -18,7 +18,6 @@ use Rattle.tpcc_rows.specs.declared.key.RowKey.{RowKey}
 use Rattle.tpcc_rows.specs.declared.key.RowKey.TheVariants as key
 use Rattle.tpcc_rows.specs.declared.row.Row.{Row}
 use Rattle.tpcc_rows.specs.declared.row.Row.TheVariants as row
-use Rattle.image_records.specs.Databases.{has_row}
 use Rattle.stored_image.specs.StoredRecords.{written_end, written_first, written_record}
 use Rattle.image_records.specs.declared.image_record.ImageRecord.{ImageRecord}
 use Rattle.image_records.specs.declared.image_record.ImageRecord.TheVariants as said
@@ -56,8 +55,9 @@ stands_alone (key.DistrictNext w d) = true
 stands_alone _ = false
 
 -- the new set has the old keys and those of these rows that have records of their own
-abbrev pub HasAlsoAlone : BTreeSet RowKey → Rows → BTreeSet RowKey → Type 0
-HasAlsoAlone old rows new = (k : RowKey) → contains row_key_cmp new k ≡ (contains row_key_cmp old k || (stands_alone k && has_row rows k))
+abbrev pub HasAlsoAlone : BTreeSet RowKey → List (RowKey × Row) → BTreeSet RowKey → Type 0
+HasAlsoAlone old rows new =
+    (k : RowKey) → contains row_key_cmp new k ≡ (contains row_key_cmp old k || (stands_alone k && is_some (finmap.find row_key_cmp k rows)))
 
 -- the record of a key's row in a part of an image, if it has one there
 abbrev pub said_at : RowPart → Rows → RowKey → Option ImageRecord

@@ -1,12 +1,12 @@
-//! The keys of the rows that have a record of their own, in order: pages are sorted each by itself, not all together.
+//! The keys of the rows that have a record of their own, in order: each leaf's rows are sorted, but not all together.
 ghost use Rattle.std.specs.Prelude.{◌≡◌, ◌<◌, ◌^◌, filter_map, IfOk, OnOk};
 ghost use Rattle.std.specs.BTreeSet.{btree_set_len};
 ghost use Rattle.std.specs.FinMap as finmap;
+ghost use Rattle.row_store.specs.Slots.{filled, slots};
 ghost use Rattle.stored_image.specs.StoredImage.{HasAlsoAlone, rows_said, said_at, stands_alone};
 ghost use Rattle.stored_image.specs.declared.stored_record.RowPart.{RowPart};
 
-use leaf_rows::LeafRows;
-use rollback::PointedStore;
+use row_store::{LeafPage, PointedStore};
 use std::alloc::Global;
 use std::collections::BTreeSet;
 use tpcc_rows::codes::LEAVES;
@@ -28,20 +28,22 @@ fn stands_alone(key: &RowKey) -> bool
     )
 }
 
-/// Adds the keys of a page.
-fn add_keys(keys: &mut BTreeSet<RowKey>, page: &LeafRows) -> Result<(), Memory>
-    ensures { OnOk result (HasAlsoAlone keys.old page.now keys.new) }
+/// Adds the keys of a leaf's rows.
+fn add_keys(keys: &mut BTreeSet<RowKey>, page: LeafPage<'_>) -> Result<(), Memory>
+    ensures { OnOk result (HasAlsoAlone keys.old (filled (slots page.entry)) keys.new) }
 {
-    let _rows = page.len();
-    for (key, _) in page.as_slice() {
-        if stands_alone(key) {
-            keys.insert(*key)?;
+    for slot in 0..page.len() {
+        let Some((key, _)) = page.at(slot) else {
+            continue;
+        };
+        if stands_alone(&key) {
+            keys.insert(key)?;
         }
     }
     Ok(())
 }
 
-/// Those keys, of all pages.
+/// Those keys, of all leaves.
 pub(crate) fn keys_in_order(alloc: Global, rows: &PointedStore) -> Result<BTreeSet<RowKey>, Memory>
     ensures said { IfOk result (λ keys. (part : RowPart) → filter_map (said_at part rows.now.rows) keys.keys
         ≡ rows_said part (finmap.entries rows.now.rows)) }

@@ -13,7 +13,7 @@ use catalog::Catalog;
 use catalog::card::CardKey;
 use csv::{ByteRecord, Writer};
 use records::record_writer::{record_writer, write_record, written_text};
-use rollback::PointedStore;
+use row_store::PointedStore;
 use std::alloc::Global;
 use std::collections::BTreeSet;
 use tpcc_rows::key::RowKey;

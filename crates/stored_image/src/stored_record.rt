@@ -1,10 +1,10 @@
 //! Writes the records of an image.
-ghost use Rattle.std.specs.Prelude.{◌≡◌, ◌∷◌, [], IfOk, OnOk, Some, None, if◌then◌else◌, map, option_copied, option_map};
+ghost use Rattle.std.specs.Prelude.{◌≡◌, ◌∷◌, [], IfOk, OnOk, Some, None, if◌then◌else◌, map, option_map};
 ghost use Rattle.catalog.specs.StockCards.{district_info};
 ghost use Rattle.csv.specs.Records.{fields_of, partial_of};
 ghost use Rattle.records.specs.Spelling.{AddsFields};
 ghost use Rattle.tpcc_rows.specs.Limits.{ten};
-ghost use Rattle.tpcc_rows.specs.Rows.{stock_row};
+ghost use Rattle.tpcc_rows.specs.References.{row_of};
 ghost use Rattle.stored_image.specs.StoredImage.{card_said, row_said, said_at};
 ghost use Rattle.stored_image.specs.declared.stored_record.RowPart.TheVariants as row_part;
 ghost use Rattle.stored_image.specs.StoredRecords.{credit_text, written_customer, written_district, written_district_next, written_district_ytd, written_end, written_first, written_history, written_item, written_new_order, written_order, written_order_line, written_record, written_stock, written_warehouse};
@@ -12,14 +12,15 @@ ghost use Rattle.stored_image.specs.StoredRecords.{credit_text, written_customer
 use catalog::card::{Card, Credit, CustomerCard, DistrictCard, ItemCard, StockCard, WarehouseCard};
 use csv::ByteRecord;
 use records::record_text::{push, push_number, push_number_or_dash, push_signed};
-use rollback::PointedStore;
-use tpcc_rows::id::{DistrictId, ItemId, LineNumber, OrderId, RequestNumber, WarehouseId};
+use row_store::PointedStore;
+use tpcc_rows::id::{DistrictId, LineNumber, OrderId, RequestNumber, WarehouseId};
 use tpcc_rows::key::RowKey;
 use tpcc_rows::memory::Memory;
 use tpcc_rows::row::{
-    CustomerRow, DistrictNextRow, DistrictYtdRow, HistoryRow, OrderLineRow, OrderRow, Row,
-    StockRow, WarehouseRow,
+    CustomerRow, DistrictNextRow, DistrictYtdRow, HistoryRow, OrderLineRow, OrderRow, StockRow,
+    WarehouseRow,
 };
+use tpcc_rows::row_ref::RowRef;
 
 /// Groups of rows as they follow each other in an image: unlike in key order, the districts' rows come first.
 #[derive(Clone, Copy)]
@@ -257,12 +258,6 @@ fn write_history(
     push(fields, row.data.as_bytes())
 }
 
-fn stock_row(rows: &PointedStore, warehouse: WarehouseId, item: ItemId) -> Option<&StockRow>
-    ensures { option_copied result ≡ stock_row rows.now.rows warehouse item }
-{
-    rows.get(&RowKey::Stock { warehouse, item })?.as_stock()
-}
-
 /// The record of a card, together with its row if it has one. False if that row is missing.
 pub(crate) fn card_record(
     fields: &mut ByteRecord,
@@ -284,7 +279,7 @@ pub(crate) fn card_record(
                 None => return Ok(false),
             }
         }
-        Card::Stock(card) => match stock_row(rows, card.warehouse, card.item) {
+        Card::Stock(card) => match rows.stock(card.warehouse, card.item) {
             Some(row) => write_stock(fields, card, row)?,
             None => return Ok(false),
         },
@@ -294,8 +289,12 @@ pub(crate) fn card_record(
 }
 
 /// The record of a district's row. False if the row is another kind's.
-fn district_row_record(fields: &mut ByteRecord, key: &RowKey, row: &Row) -> Result<bool, Memory>
-    ensures { IfOk result (λ said. option_map written_record (row_said row_part.Districts (key.now, row.now))
+fn district_row_record(
+    fields: &mut ByteRecord,
+    key: &RowKey,
+    row: RowRef<'_>,
+) -> Result<bool, Memory>
+    ensures { IfOk result (λ said. option_map written_record (row_said row_part.Districts (key.now, row_of row.entry))
         ≡ (if said then Some (fields_of fields.new) else None)) }
 {
     match (key, row) {
@@ -304,14 +303,14 @@ fn district_row_record(fields: &mut ByteRecord, key: &RowKey, row: &Row) -> Resu
                 warehouse,
                 district,
             },
-            Row::DistrictYtd(row),
+            RowRef::DistrictYtd(row),
         ) => write_district_ytd(fields, *warehouse, *district, row)?,
         (
             RowKey::DistrictNext {
                 warehouse,
                 district,
             },
-            Row::DistrictNext(row),
+            RowRef::DistrictNext(row),
         ) => write_district_next(fields, *warehouse, *district, row)?,
         _ => return Ok(false),
     }
@@ -319,8 +318,8 @@ fn district_row_record(fields: &mut ByteRecord, key: &RowKey, row: &Row) -> Resu
 }
 
 /// The record of an order, a new order, an order line or a history row. False if the row is another kind's.
-fn other_row_record(fields: &mut ByteRecord, key: &RowKey, row: &Row) -> Result<bool, Memory>
-    ensures { IfOk result (λ said. option_map written_record (row_said row_part.Others (key.now, row.now))
+fn other_row_record(fields: &mut ByteRecord, key: &RowKey, row: RowRef<'_>) -> Result<bool, Memory>
+    ensures { IfOk result (λ said. option_map written_record (row_said row_part.Others (key.now, row_of row.entry))
         ≡ (if said then Some (fields_of fields.new) else None)) }
 {
     match (key, row) {
@@ -330,7 +329,7 @@ fn other_row_record(fields: &mut ByteRecord, key: &RowKey, row: &Row) -> Result<
                 district,
                 order,
             },
-            Row::Order(row),
+            RowRef::Order(row),
         ) => write_order(fields, *warehouse, *district, *order, row)?,
         (
             RowKey::NewOrder {
@@ -347,9 +346,9 @@ fn other_row_record(fields: &mut ByteRecord, key: &RowKey, row: &Row) -> Result<
                 order,
                 number,
             },
-            Row::OrderLine(row),
+            RowRef::OrderLine(row),
         ) => write_order_line(fields, *warehouse, *district, *order, *number, row)?,
-        (RowKey::History { number }, Row::History(row)) => write_history(fields, *number, row)?,
+        (RowKey::History { number }, RowRef::History(row)) => write_history(fields, *number, row)?,
         _ => return Ok(false),
     }
     Ok(true)
@@ -360,9 +359,9 @@ fn row_record(
     fields: &mut ByteRecord,
     part: RowPart,
     key: &RowKey,
-    row: &Row,
+    row: RowRef<'_>,
 ) -> Result<bool, Memory>
-    ensures { IfOk result (λ said. option_map written_record (row_said part (key.now, row.now))
+    ensures { IfOk result (λ said. option_map written_record (row_said part (key.now, row_of row.entry))
         ≡ (if said then Some (fields_of fields.new) else None)) }
 {
     match part {

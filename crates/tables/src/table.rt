@@ -168,6 +168,17 @@ impl<R> Table<R> {
         found(&self.entries, rank, place)
     }
 
+    /// Whether the rank's row is found at once. This reads it, so that the next read needn't wait for memory.
+    pub fn touch(&self, rank: u64) -> bool {
+        let guess = guess(&self.entries, rank);
+        self.touch_near(rank, guess)
+    }
+
+    /// The same, with a hint at the rank's place.
+    pub fn touch_near(&self, rank: u64, place: usize) -> bool {
+        is_at(&self.entries, rank, place)
+    }
+
     /// The rows with their ranks, in ascending rank.
     pub fn as_slice(&self) -> &[(u64, R)]
         ensures { result.now ≡ map.entries self.now }

@@ -1,6 +1,7 @@
 //! The bytes of rows.
 ghost use Rattle.std.specs.Prelude.{◌≡◌, ◌≤◌, ◌+◌, ◌++◌, length};
 ghost use Rattle.tpcc_rows.specs.Encodings.{maybe_moment, row_body, row_bytes, sized};
+ghost use Rattle.tpcc_rows.specs.References.{row_of};
 ghost use Rattle.tpcc_rows.specs.declared.key.RowKey.{RowKey};
 ghost use Rattle.tpcc_rows.specs.declared.row.Row.TheVariants.{Customer, DistrictNext, DistrictYtd, History, Order, OrderLine, Stock, Warehouse};
 
@@ -8,10 +9,11 @@ use crate::codes::{code, customer_code, line_code, stock_code};
 use crate::key::RowKey;
 use crate::number::{Carrier, Moment};
 use crate::row::{
-    CustomerRow, DistrictNextRow, DistrictYtdRow, HistoryRow, OrderLineRow, OrderRow, Row,
-    StockRow, WarehouseRow,
+    CustomerRow, DistrictNextRow, DistrictYtdRow, HistoryRow, OrderLineRow, OrderRow, StockRow,
+    WarehouseRow,
 };
 use crate::row_buf::{ByteBuf, RowBuf};
+use crate::row_ref::RowRef;
 
 #[tactic(auto, using(crate::proofs::Lengths::lengths))]
 fn push_warehouse<const N: usize>(row: &WarehouseRow, out: &mut ByteBuf<N>)
@@ -132,28 +134,28 @@ fn push_history<const N: usize>(row: &HistoryRow, out: &mut ByteBuf<N>)
     out.push_short(data);
 }
 
-fn push_row<const N: usize>(row: &Row, out: &mut ByteBuf<N>)
+fn push_row<const N: usize>(row: RowRef<'_>, out: &mut ByteBuf<N>)
     requires { length out.old + 528 ≤ N }
-    ensures { out.new ≡ out.old ++ sized (row_body row.now) }
+    ensures { out.new ≡ out.old ++ sized (row_body (row_of row.entry)) }
 {
     match row {
-        Row::Warehouse(row) => push_warehouse(row, out),
-        Row::Customer(row) => push_customer(row, out),
-        Row::Stock(row) => push_stock(row, out),
-        Row::Order(row) => push_order(row, out),
-        Row::NewOrder => out.push_16(0),
-        Row::OrderLine(row) => push_order_line(row, out),
-        Row::History(row) => push_history(row, out),
-        Row::DistrictYtd(row) => push_district_ytd(row, out),
-        Row::DistrictNext(row) => push_district_next(row, out),
+        RowRef::Warehouse(row) => push_warehouse(row, out),
+        RowRef::Customer(row) => push_customer(row, out),
+        RowRef::Stock(row) => push_stock(row, out),
+        RowRef::Order(row) => push_order(row, out),
+        RowRef::NewOrder => out.push_16(0),
+        RowRef::OrderLine(row) => push_order_line(row, out),
+        RowRef::History(row) => push_history(row, out),
+        RowRef::DistrictYtd(row) => push_district_ytd(row, out),
+        RowRef::DistrictNext(row) => push_district_next(row, out),
     }
 }
 
 #[inline(never)]
 #[tactic(auto, unfolding(crate::specs::Encodings::row_bytes))]
-fn append_any<const N: usize>(key: &RowKey, row: &Row, out: &mut ByteBuf<N>)
+fn append_any<const N: usize>(key: &RowKey, row: RowRef<'_>, out: &mut ByteBuf<N>)
     requires { length out.old + 536 ≤ N }
-    ensures { out.new ≡ out.old ++ row_bytes key.now row.now }
+    ensures { out.new ≡ out.old ++ row_bytes key.now (row_of row.entry) }
 {
     out.push_64(code(key));
     push_row(row, out);
@@ -161,9 +163,9 @@ fn append_any<const N: usize>(key: &RowKey, row: &Row, out: &mut ByteBuf<N>)
 
 #[inline(never)]
 #[tactic(auto, unfolding(crate::specs::Encodings::row_bytes))]
-fn append_customer_or_any<const N: usize>(key: &RowKey, row: &Row, out: &mut ByteBuf<N>)
+fn append_customer_or_any<const N: usize>(key: &RowKey, row: RowRef<'_>, out: &mut ByteBuf<N>)
     requires { length out.old + 536 ≤ N }
-    ensures { out.new ≡ out.old ++ row_bytes key.now row.now }
+    ensures { out.new ≡ out.old ++ row_bytes key.now (row_of row.entry) }
 {
     match (key, row) {
         (
@@ -172,7 +174,7 @@ fn append_customer_or_any<const N: usize>(key: &RowKey, row: &Row, out: &mut Byt
                 district,
                 customer,
             },
-            Row::Customer(row),
+            RowRef::Customer(row),
         ) => {
             out.push_64(customer_code(*warehouse, *district, *customer));
             push_customer(row, out);
@@ -184,9 +186,9 @@ fn append_customer_or_any<const N: usize>(key: &RowKey, row: &Row, out: &mut Byt
 /// Appends the bytes of a row. The three commonest kinds are told apart by comparisons, the key's kind first, which the
 /// processor predicts; a jump table would wait for the row to come from memory.
 #[tactic(auto, unfolding(crate::specs::Encodings::row_bytes))]
-pub fn append_row<const N: usize>(key: &RowKey, row: &Row, out: &mut ByteBuf<N>)
+pub fn append_row<const N: usize>(key: &RowKey, row: RowRef<'_>, out: &mut ByteBuf<N>)
     requires { length out.old + 536 ≤ N }
-    ensures { out.new ≡ out.old ++ row_bytes key.now row.now }
+    ensures { out.new ≡ out.old ++ row_bytes key.now (row_of row.entry) }
 {
     match (key, row) {
         (
@@ -196,12 +198,12 @@ pub fn append_row<const N: usize>(key: &RowKey, row: &Row, out: &mut ByteBuf<N>)
                 order,
                 number,
             },
-            Row::OrderLine(row),
+            RowRef::OrderLine(row),
         ) => {
             out.push_64(line_code(*warehouse, *district, *order, *number));
             push_order_line(row, out);
         }
-        (RowKey::Stock { warehouse, item }, Row::Stock(row)) => {
+        (RowKey::Stock { warehouse, item }, RowRef::Stock(row)) => {
             out.push_64(stock_code(*warehouse, *item));
             push_stock(row, out);
         }
@@ -210,8 +212,8 @@ pub fn append_row<const N: usize>(key: &RowKey, row: &Row, out: &mut ByteBuf<N>)
 }
 
 /// Replaces the buffer's content by the bytes of a row.
-pub fn encode_row(key: &RowKey, row: &Row, out: &mut RowBuf)
-    ensures { out.new ≡ row_bytes key.now row.now }
+pub fn encode_row(key: &RowKey, row: RowRef<'_>, out: &mut RowBuf)
+    ensures { out.new ≡ row_bytes key.now (row_of row.entry) }
 {
     out.clear();
     append_row(key, row, out);
@@ -219,14 +221,14 @@ pub fn encode_row(key: &RowKey, row: &Row, out: &mut RowBuf)
 
 /// Enough bytes for a row, whatever its key; exact for customers, whose texts are long.
 #[tactic(auto, using(crate::proofs::Lengths::lengths), unfolding(crate::specs::Encodings::row_bytes))]
-pub fn enough_bytes(row: &Row) -> usize
-    ensures enough { (k : RowKey) → length (row_bytes k row.now) ≤ result }
+pub fn enough_bytes(row: RowRef<'_>) -> usize
+    ensures enough { (k : RowKey) → length (row_bytes k (row_of row.entry)) ≤ result }
     ensures small { result ≤ 536 }
 {
     match row {
-        Row::Customer(row) => 36 + row.data.as_bytes().len(),
-        Row::OrderLine(row) => 30 + row.district_info.capacity(),
-        Row::History(row) => 30 + row.data.capacity(),
+        RowRef::Customer(row) => 36 + row.data.as_bytes().len(),
+        RowRef::OrderLine(row) => 30 + row.district_info.capacity(),
+        RowRef::History(row) => 30 + row.data.capacity(),
         _ => 54,
     }
 }

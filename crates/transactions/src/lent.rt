@@ -12,7 +12,8 @@ use tpcc_rows::delta::Delta;
 use tpcc_rows::granule::Granule;
 use tpcc_rows::id::{CustomerId, DistrictId, ItemId, OrderId, WarehouseId};
 use tpcc_rows::key::RowKey;
-use tpcc_rows::row::{CustomerRow, DistrictNextRow, Row, StockRow};
+use tpcc_rows::row::{CustomerRow, DistrictNextRow, StockRow};
+use tpcc_rows::row_ref::RowRef;
 use worker_rows::{KeyedRows, RowView, Strayed};
 
 /// The rows that a view lends. One that may not be read looks as if it weren't there.
@@ -25,7 +26,7 @@ impl<V: RowView> KeyedRows for Lent<'_, V> {
     ghost rows = { λ l. lent (V.sees l.view.now) };
 
     #[tactic(auto, using(crate::proofs::Lending::lent_row, crate::proofs::Lending::no_row_lent))]
-    fn row(&self, key: &RowKey) -> Option<&Row> {
+    fn row(&self, key: &RowKey) -> Option<RowRef<'_>> {
         match self.view.read(key) {
             Ok(row) => row,
             Err(Strayed) => None,
@@ -44,9 +45,10 @@ impl<V: RowView> KeyedRows for Seen<'_, V> {
     ghost rows = { λ s. after (lent (V.sees s.lent.view.now)) s.changes.now };
 
     #[tactic(auto, using(tpcc_rows::proofs::Changes::seen))]
-    fn row(&self, key: &RowKey) -> Option<&Row> {
+    fn row(&self, key: &RowKey) -> Option<RowRef<'_>> {
         match self.changes.get(key) {
-            Some(change) => change.as_ref(),
+            Some(Some(row)) => Some(RowRef::of(row)),
+            Some(None) => None,
             None => self.lent.row(key),
         }
     }

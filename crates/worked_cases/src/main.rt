@@ -58,8 +58,8 @@ mod runs;
 mod script;
 mod sessions;
 mod stored_runs;
-mod tables;
 mod text;
+mod tried;
 
 use crate::files::read;
 use crate::refused_growths::show_refused_growths;

@@ -7,7 +7,7 @@ use profiles::declare_batch;
 use requests::reply::Reply;
 use requests::request::{Batch, Request};
 use requests::{BatchReader, write_reply};
-use rollback::PointedStore;
+use row_store::PointedStore;
 use std::alloc::Global;
 use std::thread::Threads;
 use tpcc_rows::delta::Delta;

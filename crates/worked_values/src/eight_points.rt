@@ -2,7 +2,8 @@
 //! with the later ones.
 use crate::points::{OTHER, both_rows, show_dirty, show_no_point, show_rows};
 use crate::rows::{Change, Columns, apply};
-use rollback::{POINTS, PointedStore};
+use rollback::POINTS;
+use row_store::PointedStore;
 use std::alloc::Global;
 
 /// What is changed before each mark: the warehouse's sum, or whether the district has a row.

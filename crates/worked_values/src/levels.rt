@@ -10,7 +10,7 @@ use crate::database::{Database, batch_of};
 use crate::gates::{CountingGate, MeetingGate, StrayGate};
 use requests::request::Batch;
 use requests::write_reply;
-use rollback::PointedStore;
+use row_store::PointedStore;
 use std::alloc::Global;
 use std::thread;
 use std::thread::Threads;

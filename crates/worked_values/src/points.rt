@@ -1,7 +1,9 @@
 //! Marks, changes and goings back on a warehouse's row, whose sum is 500 at first, and a district's next order. Their leaves were
 //! worked out apart, from the codes' format.
-use crate::rows::{Change, Columns, apply, next_of, number_of, put_all, store_of, ytd_of};
-use rollback::PointedStore;
+use crate::rows::{
+    Change, Columns, apply, count_rows, next_of, number_of, put_all, store_of, ytd_of,
+};
+use row_store::PointedStore;
 use std::alloc::Global;
 use tpcc_rows::id::{CustomerId, DistrictId, WarehouseId};
 
@@ -74,7 +76,7 @@ fn show_kinds(rt: &impl Print, store: &PointedStore) -> Option<()> {
 fn show_removed(rt: &impl Print, alloc: Global, store: &mut PointedStore) -> Option<()> {
     let key = Columns::Warehouse(1, 0).key(alloc)?;
     let removed = store.remove(&key).ok()??.as_warehouse().is_some();
-    let left = store.page(DISTRICT_LEAF).len();
+    let left = count_rows(store.page(DISTRICT_LEAF));
     let _ = println!(rt; "removed a warehouse: {removed}, rows of the district's leaf: {left}");
     Some(())
 }

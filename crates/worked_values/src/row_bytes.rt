@@ -1,7 +1,7 @@
 //! Rows of each kind as bytes, and changes of rows.
 use crate::printing::print_bytes;
 use crate::rows::{Change, Columns, Pair, Sold, apply, number_of, store_of, ytd_of};
-use rollback::PointedStore;
+use row_store::PointedStore;
 use std::alloc::Global;
 use tpcc_rows::codes::leaf;
 use tpcc_rows::encoding::encode_row;
@@ -10,6 +10,7 @@ use tpcc_rows::key::RowKey;
 use tpcc_rows::plain::RowMap;
 use tpcc_rows::row::{Row, fits};
 use tpcc_rows::row_buf::RowBuf;
+use tpcc_rows::row_ref::RowRef;
 
 const GREATEST_DATA: &[u8] = &[b'x'; 500];
 
@@ -94,7 +95,7 @@ const ROWS: [(&str, Columns); 13] = [
 /// The row's leaf, and its bytes.
 fn show_row(rt: &impl Print, name: &str, key: &RowKey, row: &Row) {
     let mut bytes = RowBuf::new();
-    encode_row(key, row, &mut bytes);
+    encode_row(key, RowRef::of(row), &mut bytes);
     let _ = println!(rt; "leaf of {name}: {}", leaf(key));
     print_bytes(rt, name, bytes.as_slice());
 }
@@ -145,7 +146,7 @@ const ORDERS: [Columns; 8] = [
 ];
 
 /// Puts rows into a plain store.
-pub fn put_plain(alloc: Global, store: &mut RowMap, rows: &[Columns]) -> Option<()> {
+fn put_plain(alloc: Global, store: &mut RowMap, rows: &[Columns]) -> Option<()> {
     for columns in rows {
         put(store, columns.row(alloc)?)?;
     }

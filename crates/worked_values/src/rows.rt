@@ -1,6 +1,5 @@
 //! Rows of every kind, out of plain values.
-use pages::RowStore;
-use rollback::PointedStore;
+use row_store::{LeafPage, PointedStore};
 use std::alloc::Global;
 use tpcc_rows::delta::Delta;
 use tpcc_rows::id::{
@@ -269,7 +268,7 @@ pub fn put_all(alloc: Global, store: &mut PointedStore, rows: &[Columns]) -> Opt
 
 /// A store with points that has these rows, and no point.
 pub fn store_of(alloc: Global, rows: &[Columns]) -> Option<PointedStore> {
-    let mut store = PointedStore::new(alloc, RowStore::new(alloc).ok()?);
+    let mut store = PointedStore::new(alloc).ok()?;
     put_all(alloc, &mut store, rows)?;
     Some(store)
 }
@@ -309,6 +308,17 @@ pub fn apply(alloc: Global, store: &mut PointedStore, changes: &[Change]) -> Opt
 }
 
 // ---- rows that are shown
+
+/// The number of a leaf's rows.
+pub fn count_rows(page: LeafPage<'_>) -> usize {
+    let mut count = 0usize;
+    for slot in 0..page.len() {
+        if page.at(slot).is_some() {
+            count = count.saturating_add(1);
+        }
+    }
+    count
+}
 
 /// W_YTD in cents.
 pub fn ytd_of(row: Option<&WarehouseRow>) -> Option<i64> {

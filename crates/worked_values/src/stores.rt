@@ -1,12 +1,9 @@
-//! Stores of pages, with rows of each kind, seven of them on one leaf.
-use crate::row_bytes::put_plain;
-use crate::rows::{Columns, Pair, Sold, next_of, number_of, ytd_of};
-use leaf_rows::LeafRows;
-use pages::RowStore;
+//! A store with rows of each kind, seven of them on one leaf; and the orders of a district in tables.
+use crate::rows::{Columns, Pair, Sold, count_rows, next_of, number_of, put_all, ytd_of};
+use row_store::{LeafPage, PointedStore};
+use row_tables::store::RowTables;
 use std::alloc::Global;
-use std::collections::BTreeSet;
-use tpcc_rows::id::{CustomerId, DistrictId, OrderId, WarehouseId};
-use tpcc_rows::plain;
+use tpcc_rows::id::{CustomerId, DistrictId, WarehouseId};
 use tpcc_rows::row::fits;
 
 /// The leaf of the first seven rows.
@@ -50,52 +47,29 @@ const ROWS: [Columns; 21] = [
     Columns::Line((2, 3), 3, 3, SOLD),
 ];
 
-fn put(store: &mut RowStore, pair: Pair) -> Option<()> {
-    let (key, row) = pair;
-    if fits(&key, &row) {
-        store.put(key, row).ok()?;
-    }
-    Some(())
-}
-
-fn put_all(alloc: Global, store: &mut RowStore, rows: &[Columns]) -> Option<()> {
-    for columns in rows {
-        put(store, columns.row(alloc)?)?;
-    }
-    Some(())
-}
-
-fn show_moved(rt: &impl Print, alloc: Global, plain: plain::RowMap) -> Option<()> {
-    let count = plain.len();
-    let moved = RowStore::from_plain(alloc, plain).ok()?;
-    let _ = println!(rt;
-        "rows of a plain store: {count}, moved to pages: {}",
-        moved.len()
-    );
-    Some(())
-}
-
 /// Whether a page's rows have the keys of the first of these rows, in their order.
-fn is_in_order(alloc: Global, page: &LeafRows, rows: &[Columns]) -> Option<bool> {
+fn is_in_order(alloc: Global, page: LeafPage<'_>, rows: &[Columns]) -> Option<bool> {
     let mut rest = rows.iter();
-    for (key, _) in page.as_slice() {
-        if rest.next()?.key(alloc)? != *key {
-            return Some(false);
+    for slot in 0..page.len() {
+        if let Some((key, _)) = page.at(slot) {
+            if rest.next()?.key(alloc)? != key {
+                return Some(false);
+            }
         }
     }
     Some(true)
 }
 
-fn show_page(rt: &impl Print, alloc: Global, page: &LeafRows) -> Option<()> {
+fn show_page(rt: &impl Print, alloc: Global, page: LeafPage<'_>) -> Option<()> {
     let is_in_order = is_in_order(alloc, page, &ROWS)?;
     let _ = println!(rt;
         "rows of a leaf: {}, in key order: {is_in_order}",
-        page.len()
+        count_rows(page)
     );
     Some(())
 }
 
-fn show_kinds(rt: &impl Print, store: &RowStore) -> Option<()> {
+fn show_kinds(rt: &impl Print, store: &PointedStore) -> Option<()> {
     let (warehouse, district) = (WarehouseId::new(2)?, DistrictId::new(2)?);
     let customer = CustomerId::new(1)?;
     let ytd = ytd_of(store.warehouse(warehouse));
@@ -109,23 +83,15 @@ fn show_kinds(rt: &impl Print, store: &RowStore) -> Option<()> {
 }
 
 /// The customer's row is removed, asked for, and removed again.
-fn show_removed(rt: &impl Print, alloc: Global, store: &mut RowStore) -> Option<()> {
+fn show_removed(rt: &impl Print, alloc: Global, store: &mut PointedStore) -> Option<()> {
     let key = CUSTOMER.key(alloc)?;
-    let is_customer = store.remove(&key)?.as_customer().is_some();
-    let is_gone = store.get(&key).is_none() && store.remove(&key).is_none();
-    let left = store.page(LEAF).len();
+    let is_customer = store.remove(&key).ok()??.as_customer().is_some();
+    let is_gone = store.get(&key).is_none() && store.remove(&key).ok()?.is_none();
+    let left = count_rows(store.page(LEAF));
     let _ = println!(rt;
         "removed a customer: {is_customer}, it is gone: {is_gone}, rows of its leaf: {left}"
     );
     Some(())
-}
-
-fn show_copy(rt: &impl Print, store: &RowStore, copy: &RowStore) {
-    let (left, kept) = (store.page(LEAF).len(), copy.page(LEAF).len());
-    let _ = println!(rt;
-        "rows of the leaf after a removal: {left}, in a copy that was made before: {kept} of {}",
-        copy.len()
-    );
 }
 
 /// One order put twice, the second time with another customer.
@@ -143,64 +109,67 @@ const MORE_ORDERS: [Columns; 5] = [
     Columns::NewOrder((1, 1), 3),
 ];
 
-fn print_numbers(rt: &impl Print, what: &str, numbers: Option<&BTreeSet<OrderId>>) {
-    let _ = print!(rt; "{what}:");
-    if let Some(numbers) = numbers {
-        for number in numbers.iter() {
-            let _ = print!(rt; " {}", number.number());
+fn put(store: &mut RowTables, pair: Pair) -> Option<()> {
+    let (key, row) = pair;
+    if fits(&key, &row) {
+        store.put(key, row).ok()?;
+    }
+    Some(())
+}
+
+fn put_in_tables(alloc: Global, store: &mut RowTables, rows: &[Columns]) -> Option<()> {
+    for columns in rows {
+        put(store, columns.row(alloc)?)?;
+    }
+    Some(())
+}
+
+/// Prints the numbers of the district's first three new orders.
+fn print_new_orders(
+    rt: &impl Print,
+    store: &RowTables,
+    warehouse: WarehouseId,
+    district: DistrictId,
+) {
+    let _ = print!(rt; "new orders:");
+    for n in 0..3 {
+        if let Some(order) = store.nth_new_order(warehouse, district, n) {
+            let _ = print!(rt; " {}", order.number());
         }
     }
     let _ = println!(rt; "");
 }
 
-/// The last orders of two customers, all their orders, and the new orders.
-fn show_orders(rt: &impl Print, what: &str, store: &RowStore) -> Option<()> {
+/// The last orders of two customers, and the new orders.
+fn show_orders(rt: &impl Print, what: &str, store: &RowTables) -> Option<()> {
     let (warehouse, district) = (WarehouseId::new(1)?, DistrictId::new(1)?);
     let (one, two) = (CustomerId::new(1)?, CustomerId::new(2)?);
     let last_of_one = number_of(store.last_order(warehouse, district, one));
     let last_of_two = number_of(store.last_order(warehouse, district, two));
     let _ = println!(rt; "last orders {what}: {last_of_one:?} {last_of_two:?}");
-    let numbers = store.order_numbers(warehouse, district, one);
-    print_numbers(rt, "orders of the first customer", numbers);
-    let numbers = store.order_numbers(warehouse, district, two);
-    print_numbers(rt, "orders of the second customer", numbers);
-    print_numbers(rt, "new orders", store.open_numbers(warehouse, district));
+    print_new_orders(rt, store, warehouse, district);
     Some(())
 }
 
-fn show_indexes(rt: &impl Print, alloc: Global, store: &mut RowStore) -> Option<()> {
-    put_all(alloc, store, &ANOTHER_CUSTOMER)?;
+fn show_numbers(rt: &impl Print, alloc: Global, store: &mut RowTables) -> Option<()> {
+    put_in_tables(alloc, store, &ANOTHER_CUSTOMER)?;
     show_orders(rt, "after an order's customer changed", store)?;
-    put_all(alloc, store, &MORE_ORDERS)?;
+    put_in_tables(alloc, store, &MORE_ORDERS)?;
     show_orders(rt, "after more orders", store)?;
-    let _ = store.remove(&MORE_ORDERS[0].key(alloc)?);
+    let _ = store.remove(&MORE_ORDERS[2].key(alloc)?);
     let _ = store.remove(&MORE_ORDERS[4].key(alloc)?);
     show_orders(rt, "after an order and a new order were removed", store)
 }
 
-fn show_plain(rt: &impl Print, alloc: Global) -> Option<()> {
-    let mut plain = plain::RowMap::new(alloc);
-    put_plain(alloc, &mut plain, &ROWS)?;
-    show_moved(rt, alloc, plain)
-}
-
-fn show_removal(rt: &impl Print, alloc: Global, store: &mut RowStore) -> Option<()> {
-    let copy = store.copied(alloc).ok()?;
-    show_removed(rt, alloc, store)?;
-    show_copy(rt, store, &copy);
-    Some(())
-}
-
-fn show_store(rt: &impl Print, alloc: Global, store: &mut RowStore) -> Option<()> {
+fn show_store(rt: &impl Print, alloc: Global, store: &mut PointedStore) -> Option<()> {
     put_all(alloc, store, &ROWS)?;
     let _ = println!(rt; "rows of pages: {}", store.len());
     show_page(rt, alloc, store.page(LEAF))?;
     show_kinds(rt, store)?;
-    show_removal(rt, alloc, store)
+    show_removed(rt, alloc, store)
 }
 
 pub fn show(rt: &impl Print, alloc: Global) -> Option<()> {
-    show_plain(rt, alloc)?;
-    show_store(rt, alloc, &mut RowStore::new(alloc).ok()?)?;
-    show_indexes(rt, alloc, &mut RowStore::new(alloc).ok()?)
+    show_store(rt, alloc, &mut PointedStore::new(alloc).ok()?)?;
+    show_numbers(rt, alloc, &mut RowTables::new(alloc).ok()?)
 }

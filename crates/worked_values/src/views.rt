@@ -2,7 +2,7 @@
 //! a row of HISTORY.
 use crate::granules::{book, district_next};
 use crate::rows::{Columns, number_of, store_of};
-use rollback::PointedStore;
+use row_store::PointedStore;
 use std::alloc::Global;
 use tpcc_rows::footprint::Footprint;
 use tpcc_rows::id::{CustomerId, DistrictId, OrderId, WarehouseId};

@@ -1,16 +1,17 @@
 //! Rows by their keys, each as its table has it.
-ghost use Rattle.std.specs.Prelude.{◌≡◌, option_copied};
+ghost use Rattle.std.specs.Prelude.{◌≡◌, option_copied, option_map};
 ghost use Rattle.std.specs.FinMap as map;
+ghost use Rattle.tpcc_rows.specs.References.{row_of};
 ghost use Rattle.tpcc_rows.specs.RowMap.{Rows};
 ghost use Rattle.tpcc_rows.specs.Rows.{customer_row, district_next_row, district_ytd_row, order_line_row, order_row, stock_row, warehouse_row};
 
-use rollback::PointedStore;
+use row_store::PointedStore;
 use tpcc_rows::id::{CustomerId, DistrictId, ItemId, LineNumber, OrderId, WarehouseId};
 use tpcc_rows::key::RowKey;
 use tpcc_rows::row::{
-    CustomerRow, DistrictNextRow, DistrictYtdRow, OrderLineRow, OrderRow, Row, StockRow,
-    WarehouseRow,
+    CustomerRow, DistrictNextRow, DistrictYtdRow, OrderLineRow, OrderRow, StockRow, WarehouseRow,
 };
+use tpcc_rows::row_ref::RowRef;
 
 /// What has a row, or none, for each key.
 pub trait KeyedRows {
@@ -18,14 +19,14 @@ pub trait KeyedRows {
     ghost rows: { Self → Rows };
 
     /// The row of the key, if there is one.
-    fn row(&self, key: &RowKey) -> Option<&Row>
-        ensures { option_copied result ≡ map.get (rows self.now) key.now };
+    fn row(&self, key: &RowKey) -> Option<RowRef<'_>>
+        ensures { option_map row_of result ≡ map.get (rows self.now) key.now };
 }
 
 impl KeyedRows for PointedStore {
     ghost rows = { λ store. store.rows };
 
-    fn row(&self, key: &RowKey) -> Option<&Row> {
+    fn row(&self, key: &RowKey) -> Option<RowRef<'_>> {
         self.get(key)
     }
 }

@@ -4,12 +4,12 @@ ghost use Rattle.std.specs.List.{list_any};
 ghost use Rattle.tpcc_rows.specs.Granules.{same_granule};
 
 use crate::view::{RowView, Strayed};
-use rollback::PointedStore;
+use row_store::PointedStore;
 use tpcc_rows::footprint::{Footprint, is_among};
 use tpcc_rows::granule::{Granule, granule_of};
 use tpcc_rows::id::{CustomerId, DistrictId, OrderId, WarehouseId};
 use tpcc_rows::key::RowKey;
-use tpcc_rows::row::Row;
+use tpcc_rows::row_ref::RowRef;
 
 /// The rows of a store as a footprint lends them: what it doesn't name may not be read or written, and so no row of
 /// HISTORY, which no footprint can name.
@@ -39,7 +39,7 @@ impl Loan<'_> {
 impl RowView for Loan<'_> {
     ghost sees = { λ l. record { rows = l.store.now.rows; bounds = Some l.footprint.now } };
 
-    fn read(&self, key: &RowKey) -> Result<Option<&Row>, Strayed> {
+    fn read(&self, key: &RowKey) -> Result<Option<RowRef<'_>>, Strayed> {
         match granule_of(key) {
             Some(granule) if self.may_read(&granule) => Ok(self.store.get(key)),
             _ => Err(Strayed),

@@ -1,14 +1,15 @@
 //! What a transaction reads rows through.
-ghost use Rattle.std.specs.Prelude.{◌≡◌, is_ok, option_copied, IfOk, IsTrue};
+ghost use Rattle.std.specs.Prelude.{◌≡◌, is_ok, option_map, IfOk, IsTrue};
 ghost use Rattle.std.specs.FinMap as map;
 ghost use Rattle.tpcc_rows.specs.Picks.{latest, oldest};
+ghost use Rattle.tpcc_rows.specs.References.{row_of};
 ghost use Rattle.worker_rows.specs.Views.{View, may_read, may_write, readable};
 
 use thiserror::Error;
 use tpcc_rows::granule::Granule;
 use tpcc_rows::id::{CustomerId, DistrictId, OrderId, WarehouseId};
 use tpcc_rows::key::RowKey;
-use tpcc_rows::row::Row;
+use tpcc_rows::row_ref::RowRef;
 
 /// What was asked for may not be read.
 #[derive(Clone, Copy, Debug, PartialEq, Eq, Error)]
@@ -21,9 +22,9 @@ pub trait RowView {
     ghost sees: { Self → View };
 
     /// The row of the key, if there is one.
-    fn read(&self, key: &RowKey) -> Result<Option<&Row>, Strayed>
+    fn read(&self, key: &RowKey) -> Result<Option<RowRef<'_>>, Strayed>
         ensures strays { is_ok result ≡ readable (sees self.now) key.now }
-        ensures row { IfOk result (λ row. option_copied row ≡ map.get (sees self.now).rows key.now) };
+        ensures row { IfOk result (λ row. option_map row_of row ≡ map.get (sees self.now).rows key.now) };
 
     /// The least number of the district's new orders.
     fn oldest_new(

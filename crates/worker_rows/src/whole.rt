@@ -2,11 +2,11 @@
 ghost use Rattle.std.specs.Prelude.{None};
 
 use crate::view::{RowView, Strayed};
-use rollback::PointedStore;
+use row_store::PointedStore;
 use tpcc_rows::granule::Granule;
 use tpcc_rows::id::{CustomerId, DistrictId, OrderId, WarehouseId};
 use tpcc_rows::key::RowKey;
-use tpcc_rows::row::Row;
+use tpcc_rows::row_ref::RowRef;
 
 /// All rows of a store, which may all be read and written.
 #[derive(Clone, Copy)]
@@ -17,7 +17,7 @@ pub struct Whole<'a> {
 impl RowView for Whole<'_> {
     ghost sees = { λ w. record { rows = w.store.now.rows; bounds = None } };
 
-    fn read(&self, key: &RowKey) -> Result<Option<&Row>, Strayed> {
+    fn read(&self, key: &RowKey) -> Result<Option<RowRef<'_>>, Strayed> {
         Ok(self.store.get(key))
     }
 

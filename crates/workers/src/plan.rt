@@ -6,7 +6,7 @@ ghost use Rattle.tpcc_rows.specs.declared.id.TheConstants.{END_OF_NUMBERS};
 
 use catalog::Catalog;
 use requests::request::Batch;
-use rollback::PointedStore;
+use row_store::PointedStore;
 use tpcc_rows::footprint::Footprint;
 
 /// A database: its cards and its rows.

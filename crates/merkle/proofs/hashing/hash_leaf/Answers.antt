@@ -1,28 +1,37 @@
-use Rattle.std.proofs.Common.{◌∷◌, ◌++◌, ◌+◌, [], drop, sym, ap, ◌∙◌, append-nil, append_assoc}
-use Rattle.std.proofs.lemmas.List.{at_drop_more, drop_all}
+use Rattle.std.proofs.Common.{◌<◌, ◌≤◌, ◌∷◌, ◌++◌, [], length, ap, arith, refl, subst, sym, ◌∙◌}
 use Rattle.sha2.specs.Sha256.{sha256}
-use Rattle.tpcc_rows.specs.Encodings.{row_bytes, rows_bytes}
+use Rattle.row_store.specs.Slots.{slots}
+use Rattle.tpcc_rows.specs.Encodings.{row_bytes}
+use Rattle.tpcc_rows.specs.References.{row_of}
+use Rattle.merkle.specs.Hashing.{IsFed, page_text}
+use Rattle.merkle.proofs.PageTexts.{none_left, none_more, some_more}
 use Rattle.merkle.proofs.hashing.hash_leaf.Goals as goal
+use Rattle.merkle.proofs.hashing.hash_leaf.Goals.{in-Some, in_default}
 
-pub loop-key-init : goal.loop-key-init
-loop-key-init c = (0 ∷ [], c.make_room.ensures.fed (0 ∷ []) c.of_leaf-gathered.ensures, ap (λ es. 0 ∷ rows_bytes es) c.as_slice-key-items.ensures)
+pub loop-slot-init : goal.loop-slot-init
+loop-slot-init c = (0 ∷ [], c.of_leaf-gathered.ensures, refl)
 
-pub loop-key-preserved : goal.loop-key-preserved
-loop-key-preserved c =
-    let (message, fed, whole) = c.loop-key.invariant in
-    let es = c.as_slice-key-items.result.now in
-    let e = c.loop-key-item.result in
-    let i = c.loop-key.key-index in
-    let row = row_bytes e.0 e.1 in (
-      message ++ row,
-      c.push_row.ensures message fed,
-      append_assoc message row (rows_bytes (drop (i + 1) es))
-          ∙ ap (λ x. message ++ rows_bytes (x ∷ drop (i + 1) es)) c.loop-key-item.is
-          ∙ sym (at_drop_more (λ rest. message ++ rows_bytes rest) es i e c.loop-key-test.true) ∙ whole,
-    )
+pub loop-slot-preserved : goal.loop-slot-preserved
+loop-slot-preserved c =
+    let (message, fed, whole) = c.loop-slot.invariant in
+    let small = subst (λ n. c.loop-slot.slot < n) c.len-slot-end.ensures c.loop-slot-test.true in
+    elim c.match-at.branch [
+      | in-Some w ↦
+          let row = row_of w.in-Some.row in
+          let longer = message ++ row_bytes w.in-Some.key row in (
+            longer,
+            subst (λ g. IsFed g longer) (sym w.gathered-is) (w.push_row.ensures message fed),
+            some_more (slots c.args.page) c.loop-slot.slot message (page_text c.args.page) whole w.in-Some.key row small w.in-Some.ensures,
+          )
+      | in_default w ↦ (
+        message,
+        subst (λ g. IsFed g message) (sym w.gathered-is) fed,
+        none_more (slots c.args.page) c.loop-slot.slot message (page_text c.args.page) whole small w.in_default.ensures,
+      )
+    ]
 
 pub returns : goal.returns
 returns c =
-    let i = c.loop-key.invariant in
-    let es = c.as_slice-key-items.result.now in
-    c.finish.ensures i.0 i.1 ∙ ap sha256 (sym (append-nil i.0) ∙ ap (λ rest. i.0 ++ rows_bytes rest) (sym (drop_all c.loop-key.key-index es c.loop-key-test.false)) ∙ i.2)
+    let (message, fed, whole) = c.loop-slot.invariant in
+    let all : length (slots c.args.page) ≤ c.loop-slot.slot = omega (arith, c.len-slot-end.ensures, c.loop-slot-test.false) in
+    c.finish.ensures message fed ∙ ap sha256 (none_left (slots c.args.page) c.loop-slot.slot message (page_text c.args.page) whole all)

@@ -1,9 +1,9 @@
-use Rattle.std.proofs.Common.{◌≡◌, ℕ, List, ◌∷◌, ◌++◌, drop}
-use Rattle.std.specs.FinMap as map
-use Rattle.tpcc_rows.specs.Encodings.{rows_bytes}
-use Rattle.merkle.specs.Hashing.{IsFed}
+use Rattle.std.proofs.Common.{◌≡◌, ℕ, List, ◌++◌}
+use Rattle.row_store.specs.Slots.{slots}
+use Rattle.merkle.specs.Hashing.{IsFed, page_text}
+use Rattle.merkle.proofs.PageTexts.{bytes_from}
 use Rattle.merkle.proofs.hashing.hash_leaf.Given as goal
 
 -- what was taken in and what is left are the whole
-abbrev pub invariant-loop-key : goal.invariant-loop-key
-invariant-loop-key l = (m : List ℕ) × IsFed l.gathered m × (m ++ rows_bytes (drop l.key-index l.key-items) ≡ 0 ∷ rows_bytes (map.entries l.page))
+abbrev pub invariant-loop-slot : goal.invariant-loop-slot
+invariant-loop-slot l = (m : List ℕ) × IsFed l.gathered m × (m ++ bytes_from (slots l.page) l.slot ≡ page_text l.page)

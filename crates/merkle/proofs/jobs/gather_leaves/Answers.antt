@@ -1,6 +1,6 @@
 use Rattle.std.proofs.Common.{◌+◌, ◌-◌, ◌≡◌, ℕ, Bool, arith, ap, ◌∙◌}
 use Rattle.tpcc_rows.specs.declared.codes.TheConstants.{LEAVES}
-use Rattle.pages.specs.BitSets.{has_bit}
+use Rattle.bit_sets.specs.BitSets.{has_bit}
 use Rattle.merkle.specs.Marking.{IsNext}
 use Rattle.merkle.proofs.Placing.{gathered-next, gathered-to}
 use Rattle.merkle.proofs.jobs.gather_leaves.Goals as goal

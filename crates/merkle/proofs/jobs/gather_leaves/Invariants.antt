@@ -1,6 +1,6 @@
 use Rattle.std.proofs.Common.{◌≤◌, ◌+◌, ◌-◌, vec_capacity}
 use Rattle.tpcc_rows.specs.declared.codes.TheConstants.{LEAVES}
-use Rattle.pages.specs.BitSets.{has_bit}
+use Rattle.bit_sets.specs.BitSets.{has_bit}
 use Rattle.merkle.proofs.Placing.{IsGathered}
 use Rattle.merkle.proofs.jobs.gather_leaves.Given as goal
 

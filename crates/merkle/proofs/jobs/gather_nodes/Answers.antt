@@ -1,5 +1,5 @@
 use Rattle.std.proofs.Common.{arith, sym, ◌∙◌}
-use Rattle.pages.specs.BitSets.{has_bit}
+use Rattle.bit_sets.specs.BitSets.{has_bit}
 use Rattle.merkle.specs.Marking.{IsNext, is_above}
 use Rattle.merkle.proofs.Placing.{gathered-next, gathered-to, marked-next, same-above}
 use Rattle.merkle.proofs.jobs.gather_nodes.Goals as goal

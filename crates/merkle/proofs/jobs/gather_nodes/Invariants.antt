@@ -1,6 +1,6 @@
 use Rattle.std.proofs.Common.{◌≡◌, ℕ, ◌≤◌, ◌-◌, ◌||◌, vec_capacity}
 use Rattle.tpcc_rows.specs.declared.codes.TheConstants.{LEAVES}
-use Rattle.pages.specs.BitSets.{has_bit}
+use Rattle.bit_sets.specs.BitSets.{has_bit}
 use Rattle.merkle.specs.Jobs.{has_place}
 use Rattle.merkle.specs.Marking.{is_above}
 use Rattle.merkle.proofs.Placing.{IsGathered}

@@ -1,6 +1,6 @@
 use Rattle.std.proofs.Common.{◌<◌, arith, length, ◌∙◌}
 use Rattle.std.proofs.lemmas.List.{with_items_is}
-use Rattle.pages.specs.BitSets.{has_bit}
+use Rattle.bit_sets.specs.BitSets.{has_bit}
 use Rattle.merkle.specs.Nodes.{join_at}
 use Rattle.merkle.proofs.Joins.{leaves-same, level-joined}
 use Rattle.merkle.proofs.Placing.{done-there, done-put}

@@ -1,6 +1,6 @@
 use Rattle.std.proofs.Common.{arith}
 use Rattle.rollback.specs.Marks.{is_dirty}
-use Rattle.pages.specs.BitSets.{has_bit}
+use Rattle.bit_sets.specs.BitSets.{has_bit}
 use Rattle.merkle.proofs.Marking.{all-marked, marked-more}
 use Rattle.merkle.proofs.marks.mark_dirty.Goals as goal
 

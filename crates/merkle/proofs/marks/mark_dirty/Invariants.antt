@@ -1,7 +1,7 @@
 use Rattle.std.proofs.Common.{◌≤◌, ◌-◌}
 use Rattle.tpcc_rows.specs.declared.codes.TheConstants.{LEAVES}
 use Rattle.rollback.specs.Marks.{is_dirty}
-use Rattle.pages.specs.BitSets.{has_bit}
+use Rattle.bit_sets.specs.BitSets.{has_bit}
 use Rattle.merkle.proofs.Marking.{AreMarkedTo}
 use Rattle.merkle.proofs.marks.mark_dirty.Given as goal
 

@@ -2,7 +2,7 @@ use Rattle.std.proofs.Common.{◌≡◌, ℕ, ◌+◌, ◌<◌, false, ◌∷◌
 use Rattle.sha2.specs.Sha256.{sha256}
 use Rattle.tpcc_rows.specs.declared.codes.TheConstants.{LEAVES}
 use Rattle.tpcc_model.specs.Roots.{leaf_hash}
-use Rattle.pages.specs.BitSets.{has_bit}
+use Rattle.bit_sets.specs.BitSets.{has_bit}
 use Rattle.merkle.proofs.marks.mark_filled.Given as goal
 
 -- of the leaves before this one those with rows are marked

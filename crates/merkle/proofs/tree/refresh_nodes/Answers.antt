@@ -1,7 +1,7 @@
 use Rattle.std.proofs.Common.{◌+◌, ap, arith, cond, sym, subst, ◌∙◌}
 use Rattle.tpcc_model.specs.Roots.{leaf_hash}
 use Rattle.tpcc_rows.specs.declared.codes.TheConstants.{LEAVES}
-use Rattle.pages.specs.BitSets.{has_bit}
+use Rattle.bit_sets.specs.BitSets.{has_bit}
 use Rattle.merkle.specs.Nodes.{at, IsTree}
 use Rattle.merkle.proofs.Joins.{nearly, rehashed-leaf}
 use Rattle.merkle.proofs.tree.refresh_nodes.Goals as goal

@@ -2,6 +2,7 @@ use Rattle.std.proofs.Common.{rules, ◌≡◌, ◌+◌, ℕ, None, Some, sym, a
 use Rattle.std.specs.FinMap.{get}
 use Rattle.tpcc_laws.proofs.Doing.{between-some}
 use Rattle.tpcc_rows.specs.Picks.{oldest}
+use Rattle.tpcc_rows.specs.References.{row_of}
 use Rattle.tpcc_rows.specs.declared.key.RowKey.TheVariants as key
 use Rattle.tpcc_rows.specs.declared.row.Row.{Row}
 use Rattle.profiles.proofs.NewOrders.{nth-above, nth-gone, nth-none, nth-there}
@@ -29,5 +30,5 @@ pub returns : goal.returns
 returns c = λ cards sound.
     let rows = c.args.store.now.rows in
     let at : c.in_ok-oldest.oldest + c.args.n ≡ c.in_ok-order.order = (between-some 1 9999999 _ _ (sym c.in_ok-order.ensures)).0 in
-    let there : get rows (key.NewOrder c.args.warehouse c.args.district (c.in_ok-oldest.oldest + c.args.n)) ≡ Some c.in_ok-get.field-0.now = ap (λ (o : ℕ). get rows (key.NewOrder c.args.warehouse c.args.district o)) at ∙ sym c.in_ok-get.ensures.value in
-    ap (λ (o : ℕ). Some o) (sym at) ∙ sym (nth-there c.args.warehouse c.args.district cards rows c.in_ok-oldest.oldest c.args.n sound (sym c.in_ok-oldest.ensures) c.in_ok-get.field-0.now there)
+    let there : get rows (key.NewOrder c.args.warehouse c.args.district (c.in_ok-oldest.oldest + c.args.n)) ≡ Some (row_of c.in_ok-get.field-0) = ap (λ (o : ℕ). get rows (key.NewOrder c.args.warehouse c.args.district o)) at ∙ sym c.in_ok-get.ensures.value in
+    ap (λ (o : ℕ). Some o) (sym at) ∙ sym (nth-there c.args.warehouse c.args.district cards rows c.in_ok-oldest.oldest c.args.n sound (sym c.in_ok-oldest.ensures) (row_of c.in_ok-get.field-0) there)

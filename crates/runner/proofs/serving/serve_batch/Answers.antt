@@ -3,7 +3,7 @@ use Rattle.std.specs.Io.KnownBytes.{Appends}
 use Rattle.records.specs.Io.{AppendsFront}
 use Rattle.runner.specs.Runs.{NumbersFit}
 use Rattle.runner.specs.Text.{batch_text}
-use Rattle.rollback.specs.declared.pointed.TheConstants.{POINTS}
+use Rattle.rollback.specs.declared.points.TheConstants.{POINTS}
 use Rattle.runner.proofs.ExecutedBatches.{admitted_fits, completes, count_of_replies, recorded_text}
 use Rattle.runner.proofs.serving.serve_batch.Goals as goal
 

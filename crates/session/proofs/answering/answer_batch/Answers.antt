@@ -1,5 +1,5 @@
 use Rattle.std.proofs.Common.{arith}
-use Rattle.rollback.specs.declared.pointed.TheConstants.{POINTS}
+use Rattle.rollback.specs.declared.points.TheConstants.{POINTS}
 use Rattle.runner.proofs.ExecutedBatches.{admitted_fits, count_of_replies, recorded_text}
 use Rattle.runner.specs.Runs.{NumbersFit}
 use Rattle.session.proofs.SessionLemmas.{executed}

@@ -1,5 +1,5 @@
 use Rattle.std.proofs.Common.{◌≡◌, ◌∙◌, ◌+◌, None, ap, length, sym, arith}
-use Rattle.rollback.specs.declared.pointed.TheConstants.{POINTS}
+use Rattle.rollback.specs.declared.points.TheConstants.{POINTS}
 use Rattle.executor.specs.Executions.{refusal_for}
 use Rattle.executor.specs.Chains.{Chain, extended}
 use Rattle.executor.specs.declared.stamp.Stamp.{Stamp}

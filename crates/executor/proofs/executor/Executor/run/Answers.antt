@@ -1,7 +1,7 @@
 use Rattle.std.proofs.Common.{rules, ◌≡◌, ◌∙◌, ◌+◌, ◌∷◌, ℕ, List, ap, drop, get_or, inr, length, subst, sym, take, arith}
 use Rattle.std.proofs.lemmas.List.{drop_more, length_push}
 use Rattle.requests.specs.declared.request.Batch.{Batch}
-use Rattle.rollback.specs.declared.pointed.TheConstants.{POINTS}
+use Rattle.rollback.specs.declared.points.TheConstants.{POINTS}
 use Rattle.executor.specs.Executions.{IsRefusedFor, refusal_for}
 use Rattle.executor.specs.Chains.{Chain, extended}
 use Rattle.executor.specs.Runs.{AreRecordsOf, alone, chain_after}

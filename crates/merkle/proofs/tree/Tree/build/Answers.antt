@@ -1,7 +1,7 @@
 use Rattle.std.proofs.Common.{ap, sym, subst, ◌∙◌, ◌+◌, drop}
 use Rattle.std.proofs.lemmas.List.{with_items_is}
 use Rattle.tpcc_rows.specs.declared.codes.TheConstants.{LEAVES}
-use Rattle.pages.specs.BitSets.{has_bit}
+use Rattle.bit_sets.specs.BitSets.{has_bit}
 use Rattle.merkle.specs.Nodes.{IsTree, at}
 use Rattle.merkle.proofs.Joins.{at-leaf}
 use Rattle.merkle.proofs.Refreshing.{filled-leaf}

@@ -1,6 +1,6 @@
 use Rattle.std.proofs.Common.{◌≡◌, ◌<◌, [], ◌∷◌, ◌++◌, length, sym, ap, subst, ◌∙◌, arith}
 use Rattle.rollback.specs.Pointed.{Pointed}
-use Rattle.rollback.specs.declared.pointed.TheConstants.{POINTS}
+use Rattle.rollback.specs.declared.points.TheConstants.{POINTS}
 use Rattle.pointed_tables.specs.Logs.{IsPointed, points_of}
 use Rattle.pointed_tables.proofs.Pointing.{length-points, pointed-mark, points-mark}
 use Rattle.pointed_tables.proofs.pointed.PointedTables.push_point.Goals as goal

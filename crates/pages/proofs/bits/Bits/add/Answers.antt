@@ -1,6 +1,0 @@
-use Rattle.std.proofs.Common.{rules}
-use Rattle.pages.proofs.BitSets.{bit-more}
-use Rattle.pages.proofs.bits.Bits.add.Goals as goal
-
-pub returns : goal.returns
-returns g c = λ m. bit-more c.args.self.now.words c.args.n m (search (rules, c.requires))

@@ -1,4 +1,0 @@
-pub mod BitSets
-pub mod Paged
-pub mod Points
-pub mod Saving

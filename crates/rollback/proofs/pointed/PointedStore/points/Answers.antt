@@ -1,7 +1,0 @@
-use Rattle.std.proofs.Common.{length, sym, ap, ◌∙◌}
-use Rattle.rollback.specs.Pointed.{Pointed}
-use Rattle.rollback.proofs.Pointing.{length-points}
-use Rattle.rollback.proofs.pointed.PointedStore.points.Goals as goal
-
-pub returns-clause-value : goal.returns-clause-value
-returns-clause-value c = c.len.ensures.value ∙ sym (length-points c.self.inside.points.items c.self.inside.store) ∙ ap (λ (p : Pointed). length p.points) c.self.view_is

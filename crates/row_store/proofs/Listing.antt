@@ -1,0 +1,175 @@
+-- Ranks that stay listed.
+use Rattle.std.proofs.Common.{◌≡◌, ◌<◌, ◌&&◌, ℕ, zero, suc, true, false, cond, is_some, List, [], ◌∷◌, ◌++◌, take, drop, length, Option, Some, None, Result, Ok, Err, inl, inr, refl, sym, ap, subst, ◌∙◌, arith}
+use Rattle.std.proofs.lemmas.Bool.{cases_Bool}
+use Rattle.std.proofs.lemmas.List.Elements.{All-append, All-cons, All-drop, All-nil, All-take}
+use Rattle.std.specs.FinMap as map
+use Rattle.std.specs.FinMap.{get, get-empty, insert, remove}
+use Rattle.std.specs.List.{list_all, slice_get}
+use Rattle.std.specs.Option.{unwrap_or}
+use Rattle.std.specs.Prelude.{⊤, All}
+use Rattle.std.specs.Result.{OnOk, OnErr}
+use Rattle.std.specs.Ordering.{nat_cmp}
+use Rattle.rollback.specs.Pointed.{Pointed}
+use Rattle.row_store.specs.Leaves.{AreLeaves, AreListed, IsListed}
+use Rattle.row_tables.specs.Stored.{IsRank}
+use Rattle.tables.specs.ByRank.{ByRank}
+use Rattle.tables.proofs.Tables.{rank_total, exact_ranks}
+use Rattle.tpcc_rows.specs.Changing.{with_each}
+use Rattle.tpcc_rows.specs.Ranks.{IsNumbered, rank}
+use Rattle.tpcc_rows.specs.RowKinds.{fits}
+use Rattle.tpcc_rows.specs.RowMap.{Rows, row_key_cmp}
+use Rattle.tpcc_rows.specs.declared.key.RowKey.{RowKey}
+use Rattle.tpcc_rows.specs.declared.row.Row.{Row}
+use Rattle.tpcc_rows.proofs.Keys.{row_key_cmp_total, exact_keys}
+use Rattle.tpcc_rows.proofs.Singles as single
+
+-- ---- one rank more
+module _ (ranks : ByRank ⊤) (k : RowKey) (numbered : IsNumbered k) where
+  abbrev more : ByRank ⊤
+  more = insert ranks (rank k) tt
+
+  still-there : (r : ℕ) → is_some (get ranks r) ≡ true → is_some (get more r) ≡ true
+  still-there r there = elim (single.same_key rank_total exact_ranks r (rank k)) [
+    | inl is ↦ ap (λ q. is_some (get more q)) is ∙ ap is_some (single.here rank_total exact_ranks ranks (rank k) tt)
+    | inr apart ↦ ap is_some (single.apart rank_total exact_ranks ranks (rank k) tt r apart) ∙ there
+  ]
+
+  pub keys-more : ((r : ℕ) → is_some (get ranks r) ≡ true → IsRank r) → (r : ℕ) → is_some (get more r) ≡ true → IsRank r
+  keys-more keys r there = elim (single.same_key rank_total exact_ranks r (rank k)) [
+    | inl is ↦ record { key = k; numbered = numbered; ranked = sym is }
+    | inr apart ↦ keys r (ap is_some (sym (single.apart rank_total exact_ranks ranks (rank k) tt r apart)) ∙ there)
+  ]
+
+  still-listed : (q : RowKey) → IsListed ranks q → IsListed more q
+  still-listed q h = record { numbered = h.numbered; there = still-there (rank q) h.there }
+
+  pub listed-more : (rows : Rows) → AreListed ranks rows → AreListed more rows
+  listed-more rows h = record { listed = λ q there. still-listed q (h.listed q there) }
+
+  pub listed-now : IsListed more k
+  listed-now = record { numbered = numbered; there = ap is_some (single.here rank_total exact_ranks ranks (rank k) tt) }
+
+-- ---- rows after a change
+pub listed-insert : (ranks : ByRank ⊤) (rows : Rows) (k : RowKey) (x : Row) → IsListed ranks k → AreListed ranks rows → AreListed ranks (insert rows k x)
+listed-insert ranks rows k x here h = record {
+  listed = λ q there. elim (single.same_key row_key_cmp_total exact_keys q k) [
+    | inl is ↦ subst (IsListed ranks) (sym is) here
+    | inr apart ↦ h.listed q (ap is_some (sym (single.apart row_key_cmp_total exact_keys rows k x q apart)) ∙ there)
+  ];
+}
+
+pub listed-remove : (ranks : ByRank ⊤) (rows : Rows) (k : RowKey) → AreListed ranks rows → AreListed ranks (remove rows k)
+listed-remove ranks rows k h = record {
+  listed = λ q there. elim (single.same_key row_key_cmp_total exact_keys q k) [
+    | inl is ↦ (let wrong : false ≡ true = ap is_some (sym (ap (get (remove rows k)) is ∙ single.gone row_key_cmp_total exact_keys rows k)) ∙ there in cc)
+    | inr apart ↦ h.listed q (ap is_some (sym (single.left row_key_cmp_total exact_keys rows k q apart)) ∙ there)
+  ];
+}
+
+pub listed-empty : (ranks : ByRank ⊤) (rows : Rows) → rows ≡ map.empty → AreListed ranks rows
+listed-empty ranks rows e = record { listed = λ q there. (let wrong : false ≡ true = ap is_some (sym (ap (λ (r : Rows). get r q) e ∙ get-empty row_key_cmp q)) ∙ there in cc) }
+
+pub no-ranks : (ranks : ByRank ⊤) → ranks ≡ map.empty → (r : ℕ) → is_some (get ranks r) ≡ true → IsRank r
+no-ranks ranks e r there = (let wrong : false ≡ true = ap is_some (sym (ap (λ (m : ByRank ⊤). get m r) e ∙ get-empty nat_cmp r)) ∙ there in cc)
+
+some-is : {A : Type 0} (x y : A) → Some x ≡ Some y → x ≡ y
+some-is x y e = ap (λ o. unwrap_or o x) e
+
+-- ---- a store after a call
+module _ (ranks : ByRank ⊤) (a b : Pointed) (h : AreLeaves ranks a) where
+  pub leaves-with : AreListed ranks b.rows → All (AreListed ranks) b.points → AreLeaves ranks b
+  leaves-with rows points = record { keys = h.keys; present = rows; before = points }
+
+  same-points : b.points ≡ a.points → All (AreListed ranks) b.points
+  same-points e = subst (All (AreListed ranks)) (sym e) h.before
+
+  same-rows : b.rows ≡ a.rows → AreListed ranks b.rows
+  same-rows e = subst (AreListed ranks) (sym e) h.present
+
+  pub leaves-same : b.rows ≡ a.rows → b.points ≡ a.points → AreLeaves ranks b
+  leaves-same rows points = leaves-with (same-rows rows) (same-points points)
+
+  pub leaves-is : b ≡ a → AreLeaves ranks b
+  leaves-is e = subst (AreLeaves ranks) (sym e) h
+
+  module _ {A E : Type 0} where
+    pub leaves-put : (r : Result A E) (k : RowKey) (x : Row) → IsListed ranks k → OnOk r (b.rows ≡ insert a.rows k x) → b.points ≡ a.points → OnErr r (b ≡ a) → AreLeaves ranks b
+    leaves-put (Ok u) k x here rows points err = leaves-with (subst (AreListed ranks) (sym rows) (listed-insert ranks a.rows k x here h.present)) (same-points points)
+    leaves-put (Err e) k x here rows points err = leaves-is err
+
+    pub leaves-removed : (r : Result A E) (k : RowKey) → OnOk r (b.rows ≡ remove a.rows k) → b.points ≡ a.points → OnErr r (b ≡ a) → AreLeaves ranks b
+    leaves-removed (Ok u) k rows points err = leaves-with (subst (AreListed ranks) (sym rows) (listed-remove ranks a.rows k h.present)) (same-points points)
+    leaves-removed (Err e) k rows points err = leaves-is err
+
+    pub leaves-marked : (r : Result A E) → OnOk r (b.points ≡ a.points ++ a.rows ∷ []) → b.rows ≡ a.rows → OnErr r (b ≡ a) → AreLeaves ranks b
+    leaves-marked (Ok u) points rows err = leaves-with (same-rows rows) (subst (All (AreListed ranks)) (sym points) (All-append (AreListed ranks) a.points (a.rows ∷ []) h.before (All-cons (AreListed ranks) a.rows [] h.present (All-nil (AreListed ranks)))))
+    leaves-marked (Err e) points rows err = leaves-is err
+
+    pub leaves-dropped : (r : Result A E) (n : ℕ) → OnOk r (b.points ≡ drop n a.points) → b.rows ≡ a.rows → OnErr r (b ≡ a) → AreLeaves ranks b
+    leaves-dropped (Ok u) n points rows err = leaves-with (same-rows rows) (subst (All (AreListed ranks)) (sym points) (All-drop (AreListed ranks) n a.points h.before))
+    leaves-dropped (Err e) n points rows err = leaves-is err
+
+    pub leaves-back : (r : Result A E) (n m : ℕ) → OnOk r (slice_get a.points n ≡ Some b.rows) → OnOk r (b.points ≡ take m a.points) → OnErr r (b ≡ a) → AreLeaves ranks b
+    leaves-back (Ok u) n m rows points err = leaves-with (at-point n a.points h.before rows) (subst (All (AreListed ranks)) (sym points) (All-take (AreListed ranks) m a.points h.before))
+      where
+        at-point : (n : ℕ) (ps : List Rows) → All (AreListed ranks) ps → slice_get ps n ≡ Some b.rows → AreListed ranks b.rows
+        at-point n [] hs e = cc
+        at-point zero (p ∷ ps) hs e = subst (AreListed ranks) (some-is p b.rows e) (hs 0 p (omega arith))
+        at-point (suc n) (p ∷ ps) hs e = at-point n ps (λ k d lt. hs (suc k) d (omega (arith, lt))) e
+    leaves-back (Err e) n m rows points err = leaves-is err
+
+-- ---- rows moved to a store one after the other
+-- what is still to come, what has been put, and the ranks of its keys
+pub record IsFilling (all left : List (RowKey × Row)) (ranks : ByRank ⊤) (rows : Rows) : Type 0 where
+  pub whole : with_each left rows ≡ with_each all map.empty
+  pub fit : list_all (λ e. fits e.0 e.1) left ≡ true
+  pub keys : (r : ℕ) → is_some (get ranks r) ≡ true → IsRank r
+  pub listed : AreListed ranks rows
+
+pub filled-none : (all : List (RowKey × Row)) (ranks : ByRank ⊤) (rows : Rows) → list_all (λ e. fits e.0 e.1) all ≡ true → ranks ≡ map.empty → rows ≡ map.empty → IsFilling all all ranks rows
+filled-none all ranks rows fit none empty = record {
+  whole = ap (with_each all) empty;
+  fit = fit;
+  keys = no-ranks ranks none;
+  listed = listed-empty ranks rows empty;
+}
+
+module _ (all old left : List (RowKey × Row)) (k : RowKey) (x : Row) (steps : old ≡ (k, x) ∷ left) (ranks : ByRank ⊤) (rows : Rows) (h : IsFilling all old ranks rows) where
+  fit-all : (fits k x && list_all (λ e. fits e.0 e.1) left) ≡ true
+  fit-all = ap (list_all (λ e. fits e.0 e.1)) (sym steps) ∙ h.fit
+
+  pub fits-first : fits k x ≡ true
+  fits-first = single.and-left (fits k x) (list_all (λ e. fits e.0 e.1) left) fit-all
+
+  pub filling-more : (next : ByRank ⊤) (rows2 : Rows) → IsNumbered k → next ≡ insert ranks (rank k) tt → rows2 ≡ insert rows k x → IsFilling all left next rows2
+  filling-more next rows2 numbered listed put = record {
+    whole = ap (with_each left) put ∙ ap (λ es. with_each es rows) (sym steps) ∙ h.whole;
+    fit = single.and-right (fits k x) (list_all (λ e. fits e.0 e.1) left) fit-all;
+    keys = subst (λ (m : ByRank ⊤). (r : ℕ) → is_some (get m r) ≡ true → IsRank r) (sym listed) (keys-more ranks k numbered h.keys);
+    listed = subst (λ (m : ByRank ⊤). AreListed m rows2) (sym listed) (subst (AreListed (insert ranks (rank k) tt)) (sym put)
+        (listed-insert (insert ranks (rank k) tt) rows k x (listed-now ranks k numbered) (listed-more ranks k numbered rows h.listed)));
+  }
+
+-- all have been put once nothing is to come
+pub filling-done : (all left : List (RowKey × Row)) (ranks : ByRank ⊤) (rows : Rows) → length left ≡ 0 → IsFilling all left ranks rows → rows ≡ with_each all map.empty
+filling-done all [] ranks rows e h = h.whole
+filling-done all (x ∷ left) ranks rows e h = absurd (omega (arith, e))
+
+pub leaves-none : (ranks : ByRank ⊤) (b : Pointed) → ((r : ℕ) → is_some (get ranks r) ≡ true → IsRank r) → AreListed ranks b.rows → b.points ≡ [] → AreLeaves ranks b
+leaves-none ranks b keys rows points = record { keys = keys; present = rows; before = subst (All (AreListed ranks)) (sym points) (All-nil (AreListed ranks)) }
+
+-- ---- a key's rank listed
+module _ (ranks next : ByRank ⊤) (k : RowKey) (numbered : IsNumbered k) (s : Pointed) (h : AreLeaves ranks s) where
+  points-more : (ps : List Rows) → All (AreListed ranks) ps → All (AreListed (insert ranks (rank k) tt)) ps
+  points-more ps hs i d lt = listed-more ranks k numbered _ (hs i d lt)
+
+  leaves-more : AreLeaves (insert ranks (rank k) tt) s
+  leaves-more = record { keys = keys-more ranks k numbered h.keys; present = listed-more ranks k numbered s.rows h.present; before = points-more s.points h.before }
+
+  pub leaves-listed : {A E : Type 0} (r : Result A E) → OnOk r (next ≡ insert ranks (rank k) tt) → OnErr r (next ≡ ranks) → AreLeaves next s
+  leaves-listed (Ok u) ok err = subst (λ (m : ByRank ⊤). AreLeaves m s) (sym ok) leaves-more
+  leaves-listed (Err e) ok err = subst (λ (m : ByRank ⊤). AreLeaves m s) (sym err) h
+
+pub now-listed : (ranks next : ByRank ⊤) (k : RowKey) → IsNumbered k → {A E : Type 0} (r : Result A E) → OnOk r (next ≡ insert ranks (rank k) tt) → OnOk r (IsListed next k)
+now-listed ranks next k numbered (Ok u) ok = subst (λ (m : ByRank ⊤). IsListed m k) (sym ok) (listed-now ranks k numbered)
+now-listed ranks next k numbered (Err e) ok = tt

@@ -1,0 +1,352 @@
+//! Rows in tables and by leaf, the points to which they can go back, and the leaves on which they have changed.
+ghost use Rattle.std.specs.Prelude.{◌≡◌, ◌<◌, ◌≤◌, ◌+◌, ◌↔◌, [], ◌∷◌, ◌++◌, take, drop, IfOk, IfSome, IsErr, None, Some, OnOk, OnErr, length, option_copied, option_map, slice_get, true};
+ghost use Rattle.std.specs.FinMap as map;
+ghost use Rattle.std.specs.List.{list_all};
+ghost use Rattle.serializability.specs.Changes.{changed};
+ghost use Rattle.rollback.specs.Marks.{AreClean, HasAlso, HasAlsoThose};
+ghost use Rattle.rollback.specs.Pointed.{KeepsCleanLeaves};
+ghost use Rattle.row_store.specs.Leaves.{AreLeaves, IsListed};
+ghost use Rattle.row_store.specs.Slots.{filled, slots};
+ghost use Rattle.tpcc_rows.specs.Changing.{IsMadeInPart, after, new_row_fits, with_each};
+ghost use Rattle.tpcc_rows.specs.Leaves.{leaf, page_rows};
+ghost use Rattle.tpcc_rows.specs.Picks.{latest, oldest};
+ghost use Rattle.tpcc_rows.specs.Ranks.{IsNumbered, rank};
+ghost use Rattle.tpcc_rows.specs.References.{row_of};
+ghost use Rattle.tpcc_rows.specs.RowKinds.{fits};
+ghost use Rattle.tpcc_rows.specs.Rows.{customer_row, district_next_row, district_ytd_row, order_line_row, order_row, stock_row, warehouse_row};
+
+use crate::leaf_page::LeafPage;
+use pointed_tables::PointedTables;
+use rollback::{Dirty, NoSuchPoint, POINTS, PointsFull};
+use row_tables::store::RowTables;
+use std::alloc::Global;
+use std::marker::Model;
+use tables::leaves::Leaves;
+use tpcc_rows::codes::{LEAVES, leaf};
+use tpcc_rows::delta::Delta;
+use tpcc_rows::id::{CustomerId, DistrictId, ItemId, LineNumber, OrderId, WarehouseId};
+use tpcc_rows::key::RowKey;
+use tpcc_rows::memory::Memory;
+use tpcc_rows::ranks::rank;
+use tpcc_rows::row::{
+    CustomerRow, DistrictNextRow, DistrictYtdRow, OrderLineRow, OrderRow, Row, StockRow,
+    WarehouseRow,
+};
+use tpcc_rows::row_ref::RowRef;
+
+/// Rows, points to which they can go back, and the set of the leaves on which they have changed since it was last taken.
+#[derive(Drop)]
+pub struct PointedStore {
+    tables: PointedTables,
+    /// The rank of each key that has a row, or had one at a point. Ranks stay, so that a row comes back without memory.
+    leaves: Leaves,
+}
+
+impl Model for PointedStore {
+    ghost use Rattle.rollback.specs.Pointed.{Pointed, pointed_code};
+    ghost use Rattle.row_store.specs.Leaves.{AreLeaves};
+
+    ghost Value = { Pointed };
+
+    ghost coded = { pointed_code };
+
+    ghost view = { λ s. s.tables };
+
+    ghost invariant = { λ s. AreLeaves s.leaves s.tables };
+}
+
+/// The rank of a key, and its leaf.
+fn place_of(key: &RowKey) -> (usize, u64)
+    ensures leaf { result.0 ≡ leaf key.now }
+    ensures below { result.0 < LEAVES }
+    ensures rank { result.1 ≡ rank key.now }
+    ensures limits { IsNumbered key.now }
+{
+    (leaf(key), rank(key))
+}
+
+/// Lists the key's rank.
+fn list(leaves: &mut Leaves, key: &RowKey) -> Result<(), Memory>
+    ensures ok { OnOk result (leaves.new ≡ map.insert leaves.old (rank key.now) tt) }
+    ensures err { OnErr result (leaves.new ≡ leaves.old) }
+    ensures limits { IsNumbered key.now }
+{
+    let (leaf, rank) = place_of(key);
+    leaves.put(leaf, rank)
+}
+
+/// Lists the key's rank, if the key has no row.
+fn list_new(leaves: &mut Leaves, tables: &PointedTables, key: &RowKey) -> Result<(), Memory>
+    ensures kept { AreLeaves leaves.old tables.now → AreLeaves leaves.new tables.now }
+    ensures ok { OnOk result (AreLeaves leaves.old tables.now → IsListed leaves.new key.now) }
+{
+    if tables.get(key).is_some() {
+        return Ok(());
+    }
+    list(leaves, key)
+}
+
+impl PointedStore {
+    /// No rows; there is no point, and no leaf is dirty.
+    pub fn new(alloc: Global) -> Result<PointedStore, Memory>
+        ensures rows { IfOk result (λ store. store.rows ≡ map.empty) }
+        ensures points { IfOk result (λ store. store.points ≡ []) }
+        ensures clean { IfOk result (λ store. AreClean store.dirty) }
+    {
+        let tables = RowTables::new(alloc)?;
+        let leaves = Leaves::new(alloc)?;
+        Ok(PointedStore {
+            tables: PointedTables::new(alloc, tables),
+            leaves,
+        })
+    }
+
+    /// The rows of a list, of which a later one replaces an earlier one of its key; there is no point, and no leaf is dirty.
+    pub fn from_rows(alloc: Global, rows: Vec<(RowKey, Row)>) -> Result<PointedStore, Memory>
+        requires { list_all (λ row. fits row.0 row.1) rows.items ≡ true }
+        ensures rows { IfOk result (λ store. store.rows ≡ with_each rows.items map.empty) }
+        ensures points { IfOk result (λ store. store.points ≡ []) }
+        ensures clean { IfOk result (λ store. AreClean store.dirty) }
+    {
+        let mut tables = RowTables::new(alloc)?;
+        let mut leaves = Leaves::new(alloc)?;
+        for (key, row) in rows {
+            list(&mut leaves, &key)?;
+            tables.put(key, row)?;
+        }
+        Ok(PointedStore {
+            tables: PointedTables::new(alloc, tables),
+            leaves,
+        })
+    }
+
+    pub fn get(&self, key: &RowKey) -> Option<RowRef<'_>>
+        ensures value { option_map row_of result ≡ map.get self.now.rows key.now }
+        ensures kind { IfSome (option_map row_of result) (λ row. fits key.now row ≡ true) }
+    {
+        self.tables.get(key)
+    }
+
+    pub fn warehouse(&self, warehouse: WarehouseId) -> Option<&WarehouseRow>
+        ensures { option_copied result ≡ warehouse_row self.now.rows warehouse }
+    {
+        self.tables.warehouse(warehouse)
+    }
+
+    pub fn district_ytd(
+        &self,
+        warehouse: WarehouseId,
+        district: DistrictId,
+    ) -> Option<&DistrictYtdRow>
+        ensures { option_copied result ≡ district_ytd_row self.now.rows warehouse district }
+    {
+        self.tables.district_ytd(warehouse, district)
+    }
+
+    pub fn district_next(
+        &self,
+        warehouse: WarehouseId,
+        district: DistrictId,
+    ) -> Option<&DistrictNextRow>
+        ensures { option_copied result ≡ district_next_row self.now.rows warehouse district }
+    {
+        self.tables.district_next(warehouse, district)
+    }
+
+    pub fn customer(
+        &self,
+        warehouse: WarehouseId,
+        district: DistrictId,
+        customer: CustomerId,
+    ) -> Option<&CustomerRow>
+        ensures { option_copied result ≡ customer_row self.now.rows warehouse district customer }
+    {
+        self.tables.customer(warehouse, district, customer)
+    }
+
+    pub fn stock(&self, warehouse: WarehouseId, item: ItemId) -> Option<&StockRow>
+        ensures { option_copied result ≡ stock_row self.now.rows warehouse item }
+    {
+        self.tables.stock(warehouse, item)
+    }
+
+    pub fn order(
+        &self,
+        warehouse: WarehouseId,
+        district: DistrictId,
+        order: OrderId,
+    ) -> Option<&OrderRow>
+        ensures { option_copied result ≡ order_row self.now.rows warehouse district order }
+    {
+        self.tables.order(warehouse, district, order)
+    }
+
+    pub fn order_line(
+        &self,
+        warehouse: WarehouseId,
+        district: DistrictId,
+        order: OrderId,
+        number: LineNumber,
+    ) -> Option<&OrderLineRow>
+        ensures { option_copied result ≡ order_line_row self.now.rows warehouse district order number }
+    {
+        self.tables.order_line(warehouse, district, order, number)
+    }
+
+    /// The least number of the district's new orders.
+    pub fn oldest_new(&self, warehouse: WarehouseId, district: DistrictId) -> Option<OrderId>
+        ensures { result ≡ oldest self.now.rows warehouse district }
+    {
+        self.tables.oldest_new(warehouse, district)
+    }
+
+    /// The greatest number of the customer's orders.
+    pub fn last_order(
+        &self,
+        warehouse: WarehouseId,
+        district: DistrictId,
+        customer: CustomerId,
+    ) -> Option<OrderId>
+        ensures { result ≡ latest self.now.rows warehouse district customer }
+    {
+        self.tables.last_order(warehouse, district, customer)
+    }
+
+    /// The number of rows.
+    pub fn len(&self) -> u128
+        ensures { result ≡ length (map.entries self.now.rows) }
+    {
+        self.tables.len()
+    }
+
+    /// The rows of a leaf.
+    pub fn page(&self, leaf: usize) -> LeafPage<'_>
+        requires { leaf < LEAVES }
+        ensures { filled (slots result) ≡ map.entries (page_rows self.now.rows leaf) }
+    {
+        LeafPage {
+            tables: &self.tables,
+            ranks: self.leaves.ranks(leaf),
+        }
+    }
+
+    /// Inserts or replaces the key's row; its leaf is dirty from now on.
+    pub fn put(&mut self, key: RowKey, row: Row) -> Result<(), Memory>
+        requires { fits key row ≡ true }
+        ensures rows { OnOk result (self.new.rows ≡ map.insert self.old.rows key row) }
+        ensures dirty { OnOk result (HasAlso self.old.dirty (leaf key) self.new.dirty) }
+        ensures points { self.new.points ≡ self.old.points }
+        ensures err { OnErr result (self.new ≡ self.old) }
+        ensures clean { KeepsCleanLeaves self.old self.new }
+    {
+        list_new(&mut self.leaves, &self.tables, &key)?;
+        self.tables.put(key, row)
+    }
+
+    /// Removes the key's row, and returns it; its leaf is dirty from now on.
+    pub fn remove(&mut self, key: &RowKey) -> Result<Option<Row>, Memory>
+        ensures value { IfOk result (λ row. row ≡ map.get self.old.rows key.now) }
+        ensures rows { OnOk result (self.new.rows ≡ map.remove self.old.rows key.now) }
+        ensures dirty { OnOk result (HasAlso self.old.dirty (leaf key.now) self.new.dirty) }
+        ensures points { self.new.points ≡ self.old.points }
+        ensures err { OnErr result (self.new ≡ self.old) }
+        ensures clean { KeepsCleanLeaves self.old self.new }
+    {
+        self.tables.remove(key)
+    }
+
+    fn change(&mut self, key: RowKey, new_row: Option<Row>) -> Result<(), Memory>
+        requires { new_row_fits key new_row ≡ true }
+        ensures rows { OnOk result (self.new.rows ≡ changed self.old.rows key new_row) }
+        ensures dirty { OnOk result (HasAlso self.old.dirty (leaf key) self.new.dirty) }
+        ensures points { self.new.points ≡ self.old.points }
+        ensures err { OnErr result (self.new ≡ self.old) }
+        ensures clean { KeepsCleanLeaves self.old self.new }
+    {
+        match new_row {
+            Some(row) => self.put(key, row),
+            None => {
+                self.remove(&key)?;
+                Ok(())
+            }
+        }
+    }
+
+    /// Makes the changes, whose rows are moved. After a refusal a prefix of them, in key order, is made.
+    #[tactic(auto, unfolding(tpcc_rows::specs::Changing::after))]
+    pub fn apply(&mut self, delta: Delta) -> Result<(), Memory>
+        ensures ok { OnOk result (self.new.rows ≡ after self.old.rows delta) }
+        ensures err { OnErr result (IsMadeInPart self.old.rows self.new.rows delta) }
+        ensures dirty { OnOk result (HasAlsoThose self.old.dirty delta self.new.dirty) }
+        ensures points { self.new.points ≡ self.old.points }
+        ensures clean { KeepsCleanLeaves self.old self.new }
+    {
+        for (key, new_row) in delta.into_changes() {
+            self.change(key, new_row)?;
+        }
+        Ok(())
+    }
+
+    /// The dirty leaves, of which there are none from now on.
+    pub fn take_dirty(&mut self) -> Dirty
+        ensures taken { result ≡ self.old.dirty }
+        ensures clean { AreClean self.new.dirty }
+        ensures rows { self.new.rows ≡ self.old.rows }
+        ensures points { self.new.points ≡ self.old.points }
+    {
+        self.tables.take_dirty()
+    }
+
+    /// The number of points.
+    pub fn points(&self) -> usize
+        ensures value { result ≡ length self.now.points }
+        ensures few { result ≤ POINTS }
+    {
+        self.tables.points()
+    }
+
+    /// The present rows become the newest point, without allocating.
+    pub fn mark(&mut self) -> Result<(), PointsFull>
+        ensures points { OnOk result (self.new.points ≡ self.old.points ++ self.old.rows ∷ []) }
+        ensures full { IsErr result ↔ (POINTS ≤ length self.old.points) }
+        ensures rows { self.new.rows ≡ self.old.rows }
+        ensures dirty { self.new.dirty ≡ self.old.dirty }
+        ensures err { OnErr result (self.new ≡ self.old) }
+    {
+        self.tables.mark()
+    }
+
+    /// Forgets the oldest point, without allocating.
+    pub fn drop_oldest(&mut self) -> Result<(), NoSuchPoint>
+        ensures points { OnOk result (self.new.points ≡ drop 1 self.old.points) }
+        ensures none { IsErr result ↔ (self.old.points ≡ []) }
+        ensures rows { self.new.rows ≡ self.old.rows }
+        ensures dirty { self.new.dirty ≡ self.old.dirty }
+        ensures err { OnErr result (self.new ≡ self.old) }
+    {
+        self.tables.drop_oldest()
+    }
+
+    /// The rows are those of the point from now on, of which the oldest is 0. It and the later ones are forgotten. Nothing is
+    /// allocated.
+    pub fn back_to(&mut self, point: usize) -> Result<(), NoSuchPoint>
+        ensures rows { OnOk result (slice_get self.old.points point ≡ Some self.new.rows) }
+        ensures points { OnOk result (self.new.points ≡ take point self.old.points) }
+        ensures none { IsErr result ↔ (length self.old.points ≤ point) }
+        ensures err { OnErr result (self.new ≡ self.old) }
+        ensures clean { KeepsCleanLeaves self.old self.new }
+    {
+        self.tables.back_to(point)
+    }
+
+    /// The rows are those of the point from now on, of which the oldest is 0. The later ones are forgotten. Nothing is allocated.
+    pub fn rewind(&mut self, point: usize) -> Result<(), NoSuchPoint>
+        ensures rows { OnOk result (slice_get self.old.points point ≡ Some self.new.rows) }
+        ensures points { OnOk result (self.new.points ≡ take (point + 1) self.old.points) }
+        ensures none { IsErr result ↔ (length self.old.points ≤ point) }
+        ensures err { OnErr result (self.new ≡ self.old) }
+        ensures clean { KeepsCleanLeaves self.old self.new }
+    {
+        self.tables.rewind(point)
+    }
+}
