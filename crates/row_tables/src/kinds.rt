@@ -11,7 +11,7 @@ ghost use Rattle.tpcc_rows.specs.declared.row.Row.TheVariants.{Customer, Distric
 use std::alloc::Global;
 use std::marker::Model;
 use tables::shelf::Shelf;
-use tables::starts::LineStarts;
+use tables::starts::{HistoryStarts, LineStarts};
 use tables::table::Table;
 use tpcc_rows::memory::Memory;
 use tpcc_rows::number::{Carrier, Moment};
@@ -23,6 +23,12 @@ use tpcc_rows::row_ref::RowRef;
 
 /// The size of a customer's row when it is encoded, in bytes, without its text.
 const CUSTOMER_BYTES: usize = 36;
+
+/// That of an order line, without its text.
+const LINE_BYTES: usize = 30;
+
+/// That of a payment, without its text.
+const HISTORY_BYTES: usize = 29;
 
 /// About the size of a row of another kind.
 const ROW_BYTES: usize = 54;
@@ -41,6 +47,8 @@ pub struct KindTables {
     nexts: Shelf<DistrictNextRow>,
     /// Hints at the places of order lines.
     starts: LineStarts,
+    /// Hints at the places of payments.
+    payments: HistoryStarts,
 }
 
 impl Model for KindTables {
@@ -72,6 +80,7 @@ impl KindTables {
         let ytds = Shelf::new(alloc)?;
         let nexts = Shelf::new(alloc)?;
         let starts = LineStarts::new(alloc)?;
+        let payments = HistoryStarts::new(alloc);
         Ok(KindTables {
             warehouses,
             customers,
@@ -83,6 +92,7 @@ impl KindTables {
             ytds,
             nexts,
             starts,
+            payments,
         })
     }
 
@@ -132,7 +142,7 @@ impl KindTables {
         requires { table_of rank ≡ 6 }
         ensures { option_map History (option_copied result) ≡ map.get self.now rank }
     {
-        self.history.get(rank)
+        self.history.get_near(rank, self.payments.guess(rank))
     }
 
     pub fn district_ytd(&self, rank: u64) -> Option<&DistrictYtdRow>
@@ -176,16 +186,32 @@ impl KindTables {
         }
     }
 
+    /// About the size of an order line. Its text is at the end of the row, so all of it is read.
+    fn estimate_line(&self, rank: u64) -> usize {
+        match self.lines.get_near(rank, self.starts.guess(rank)) {
+            Some(row) => LINE_BYTES.wrapping_add(row.district_info.as_bytes().len()),
+            None => 0,
+        }
+    }
+
+    /// About the size of a payment.
+    fn estimate_history(&self, rank: u64) -> usize {
+        match self.history.get_near(rank, self.payments.guess(rank)) {
+            Some(row) => HISTORY_BYTES.wrapping_add(row.data.as_bytes().len()),
+            None => 0,
+        }
+    }
+
     /// About the size of the rank's row when it is encoded, in bytes: an estimate, on which nothing relies. Computing it reads the
     /// row, so that the next read needn't wait for memory.
     pub fn estimate(&self, rank: u64) -> usize {
         let is_at_hand = match rank / 0x0100_0000_0000_0000 {
             3 => return self.estimate_customer(rank),
+            7 => return self.estimate_line(rank),
+            8 => return self.estimate_history(rank),
             4 => self.stocks.touch(rank),
             5 => self.orders.touch(rank),
             6 => self.new_orders.touch(rank),
-            7 => self.lines.touch_near(rank, self.starts.guess(rank)),
-            8 => self.history.touch(rank),
             _ => true,
         };
         if is_at_hand { ROW_BYTES } else { 0 }
@@ -295,7 +321,9 @@ impl KindTables {
         ensures err { OnErr result (self.new ≡ self.old) }
         ensures new { OnErr result (map.get self.old rank ≡ None) }
     {
-        self.history.put(rank, row)
+        self.payments.note(rank, self.history.len());
+        let expected = self.payments.guess(rank);
+        self.history.put_near(rank, row, expected)
     }
 
     /// Inserts or replaces the rank's row, and returns the old one.

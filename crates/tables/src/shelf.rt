@@ -57,11 +57,6 @@ impl<R> Shelf<R> {
         self.tables[place_of(rank)].touch(rank)
     }
 
-    /// The same, with a hint at the rank's place in its table.
-    pub fn touch_near(&self, rank: u64, place: usize) -> bool {
-        self.tables[place_of(rank)].touch_near(rank, place)
-    }
-
     /// The rows of the rank's table with their ranks, in ascending rank.
     pub fn slice_at(&self, rank: u64) -> &[(u64, R)]
         ensures { result.now ≡ map.entries (rows_at place_of self.now (place_of rank)) }

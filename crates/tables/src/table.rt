@@ -10,8 +10,8 @@ use std::marker::Model;
 use std::mem;
 use tpcc_rows::memory::Memory;
 
-/// How far around a hint a row is searched.
-const NEAR: usize = 64;
+/// How far from a hint a row is searched.
+const NEAR: usize = 32;
 
 /// A finite map from ranks to rows.
 #[derive(Drop)]
@@ -43,12 +43,33 @@ fn guess<R>(entries: &[(u64, R)], rank: u64) -> usize {
     }
 }
 
+/// The first place from this one on, but not far from it, whose rank isn't less.
+fn upwards<R>(entries: &[(u64, R)], rank: u64, place: usize) -> usize {
+    let mut found = place;
+    for _ in 0..NEAR {
+        match entries.get(found) {
+            Some((other, _)) if *other < rank => found = found.wrapping_add(1),
+            _ => return found,
+        }
+    }
+    found
+}
+
+/// The least place up to this one, but not far from it, such that no rank between them is less.
+fn downwards<R>(entries: &[(u64, R)], rank: u64, place: usize) -> usize {
+    let mut found = place;
+    for _ in 0..NEAR {
+        match entries.get(found.wrapping_sub(1)) {
+            Some((other, _)) if rank <= *other => found = found.wrapping_sub(1),
+            _ => return found,
+        }
+    }
+    found
+}
+
 /// Where the rank is, if it is near the place.
 fn near<R>(entries: &[(u64, R)], rank: u64, place: usize) -> usize {
-    let high = place.saturating_add(NEAR).min(entries.len());
-    let low = place.saturating_sub(NEAR).min(high);
-    let within = entries[low..high].partition_point(|entry| entry.0 < rank);
-    low.wrapping_add(within)
+    downwards(entries, rank, upwards(entries, rank, place))
 }
 
 /// Whether the rank is at the place.
@@ -171,12 +192,7 @@ impl<R> Table<R> {
     /// Whether the rank's row is found at once. This reads it, so that the next read needn't wait for memory.
     pub fn touch(&self, rank: u64) -> bool {
         let guess = guess(&self.entries, rank);
-        self.touch_near(rank, guess)
-    }
-
-    /// The same, with a hint at the rank's place.
-    pub fn touch_near(&self, rank: u64, place: usize) -> bool {
-        is_at(&self.entries, rank, place)
+        is_at(&self.entries, rank, guess)
     }
 
     /// The rows with their ranks, in ascending rank.

@@ -6,4 +6,4 @@ use Rattle.row_tables.proofs.ByKind.{get-kind}
 use Rattle.row_tables.proofs.kinds.KindTables.history.Goals as goal
 
 pub returns : goal.returns
-returns c = ap (option_map (λ r. row.History r)) c.get.ensures ∙ get-kind (λ r. row.History r) _ c.self.invariant 6 c.args.rank c.requires (omega arith) c.self.inside.history refl ∙ ap (λ m. map.get m c.args.rank) c.self.view_is
+returns c = ap (option_map (λ r. row.History r)) c.get_near.ensures ∙ get-kind (λ r. row.History r) _ c.self.invariant 6 c.args.rank c.requires (omega arith) c.self.inside.history refl ∙ ap (λ m. map.get m c.args.rank) c.self.view_is
