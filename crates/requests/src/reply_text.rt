@@ -229,17 +229,25 @@ fn push_outcome(fields: &mut ByteRecord, reply: &Reply) -> Result<(), Memory>
     }
 }
 
-/// The record of a reply.
-pub fn reply_record(
-    alloc: Global,
+/// Replaces the record by that of a reply, so that one record serves for many.
+pub fn fill_record(
+    fields: &mut ByteRecord,
     number: RequestNumber,
     reply: &Reply,
-) -> Result<ByteRecord, Memory>
+) -> Result<(), Memory>
+    ensures { OnOk result (fields_of fields.new ≡ reply_fields number reply.now) }
+{
+    fields.clear();
+    push_number(fields, number.number())?;
+    push_outcome(fields, reply)
+}
+
+/// The record of a reply.
+fn reply_record(alloc: Global, number: RequestNumber, reply: &Reply) -> Result<ByteRecord, Memory>
     ensures { IfOk result (λ fields. fields_of fields ≡ reply_fields number reply.now) }
 {
     let mut fields = ByteRecord::new(alloc);
-    push_number(&mut fields, number.number())?;
-    push_outcome(&mut fields, reply)?;
+    fill_record(&mut fields, number, reply)?;
     Ok(fields)
 }
 

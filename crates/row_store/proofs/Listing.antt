@@ -1,6 +1,5 @@
 -- Ranks that stay listed.
-use Rattle.std.proofs.Common.{◌≡◌, ◌<◌, ◌&&◌, ℕ, zero, suc, true, false, cond, is_some, List, [], ◌∷◌, ◌++◌, take, drop, length, Option, Some, None, Result, Ok, Err, inl, inr, refl, sym, ap, subst, ◌∙◌, arith}
-use Rattle.std.proofs.lemmas.Bool.{cases_Bool}
+use Rattle.std.proofs.Common.{◌≡◌, ◌&&◌, ℕ, zero, suc, true, false, is_some, List, [], ◌∷◌, ◌++◌, take, drop, length, Some, Result, Ok, Err, inl, inr, sym, ap, subst, ◌∙◌, arith}
 use Rattle.std.proofs.lemmas.List.Elements.{All-append, All-cons, All-drop, All-nil, All-take}
 use Rattle.std.specs.FinMap as map
 use Rattle.std.specs.FinMap.{get, get-empty, insert, remove}
@@ -173,3 +172,7 @@ module _ (ranks next : ByRank ⊤) (k : RowKey) (numbered : IsNumbered k) (s : P
 pub now-listed : (ranks next : ByRank ⊤) (k : RowKey) → IsNumbered k → {A E : Type 0} (r : Result A E) → OnOk r (next ≡ insert ranks (rank k) tt) → OnOk r (IsListed next k)
 now-listed ranks next k numbered (Ok u) ok = subst (λ (m : ByRank ⊤). IsListed m k) (sym ok) (listed-now ranks k numbered)
 now-listed ranks next k numbered (Err e) ok = tt
+
+-- of the same store
+pub leaves-alike : (ranks : ByRank ⊤) (store was : Pointed) → store ≡ was → AreLeaves ranks was → AreLeaves ranks store
+leaves-alike ranks store was is leaves = subst (λ (s : Pointed). AreLeaves ranks s) (sym is) leaves

@@ -37,7 +37,8 @@ use tpcc_rows::row_ref::RowRef;
 /// Rows, points to which they can go back, and the set of the leaves on which they have changed since it was last taken.
 #[derive(Drop)]
 pub struct PointedStore {
-    tables: PointedTables,
+    /// Boxed, so that a store is small to move, and who holds one needn't be proved to drop each table.
+    tables: Box<PointedTables>,
     /// The rank of each key that has a row, or had one at a point. Ranks stay, so that a row comes back without memory.
     leaves: Leaves,
 }
@@ -50,9 +51,9 @@ impl Model for PointedStore {
 
     ghost coded = { pointed_code };
 
-    ghost view = { λ s. s.tables };
+    ghost view = { λ s. s.tables.value };
 
-    ghost invariant = { λ s. AreLeaves s.leaves s.tables };
+    ghost invariant = { λ s. AreLeaves s.leaves s.tables.value };
 }
 
 /// The rank of a key, and its leaf.
@@ -86,6 +87,15 @@ fn list_new(leaves: &mut Leaves, tables: &PointedTables, key: &RowKey) -> Result
     list(leaves, key)
 }
 
+fn boxed(alloc: Global, tables: PointedTables) -> Result<Box<PointedTables>, Memory>
+    ensures { IfOk result (λ boxed. boxed.value ≡ tables) }
+{
+    match Box::new(alloc, tables) {
+        Ok(boxed) => Ok(boxed),
+        Err(_) => Err(Memory),
+    }
+}
+
 impl PointedStore {
     /// No rows; there is no point, and no leaf is dirty.
     pub fn new(alloc: Global) -> Result<PointedStore, Memory>
@@ -95,10 +105,8 @@ impl PointedStore {
     {
         let tables = RowTables::new(alloc)?;
         let leaves = Leaves::new(alloc)?;
-        Ok(PointedStore {
-            tables: PointedTables::new(alloc, tables),
-            leaves,
-        })
+        let tables = boxed(alloc, PointedTables::new(alloc, tables))?;
+        Ok(PointedStore { tables, leaves })
     }
 
     /// The rows of a list, of which a later one replaces an earlier one of its key; there is no point, and no leaf is dirty.
@@ -114,10 +122,8 @@ impl PointedStore {
             list(&mut leaves, &key)?;
             tables.put(key, row)?;
         }
-        Ok(PointedStore {
-            tables: PointedTables::new(alloc, tables),
-            leaves,
-        })
+        let tables = boxed(alloc, PointedTables::new(alloc, tables))?;
+        Ok(PointedStore { tables, leaves })
     }
 
     pub fn get(&self, key: &RowKey) -> Option<RowRef<'_>>

@@ -11,7 +11,7 @@ use executor::path::Path;
 use records::record_text::{push, push_number};
 use records::record_writer::{record_writer, write_record, written_text};
 use requests::reply::Reply;
-use requests::reply_text::reply_record;
+use requests::reply_text::fill_record;
 use std::alloc::Global;
 use tpcc_rows::id::{END_OF_NUMBERS, RequestNumber};
 use tpcc_rows::memory::Memory;
@@ -30,9 +30,10 @@ fn write_replies(
     ensures text { OnOk result (written writer.new ≡ written writer.old ++ replies_text first replies.now) }
 {
     let mut next = first;
+    let mut fields = ByteRecord::new(alloc);
     for reply in replies {
         let number = RequestNumber::new(next).unwrap();
-        let fields = reply_record(alloc, number, reply)?;
+        fill_record(&mut fields, number, reply)?;
         write_record(writer, &fields)?;
         next += 1;
     }

@@ -1,7 +1,8 @@
-use Rattle.std.proofs.Common.{rules, ◌≡◌, sym, subst, ◌∙◌}
+use Rattle.std.proofs.Common.{rules, ◌≡◌, sym, subst, ap, ◌∙◌}
 use Rattle.tpcc_rows.specs.RowMap.{Rows}
+use Rattle.rollback.specs.Pointed.{Pointed}
 use Rattle.row_store.specs.Leaves.{AreListed}
-use Rattle.row_store.proofs.Listing.{IsFilling, filled-none, filling-done, filling-more, fits-first, leaves-none}
+use Rattle.row_store.proofs.Listing.{IsFilling, filled-none, filling-done, filling-more, fits-first, leaves-none, leaves-alike}
 use Rattle.row_store.proofs.pointed.PointedStore.from_rows.Goals as goal
 
 pub loop-key-init : goal.loop-key-init
@@ -37,9 +38,10 @@ pub invariant_of-result : goal.invariant_of-result
 invariant_of-result c =
     let e = c.new-3.ensures in
     let i = c.loop-key.invariant in
-    leaves-none c.loop-key.leaves c.new-3.result i.keys (subst (λ (rows : Rows). AreListed c.loop-key.leaves rows) (sym e.rows) i.listed) e.points
+    leaves-alike _ _ _ c.in_ok-tables-2.ensures
+    (leaves-none c.loop-key.leaves c.new-3.result i.keys (subst (λ (rows : Rows). AreListed c.loop-key.leaves rows) (sym e.rows) i.listed) e.points)
 
 pub returns-clause-rows : goal.returns-clause-rows
 returns-clause-rows c =
     let rest = c.loop-key.key-iterator.rest in
-    c.new-3.ensures.rows ∙ filling-done c.args.rows.items rest.items c.loop-key.leaves c.loop-key.tables (sym rest.ok.0 ∙ c.in-None.ensures.steps.0) c.loop-key.invariant
+    ap (λ (store : Pointed). store.rows) c.in_ok-tables-2.ensures ∙ c.new-3.ensures.rows ∙ filling-done c.args.rows.items rest.items c.loop-key.leaves c.loop-key.tables (sym rest.ok.0 ∙ c.in-None.ensures.steps.0) c.loop-key.invariant

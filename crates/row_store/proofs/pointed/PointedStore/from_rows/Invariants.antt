@@ -1,4 +1,3 @@
-use Rattle.std.proofs.Common.{◌≡◌}
 use Rattle.row_store.proofs.Listing.{IsFilling}
 use Rattle.row_store.proofs.pointed.PointedStore.from_rows.Given as goal
 
