@@ -1,5 +1,5 @@
 -- The results of a batch on an engine, in terms of the serial answer.
-use Rattle.std.specs.Prelude.{List, Option}
+use Rattle.std.specs.Prelude.{List}
 use Rattle.requests.specs.declared.reply.Reply.{Reply}
 use Rattle.tpcc_model.specs.Serial.{State, batch_replies, batch_rows}
 use Rattle.tpcc_rows.specs.RowMap.{Rows}
@@ -9,6 +9,7 @@ use Rattle.executor.specs.declared.engine.Engine.{Engine}
 use Rattle.executor.specs.declared.next_batch.NextBatch.{NextBatch}
 use Rattle.executor.specs.declared.path.Path.{Path}
 use Rattle.executor.specs.declared.record.Record.{Record}
+use Rattle.executor.specs.declared.way.Way.{Way}
 
 -- the state that the batch meets
 abbrev pub met_by : Engine → NextBatch → State
@@ -21,9 +22,9 @@ replies_by engine next = batch_replies engine.catalog (met_by engine next) next.
 abbrev pub rows_by : Engine → NextBatch → Rows
 rows_by engine next = batch_rows engine.catalog (met_by engine next) next.batch.now
 
--- its path, and its record: by workers if there are any
-abbrev pub path_by_workers : {W : Type 0} → Option W → Engine → NextBatch → Path
-path_by_workers workers engine next = path_in workers engine.catalog (met_by engine next) next.batch.now
+-- its path, and its record, if it is executed in this way
+abbrev pub path_by_way : Way → Engine → NextBatch → Path
+path_by_way way engine next = path_in way engine.catalog (met_by engine next) next.batch.now
 
-abbrev pub IsRecordBy : {W : Type 0} → Option W → Engine → NextBatch → Record → Type 0
-IsRecordBy workers engine next = IsRecordOf engine.catalog (met_by engine next) next.batch.now (path_by_workers workers engine next)
+abbrev pub IsRecordBy : Way → Engine → NextBatch → Record → Type 0
+IsRecordBy way engine next = IsRecordOf engine.catalog (met_by engine next) next.batch.now (path_by_way way engine next)

@@ -11,6 +11,8 @@ use Rattle.executor.specs.declared.path.Path.TheVariants as path
 use Rattle.executor.specs.declared.record.Record.{Record}
 use Rattle.executor.specs.declared.refusal.Refusal.{Refusal}
 use Rattle.executor.specs.declared.refusal.Refusal.TheVariants as refusal
+use Rattle.executor.specs.declared.way.Way.{Way}
+use Rattle.executor.specs.declared.way.Way.TheVariants as way
 use Rattle.tpcc_rows.specs.declared.id.TheConstants.{END_OF_NUMBERS}
 
 -- the batch's number, or that of one of its requests, would exceed its limit
@@ -31,9 +33,9 @@ IsRefusedFor None e = e ≡ refusal.Memory
 IsRefusedFor (Some reason) e = e ≡ reason
 
 -- one request after the other, or level by level
-abbrev pub path_in : {W : Type 0} → Option W → Cards → State → Batch → Path
-path_in None cards state batch = path.Sequential
-path_in (Some workers) cards state batch = path_of cards state batch
+abbrev pub path_in : Way → Cards → State → Batch → Path
+path_in way.InOrder cards state batch = path.Sequential
+path_in way.ByWorkers cards state batch = path_of cards state batch
 
 -- the record of a batch that met this state
 pub record IsRecordOf (cards : Cards) (state : State) (batch : Batch) (how : Path) (r : Record) : Type 0 where

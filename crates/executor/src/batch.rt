@@ -1,7 +1,7 @@
 //! Executes a batch on an engine, whose rows can be rolled back.
 ghost use Rattle.std.specs.Prelude.{◌≡◌, ◌+◌, ◌<◌, ◌≤◌, ◌++◌, ◌∷◌, [], IfOk, IsTrue, OnErr, OnOk, Some, length, slice_get};
 ghost use Rattle.catalog.specs.CardBytes.{catalog_digest};
-ghost use Rattle.executor.specs.Engines.{IsRecordBy, met_by, path_by_workers, replies_by, rows_by};
+ghost use Rattle.executor.specs.Engines.{IsRecordBy, met_by, path_by_way, replies_by, rows_by};
 ghost use Rattle.executor.specs.Paths.{path_by};
 ghost use Rattle.executor.specs.States.{IsSoundState};
 ghost use Rattle.requests.specs.declared.request.Verdict.TheVariants as verdict;
@@ -17,17 +17,17 @@ use crate::path::Path;
 use crate::record::Record;
 use crate::sequential::execute_sequential;
 use crate::stamp::Stamp;
+use crate::way::Way;
 use requests::reply::Reply;
 use requests::request::Verdict;
 use rollback::POINTS;
 use row_store::PointedStore;
-use std::alloc::Global;
 use std::thread::Threads;
 use token::{TokenParts, reply_digest};
 use tpcc_rows::id::END_OF_NUMBERS;
 use tpcc_rows::memory::Memory;
 use transactions::Stop;
-use workers::{Gate, Runtime, Workers};
+use workers::{Gate, Runtime};
 
 /// Saves the present rows as the newest point, for which there is capacity.
 fn mark(store: &mut PointedStore)
@@ -49,14 +49,6 @@ fn rewind(store: &mut PointedStore, point: usize)
     store.rewind(point).unwrap();
 }
 
-/// Maximum number of threads that hash leaves: one per worker, or one.
-fn threads_of(workers: &Option<Workers>) -> usize {
-    match workers {
-        Some(workers) => workers.count(),
-        None => 1,
-    }
-}
-
 /// The path of a batch whose verdict is `commit`.
 fn path_of(strayed: bool) -> Path
     ensures { result ≡ path_by verdict.Commit strayed }
@@ -75,42 +67,34 @@ fn is_rerun_untold<G: Gate>(asked: Verdict, gate: &G) -> bool
 }
 
 impl Engine {
-    /// The replies to a batch that meets the newest point's rows, and its path. Without workers it is executed in order. With
-    /// workers it is rolled back and re-executed in order if a request strays in a level, or if the verdict is `rerun`; if it
-    /// is and no gate listens, it is executed once, in order.
+    /// The replies to a batch that meets the newest point's rows, and its path. A batch that is executed by workers is rolled
+    /// back and re-executed in order if a request strays in a level, or if the verdict is `rerun`; if it is and no gate listens,
+    /// it is executed once, in order.
     fn replies_of<R: Threads + Sync, G: Gate>(
         &mut self,
-        rt: &R,
-        alloc: Global,
+        runtime: &Runtime<'_, R, G>,
         next: &NextBatch<'_>,
-        workers: Option<Workers>,
-        gate: &G,
+        way: Way,
         point: usize,
     ) -> Result<(Vec<Reply>, Path), Memory>
         requires newest { length self.old.store.points ≡ point + 1 }
         requires marked { slice_get self.old.store.points point ≡ Some self.old.store.rows }
         requires sound { IsSoundState self.old.catalog (met_by self.old next.now) }
         ensures replies { IfOk result (λ done. done.0.items ≡ replies_by self.old next.now) }
-        ensures path { IfOk result (λ done. done.1 ≡ path_by_workers workers self.old next.now) }
+        ensures path { IfOk result (λ done. done.1 ≡ path_by_way way self.old next.now) }
         ensures rows { OnOk result (self.new.store.rows ≡ rows_by self.old next.now) }
         ensures points { self.new.store.points ≡ self.old.store.points }
         ensures cards { self.new.catalog ≡ self.old.catalog }
     {
-        let Some(workers) = workers else {
-            let replies = execute_sequential(alloc, &self.catalog, &mut self.store, next, gate)?;
+        let Way::ByWorkers = way else {
+            let replies = execute_sequential(runtime, &self.catalog, &mut self.store, next)?;
             return Ok((replies, Path::Sequential));
         };
-        if is_rerun_untold(next.batch.verdict, gate) {
-            let replies = execute_sequential(alloc, &self.catalog, &mut self.store, next, gate)?;
+        if is_rerun_untold(next.batch.verdict, runtime.gate) {
+            let replies = execute_sequential(runtime, &self.catalog, &mut self.store, next)?;
             return Ok((replies, Path::Verdict));
         }
-        let runtime = Runtime {
-            rt,
-            alloc,
-            workers,
-            gate,
-        };
-        let path = match execute_parallel(&runtime, &self.catalog, &mut self.store, next) {
+        let path = match execute_parallel(runtime, &self.catalog, &mut self.store, next) {
             Ok(Pass { replies, strayed }) => match next.batch.verdict {
                 Verdict::Commit => return Ok((replies, path_of(strayed))),
                 Verdict::Rerun => Path::Verdict,
@@ -122,19 +106,17 @@ impl Engine {
             Err(Stop::Memory) => return Err(Memory),
         };
         rewind(&mut self.store, point);
-        let replies = execute_sequential(alloc, &self.catalog, &mut self.store, next, gate)?;
+        let replies = execute_sequential(runtime, &self.catalog, &mut self.store, next)?;
         Ok((replies, path))
     }
 
     /// The token of a batch that met the state with this stamp, gave these replies and left the present rows. Hashes the dirty
-    /// leaves, on at most `threads` threads, after which none is dirty.
+    /// leaves, on at most one thread per worker, after which none is dirty.
     fn token_of<R: Threads + Sync, G: Gate>(
         &mut self,
-        rt: &R,
+        runtime: &Runtime<'_, R, G>,
         stamp: &Stamp,
         replies: &[Reply],
-        threads: usize,
-        gate: &G,
     ) -> [u8; 32]
         requires sequence { stamp.now.sequence < LAST_NUMBER }
         requires numbers { stamp.now.next + length replies.now ≤ END_OF_NUMBERS }
@@ -145,8 +127,9 @@ impl Engine {
         ensures cards { self.new.catalog ≡ self.old.catalog }
     {
         let dirty = self.store.take_dirty();
-        gate.refreshes(&dirty);
-        self.tree.refresh(rt, &self.store, &dirty, threads);
+        runtime.gate.refreshes(&dirty);
+        let threads = runtime.workers.count();
+        self.tree.refresh(runtime.rt, &self.store, &dirty, threads);
         let parts = TokenParts {
             sequence: stamp.sequence + 1,
             prior: stamp.token,
@@ -160,24 +143,21 @@ impl Engine {
     /// Executes a batch that meets the newest point's rows, and returns its record.
     fn recorded<R: Threads + Sync, G: Gate>(
         &mut self,
-        rt: &R,
-        alloc: Global,
+        runtime: &Runtime<'_, R, G>,
         next: &NextBatch<'_>,
-        workers: Option<Workers>,
-        gate: &G,
+        way: Way,
         point: usize,
     ) -> Result<Record, Memory>
         requires newest { length self.old.store.points ≡ point + 1 }
         requires marked { slice_get self.old.store.points point ≡ Some self.old.store.rows }
         requires sound { IsSoundState self.old.catalog (met_by self.old next.now) }
-        ensures record { IfOk result (IsRecordBy workers self.old next.now) }
+        ensures record { IfOk result (IsRecordBy way self.old next.now) }
         ensures rows { OnOk result (self.new.store.rows ≡ rows_by self.old next.now) }
         ensures points { self.new.store.points ≡ self.old.store.points }
         ensures cards { self.new.catalog ≡ self.old.catalog }
     {
-        let threads = threads_of(&workers);
-        let (replies, path) = self.replies_of(rt, alloc, next, workers, gate, point)?;
-        let token = self.token_of(rt, &next.stamp, &replies, threads, gate);
+        let (replies, path) = self.replies_of(runtime, next, way, point)?;
+        let token = self.token_of(runtime, &next.stamp, &replies);
         Ok(Record {
             sequence: next.stamp.sequence + 1,
             first: next.stamp.next,
@@ -191,15 +171,13 @@ impl Engine {
     /// point is added.
     pub fn execute<R: Threads + Sync, G: Gate>(
         &mut self,
-        rt: &R,
-        alloc: Global,
+        runtime: &Runtime<'_, R, G>,
         next: &NextBatch<'_>,
-        workers: Option<Workers>,
-        gate: &G,
+        way: Way,
     ) -> Result<Record, Memory>
         requires room { length self.old.store.points < POINTS }
         requires sound { IsSoundState self.old.catalog (met_by self.old next.now) }
-        ensures record { IfOk result (IsRecordBy workers self.old next.now) }
+        ensures record { IfOk result (IsRecordBy way self.old next.now) }
         ensures rows { OnOk result (self.new.store.rows ≡ rows_by self.old next.now) }
         ensures points { OnOk result (self.new.store.points ≡ self.old.store.points ++ self.old.store.rows ∷ []) }
         ensures cards { self.new.catalog ≡ self.old.catalog }
@@ -208,7 +186,7 @@ impl Engine {
     {
         let point = self.store.points();
         mark(&mut self.store);
-        let outcome = self.recorded(rt, alloc, next, workers, gate, point);
+        let outcome = self.recorded(runtime, next, way, point);
         if outcome.is_err() {
             self.store.back_to(point).unwrap();
         }

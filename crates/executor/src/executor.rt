@@ -21,6 +21,7 @@ use crate::opening::{beside_digest, next_number};
 use crate::record::Record;
 use crate::refusal::Refusal;
 use crate::stamp::{NumbersTaken, Stamp};
+use crate::way::Way;
 use arrayvec::ArrayVec;
 use catalog::Catalog;
 use hashers::Host;
@@ -34,7 +35,7 @@ use std::thread::Threads;
 use token::{TokenParts, reply_digest};
 use tpcc_rows::id::END_OF_NUMBERS;
 use tpcc_rows::memory::Memory;
-use workers::{Gate, NoGate, Workers};
+use workers::{Gate, NoGate, Runtime, Workers};
 
 /// A database between batches, and the states before its uncommitted batches, to which it can be rolled back. A batch is
 /// uncommitted from its execution until it is committed or rolled back.
@@ -226,15 +227,13 @@ impl Executor {
 
     fn execute_by<R: Threads + Sync, G: Gate>(
         &mut self,
-        rt: &R,
-        alloc: Global,
+        runtime: &Runtime<'_, R, G>,
         batch: &Batch,
-        workers: Option<Workers>,
-        gate: &G,
+        way: Way,
     ) -> Result<Record, Refusal>
         ensures admitted { OnOk result (refusal_for POINTS self.old batch.now ≡ None) }
         ensures chain { OnOk result (self.new ≡ extended self.old batch.now) }
-        ensures record { IfOk result (IsRecordOf self.old.cards self.old.present batch.now (path_in workers self.old.cards self.old.present batch.now)) }
+        ensures record { IfOk result (IsRecordOf self.old.cards self.old.present batch.now (path_in way self.old.cards self.old.present batch.now)) }
         ensures refused { IfErr result (IsRefusedFor (refusal_for POINTS self.old batch.now)) }
         ensures sound { IsSoundState self.new.cards self.new.present }
         ensures err { OnErr result (self.new ≡ self.old) }
@@ -248,7 +247,7 @@ impl Executor {
             stamp: self.present,
         };
         next.keep_within();
-        let record = self.engine.execute(rt, alloc, &next, workers, gate)?;
+        let record = self.engine.execute(runtime, &next, way)?;
         let token = record.token;
         self.earlier.push(self.present);
         self.present = Stamp {
@@ -264,11 +263,8 @@ impl Executor {
     /// is executed once, in order. Replies, rows, token and path are the same in every case. The gate observes each execution.
     pub fn execute<R: Threads + Sync, G: Gate>(
         &mut self,
-        rt: &R,
-        alloc: Global,
+        runtime: &Runtime<'_, R, G>,
         batch: &Batch,
-        workers: Workers,
-        gate: &G,
     ) -> Result<Record, Refusal>
         ensures admitted { OnOk result (refusal_for POINTS self.old batch.now ≡ None) }
         ensures chain { OnOk result (self.new ≡ extended self.old batch.now) }
@@ -279,7 +275,7 @@ impl Executor {
         ensures err { OnErr result (self.new ≡ self.old) }
     {
         self.keep_sound();
-        self.execute_by(rt, alloc, batch, Some(workers), gate)
+        self.execute_by(runtime, batch, Way::ByWorkers)
     }
 
     /// Executes a batch one request after the other.
@@ -296,7 +292,13 @@ impl Executor {
         ensures sound { IsSoundState self.new.cards self.new.present }
         ensures err { OnErr result (self.new ≡ self.old) }
     {
-        self.execute_by(rt, alloc, batch, None, &NoGate)
+        let runtime = Runtime {
+            rt,
+            alloc,
+            workers: Workers::new(1).unwrap(),
+            gate: &NoGate,
+        };
+        self.execute_by(&runtime, batch, Way::InOrder)
     }
 
     /// Commits the oldest uncommitted batch, and returns its number. Allocates nothing.

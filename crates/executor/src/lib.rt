@@ -23,6 +23,7 @@ mod sequential;
 mod stamp;
 mod told;
 mod turn;
+mod way;
 
 pub use executor::Executor;
 pub use next_batch::{LAST_NUMBER, MOST_REQUESTS};

@@ -9,9 +9,8 @@ use crate::record::Record;
 use crate::refusal::Refusal;
 use requests::request::Batch;
 use rollback::POINTS;
-use std::alloc::Global;
 use std::thread::Threads;
-use workers::{Gate, Workers};
+use workers::{Gate, Runtime};
 
 /// How a run ended: the records of the executed batches, and why the next one was refused; `None` after the last batch.
 #[derive(Drop)]
@@ -25,25 +24,22 @@ impl Executor {
     /// first.
     pub fn run<R: Threads + Sync, G: Gate>(
         &mut self,
-        rt: &R,
-        alloc: Global,
+        runtime: &Runtime<'_, R, G>,
         batches: &[Batch],
-        workers: Workers,
-        gate: &G,
     ) -> RunEnd
         ensures headline { Headline self.old.cards self.old.present batches.now (map completed result.records.items) self.new.present }
         ensures run { IsRunOf POINTS self.old self.new batches.now result }
         ensures sound { IsSoundState self.new.cards self.new.present }
     {
         self.keep_sound();
-        let Ok(mut records) = Vec::with_capacity(alloc, batches.len()) else {
+        let Ok(mut records) = Vec::with_capacity(runtime.alloc, batches.len()) else {
             return RunEnd {
-                records: Vec::new(alloc),
+                records: Vec::new(runtime.alloc),
                 stop: Some(Refusal::Memory),
             };
         };
         for batch in batches {
-            match self.execute(rt, alloc, batch, workers, gate) {
+            match self.execute(runtime, batch) {
                 Ok(record) => records.push_reserved(record),
                 Err(refusal) => {
                     return RunEnd {

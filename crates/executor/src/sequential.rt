@@ -19,7 +19,7 @@ use tpcc_rows::memory::Memory;
 use tpcc_rows::number::Moment;
 use transactions::{Stop, execute};
 use worker_rows::Whole;
-use workers::Gate;
+use workers::{Gate, Runtime};
 
 /// The outcome of a request on all rows, where no request strays.
 pub(crate) fn executed(
@@ -42,24 +42,24 @@ pub(crate) fn executed(
 /// Executes the requests of a batch one after the other, and applies the changes of each before the next. If an allocation
 /// fails, some of the changes have been applied. The gate observes each execution.
 #[tactic(auto, unfolding(tpcc_rows::specs::Changing::after))]
-pub(crate) fn execute_sequential<G: Gate>(
-    alloc: Global,
+pub(crate) fn execute_sequential<R, G: Gate>(
+    runtime: &Runtime<'_, R, G>,
     catalog: &Catalog,
     store: &mut PointedStore,
     next: &NextBatch<'_>,
-    gate: &G,
 ) -> Result<Vec<Reply>, Memory>
     ensures replies { IfOk result (λ replies. replies.items ≡ batch_replies catalog.now (state_of store.old.rows next.now.stamp) next.now.batch.now) }
     ensures rows { OnOk result (store.new.rows ≡ batch_rows catalog.now (state_of store.old.rows next.now.stamp) next.now.batch.now) }
     ensures points { store.new.points ≡ store.old.points }
     ensures clean { KeepsCleanLeaves store.old store.new }
 {
+    let alloc = runtime.alloc;
     let mut replies = Vec::with_capacity(alloc, next.batch.requests.len())?;
     for (place, request) in next.batch.requests.as_slice().iter().enumerate() {
         let number = RequestNumber::new(next.stamp.next + place as u64).unwrap();
-        gate.enter(place);
+        runtime.gate.enter(place);
         let done = executed(alloc, catalog, request, number, next.batch.moment, store);
-        gate.leave(place);
+        runtime.gate.leave(place);
         let (reply, delta) = done?;
         store.apply(delta)?;
         replies.push(reply)?;
