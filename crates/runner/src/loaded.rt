@@ -14,20 +14,16 @@ use crate::stored_run::store_read;
 use executor::Executor;
 use hashers::Host;
 use records::io::Sink;
-use std::alloc::Global;
 use telling::TellingSource;
-use workers::{Runtime, Workers};
+use workers::Runtime;
 
 /// Reads all bytes of the batches; then parses, executes, commits and writes batch after batch, from the executor's present
 /// state on. Returns the number of batches.
 pub fn run_on<R: Host, B: TellingSource, S: Sink, G: Observer>(
-    rt: &R,
-    alloc: Global,
+    runtime: &Runtime<'_, R, G>,
     executor: &mut Executor,
     batches: &mut B,
     sink: &mut S,
-    workers: Workers,
-    gate: &G,
 ) -> Result<u64, RunFault>
     requires alone { executor.old.earlier ≡ [] }
     requires sound { IsSoundState executor.old.cards executor.old.present }
@@ -45,26 +41,17 @@ pub fn run_on<R: Host, B: TellingSource, S: Sink, G: Observer>(
     ensures batches_failures { B.failed batches.new ≡ B.failed batches.old + (if is_batches_read result then 1 else 0) }
     ensures sink_failures { S.failed sink.new ≡ S.failed sink.old + (if is_write result then 1 else 0) }
 {
-    let runtime = Runtime {
-        rt,
-        alloc,
-        workers,
-        gate,
-    };
-    run_read(&runtime, executor, batches, sink)
+    run_read(runtime, executor, batches, sink)
 }
 
 /// Runs batches as `run_on` does, and then writes the image of the state whose token was written last, now the executor's
 /// present one.
 pub fn run_and_store_on<R: Host, B: TellingSource, S: Sink, K: Sink, G: Observer>(
-    rt: &R,
-    alloc: Global,
+    runtime: &Runtime<'_, R, G>,
     executor: &mut Executor,
     batches: &mut B,
     sink: &mut S,
     tables: &mut K,
-    workers: Workers,
-    gate: &G,
 ) -> Result<u64, StoredRunFault>
     requires alone { executor.old.earlier ≡ [] }
     requires sound { IsSoundState executor.old.cards executor.old.present }
@@ -86,11 +73,5 @@ pub fn run_and_store_on<R: Host, B: TellingSource, S: Sink, K: Sink, G: Observer
     ensures sink_failures { S.failed sink.new ≡ S.failed sink.old + (if in_run is_write result then 1 else 0) }
     ensures tables_failures { K.failed tables.new ≡ K.failed tables.old + (if in_store result then 1 else 0) }
 {
-    let runtime = Runtime {
-        rt,
-        alloc,
-        workers,
-        gate,
-    };
-    store_read(&runtime, executor, batches, sink, tables)
+    store_read(runtime, executor, batches, sink, tables)
 }

@@ -16,9 +16,8 @@ use crate::run::run_read;
 use executor::{Executor, NumbersTaken, Stamp};
 use hashers::Host;
 use records::io::Sink;
-use std::alloc::Global;
 use telling::TellingSource;
-use workers::{Runtime, Workers};
+use workers::Runtime;
 
 /// The result of a resumed run.
 #[derive(Drop)]
@@ -139,14 +138,11 @@ fn go_on<R: Host, B: TellingSource, S: Sink, G: Observer>(
 /// If a request in the history has the stamp's next number or a greater one, the stamp is refused, and no batches are read. Without
 /// a stamp the run begins before any batch.
 pub fn run_from<R: Host, I: TellingSource, B: TellingSource, S: Sink, G: Observer>(
-    rt: &R,
-    alloc: Global,
+    runtime: &Runtime<'_, R, G>,
     image: &mut I,
     from: Option<Stamp>,
     batches: &mut B,
     sink: &mut S,
-    workers: Workers,
-    gate: &G,
 ) -> Resumed
     requires within { IfSome from IsWithinLimits }
     requires image { I.failed image.old < 2 ^ 63 }
@@ -165,17 +161,11 @@ pub fn run_from<R: Host, I: TellingSource, B: TellingSource, S: Sink, G: Observe
     ensures batches_failures { B.failed batches.new ≡ B.failed batches.old + (if in_resumed is_batches_read result.ran then 1 else 0) }
     ensures sink_failures { S.failed sink.new ≡ S.failed sink.old + (if in_resumed is_write result.ran then 1 else 0) }
 {
-    let runtime = Runtime {
-        rt,
-        alloc,
-        workers,
-        gate,
-    };
     // The executor stays where it was made: moved, it would be on the stack twice.
-    gate.begins(Phase::Load);
-    let mut loaded = load_told(rt, alloc, image);
+    runtime.gate.begins(Phase::Load);
+    let mut loaded = load_told(runtime.rt, runtime.alloc, image);
     match &mut loaded {
-        Ok(executor) => go_on(&runtime, executor, from, batches, sink),
+        Ok(executor) => go_on(runtime, executor, from, batches, sink),
         Err(fault) => Resumed {
             ran: Err(ResumedFault::Unopened(*fault)),
             at: None,

@@ -13,9 +13,8 @@ use crate::serving::run_batches;
 use executor::Executor;
 use hashers::Host;
 use records::io::Sink;
-use std::alloc::Global;
 use telling::TellingSource;
-use workers::{Runtime, Workers};
+use workers::Runtime;
 
 /// Starts helper threads, and runs the batches of a text from the executor's present state on.
 pub(crate) fn run_given<R: Host, S: Sink, G: Observer>(
@@ -73,13 +72,10 @@ pub(crate) fn run_read<R: Host, B: TellingSource, S: Sink, G: Observer>(
 /// Loads an image, reads all bytes of the batches, and then parses, executes, commits and writes batch after batch. Returns the
 /// number of batches. The output is the same for every number of workers and every observer.
 pub fn run_text<R: Host, I: TellingSource, B: TellingSource, S: Sink, G: Observer>(
-    rt: &R,
-    alloc: Global,
+    runtime: &Runtime<'_, R, G>,
     image: &mut I,
     batches: &mut B,
     sink: &mut S,
-    workers: Workers,
-    gate: &G,
 ) -> Result<u64, RunFault>
     requires image { I.failed image.old < 2 ^ 63 }
     requires batches { B.failed batches.old < 2 ^ 63 }
@@ -97,16 +93,10 @@ pub fn run_text<R: Host, I: TellingSource, B: TellingSource, S: Sink, G: Observe
     ensures batches_failures { B.failed batches.new ≡ B.failed batches.old + (if is_batches_read result then 1 else 0) }
     ensures sink_failures { S.failed sink.new ≡ S.failed sink.old + (if is_write result then 1 else 0) }
 {
-    gate.begins(Phase::Load);
-    let mut executor = match load_told(rt, alloc, image) {
+    runtime.gate.begins(Phase::Load);
+    let mut executor = match load_told(runtime.rt, runtime.alloc, image) {
         Ok(executor) => executor,
         Err(fault) => return Err(fault),
     };
-    let runtime = Runtime {
-        rt,
-        alloc,
-        workers,
-        gate,
-    };
-    run_read(&runtime, &mut executor, batches, sink)
+    run_read(runtime, &mut executor, batches, sink)
 }

@@ -39,13 +39,7 @@ fn serve_batch<R: Threads + Sync, S: Sink, G: Observer>(
 {
     let before = executor.sequence();
     runtime.gate.begins(Phase::Execute);
-    let record = match executor.execute(
-        runtime.rt,
-        runtime.alloc,
-        batch,
-        runtime.workers,
-        runtime.gate,
-    ) {
+    let record = match executor.execute(runtime, batch) {
         Ok(record) => record,
         Err(refusal) => return Err(RunFault::Exec(refusal)),
     };

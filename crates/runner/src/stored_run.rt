@@ -22,7 +22,7 @@ use std::alloc::Global;
 use stored_image::store_image;
 use telling::TellingSource;
 use tpcc_rows::memory::Memory;
-use workers::{Runtime, Workers};
+use workers::Runtime;
 
 /// The image of the executor's present state.
 fn image_of(alloc: Global, executor: &Executor) -> Result<Vec<u8>, Memory>
@@ -159,14 +159,11 @@ pub(crate) fn store_read<R: Host, B: TellingSource, S: Sink, K: Sink, G: Observe
 /// Runs batches as `run_text` does, and then writes the image of the last state whose token was written, for a later run to
 /// resume from. It is written even if the run ends early, unless its output failed or there was no state yet.
 pub fn run_and_store<R: Host, I: TellingSource, B: TellingSource, S: Sink, K: Sink, G: Observer>(
-    rt: &R,
-    alloc: Global,
+    runtime: &Runtime<'_, R, G>,
     image: &mut I,
     batches: &mut B,
     sink: &mut S,
     tables: &mut K,
-    workers: Workers,
-    gate: &G,
 ) -> Result<u64, StoredRunFault>
     requires image { I.failed image.old < 2 ^ 63 }
     requires batches { B.failed batches.old < 2 ^ 63 }
@@ -186,16 +183,10 @@ pub fn run_and_store<R: Host, I: TellingSource, B: TellingSource, S: Sink, K: Si
     ensures sink_failures { S.failed sink.new ≡ S.failed sink.old + (if in_run is_write result then 1 else 0) }
     ensures tables_failures { K.failed tables.new ≡ K.failed tables.old + (if in_store result then 1 else 0) }
 {
-    gate.begins(Phase::Load);
-    let mut executor = match load_told(rt, alloc, image) {
+    runtime.gate.begins(Phase::Load);
+    let mut executor = match load_told(runtime.rt, runtime.alloc, image) {
         Ok(executor) => executor,
         Err(fault) => return Err(StoredRunFault::Run(fault)),
     };
-    let runtime = Runtime {
-        rt,
-        alloc,
-        workers,
-        gate,
-    };
-    store_read(&runtime, &mut executor, batches, sink, tables)
+    store_read(runtime, &mut executor, batches, sink, tables)
 }
