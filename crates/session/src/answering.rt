@@ -17,30 +17,27 @@ use std::alloc::Global;
 use std::thread::Threads;
 use stored_image::store_image;
 use tpcc_rows::memory::Memory;
-use workers::Workers;
+use workers::Runtime;
 
 /// Executes a batch, and answers with its replies and record, or with the refusal.
 fn answer_batch<R: Threads + Sync, G: Observer>(
-    rt: &R,
-    alloc: Global,
+    runtime: &Runtime<'_, R, G>,
     executor: &mut Executor,
     batch: &Batch,
-    workers: Workers,
-    gate: &G,
 ) -> Result<Vec<u8>, Memory>
     requires { 1 ≤ executor.old.present.next }
     ensures text { IfOk result (λ text. AnswersBatch batch.now executor.old executor.new text.items) }
     ensures sound { IsSoundState executor.new.cards executor.new.present }
 {
-    gate.begins(Phase::Execute);
-    let executed = executor.execute(rt, alloc, batch, workers, gate);
-    gate.begins(Phase::Write);
+    runtime.gate.begins(Phase::Execute);
+    let executed = executor.execute(runtime, batch);
+    runtime.gate.begins(Phase::Write);
     match executed {
         Ok(record) => {
-            gate.executed(batch, &record);
-            batch_text(alloc, &record)
+            runtime.gate.executed(batch, &record);
+            batch_text(runtime.alloc, &record)
         }
-        Err(refusal) => refused_text(alloc, refusal),
+        Err(refusal) => refused_text(runtime.alloc, refusal),
     }
 }
 
@@ -99,20 +96,18 @@ fn at_text(alloc: Global, executor: &Executor) -> Result<Vec<u8>, Memory>
 
 /// Carries out a command or refuses it, and returns the answer.
 fn answer_command<R: Threads + Sync, G: Observer>(
-    rt: &R,
-    alloc: Global,
+    runtime: &Runtime<'_, R, G>,
     executor: &mut Executor,
     command: &Command,
-    workers: Workers,
-    gate: &G,
 ) -> Result<Vec<u8>, Memory>
     requires low { 1 ≤ executor.old.present.next }
     requires sound { IsSoundState executor.old.cards executor.old.present }
     ensures text { IfOk result (λ text. AnswersCommand command.now executor.old executor.new text.items) }
     ensures sound { IsSoundState executor.new.cards executor.new.present }
 {
+    let alloc = runtime.alloc;
     match command {
-        Command::Batch(batch) => answer_batch(rt, alloc, executor, batch, workers, gate),
+        Command::Batch(batch) => answer_batch(runtime, executor, batch),
         Command::Control(Control::Commit) => answer_commit(alloc, executor),
         Command::Control(Control::RollbackTo(sequence)) => {
             answer_rollback(alloc, executor, *sequence)
@@ -127,12 +122,9 @@ fn answer_command<R: Threads + Sync, G: Observer>(
 
 /// Answers a command or a fault. If there is no memory for the answer, the command may have been carried out.
 pub(crate) fn answer<R: Threads + Sync, G: Observer>(
-    rt: &R,
-    alloc: Global,
+    runtime: &Runtime<'_, R, G>,
     executor: &mut Executor,
     heard: &Heard,
-    workers: Workers,
-    gate: &G,
 ) -> Result<Vec<u8>, Memory>
     requires low { 1 ≤ executor.old.present.next }
     requires sound { IsSoundState executor.old.cards executor.old.present }
@@ -140,7 +132,7 @@ pub(crate) fn answer<R: Threads + Sync, G: Observer>(
     ensures sound { IsSoundState executor.new.cards executor.new.present }
 {
     match heard {
-        Heard::Command(command) => answer_command(rt, alloc, executor, command, workers, gate),
-        Heard::Fault(fault) => fault_text(alloc, *fault),
+        Heard::Command(command) => answer_command(runtime, executor, command),
+        Heard::Fault(fault) => fault_text(runtime.alloc, *fault),
     }
 }

@@ -11,18 +11,14 @@ use executor::Executor;
 use hashers::Host;
 use records::io::{Sink, Source};
 use runner::{Observer, RunFault};
-use std::alloc::Global;
-use workers::Workers;
+use workers::Runtime;
 
 /// Reads commands, and answers each from the executor's present state on before it reads the next.
 pub fn serve_on<R: Host, C: Source, S: Sink, G: Observer>(
-    rt: &R,
-    alloc: Global,
+    runtime: &Runtime<'_, R, G>,
     executor: &mut Executor,
     input: &mut C,
     sink: &mut S,
-    workers: Workers,
-    gate: &G,
 ) -> Result<(), RunFault>
     requires alone { executor.old.earlier ≡ [] }
     requires low { 1 ≤ executor.old.present.next }
@@ -37,5 +33,5 @@ pub fn serve_on<R: Host, C: Source, S: Sink, G: Observer>(
     ensures input_failures { C.failed input.new ≡ C.failed input.old + (if is_batches_read result then 1 else 0) }
     ensures sink_failures { S.failed sink.new ≡ S.failed sink.old + (if is_write result then 1 else 0) }
 {
-    serve_input(rt, alloc, executor, input, sink, workers, gate)
+    serve_input(runtime, executor, input, sink)
 }

@@ -17,9 +17,8 @@ use hashers::Host;
 use records::io::{Failed, Sink, Source};
 use records::slurp::push_all;
 use runner::{Observer, Phase, RunFault, load_executor};
-use std::alloc::Global;
 use std::thread::Threads;
-use workers::Workers;
+use workers::Runtime;
 
 /// Writes and flushes an answer.
 fn send<S: Sink>(sink: &mut S, text: &[u8]) -> Result<(), Failed>
@@ -34,13 +33,10 @@ fn send<S: Sink>(sink: &mut S, text: &[u8]) -> Result<(), Failed>
 
 /// Answers a command or a fault, and writes the answer.
 fn respond<R: Threads + Sync, S: Sink, G: Observer>(
-    rt: &R,
-    alloc: Global,
+    runtime: &Runtime<'_, R, G>,
     executor: &mut Executor,
     heard: &Heard,
     sink: &mut S,
-    workers: Workers,
-    gate: &G,
 ) -> Result<(), RunFault>
     requires low { 1 ≤ executor.old.present.next }
     requires sound { IsSoundState executor.old.cards executor.old.present }
@@ -50,8 +46,8 @@ fn respond<R: Threads + Sync, S: Sink, G: Observer>(
     ensures no_read { is_batches_read result ≡ false }
     ensures failures { S.failed sink.new ≡ S.failed sink.old + (if is_write result then 1 else 0) }
 {
-    gate.begins(Phase::Write);
-    let Ok(text) = answer(rt, alloc, executor, heard, workers, gate) else {
+    runtime.gate.begins(Phase::Write);
+    let Ok(text) = answer(runtime, executor, heard) else {
         return Err(RunFault::Memory);
     };
     if send(sink, text.as_slice()).is_err() {
@@ -62,14 +58,11 @@ fn respond<R: Threads + Sync, S: Sink, G: Observer>(
 
 /// Reads commands, and answers each before it reads the next.
 fn serve_commands<R: Threads + Sync, C: Source, S: Sink, G: Observer>(
-    rt: &R,
-    alloc: Global,
+    runtime: &Runtime<'_, R, G>,
     executor: &mut Executor,
     reader: &mut CommandReader,
     input: &mut C,
     sink: &mut S,
-    workers: Workers,
-    gate: &G,
 ) -> Result<(), RunFault>
     requires alone { executor.old.earlier ≡ [] }
     requires low { 1 ≤ executor.old.present.next }
@@ -87,13 +80,13 @@ fn serve_commands<R: Threads + Sync, C: Source, S: Sink, G: Observer>(
     ensures sink_failures { S.failed sink.new ≡ S.failed sink.old + (if is_write result then 1 else 0) }
 {
     'commands: loop {
-        gate.begins(Phase::Read);
-        let heard = match reader.next_heard(alloc, input) {
+        runtime.gate.begins(Phase::Read);
+        let heard = match reader.next_heard(runtime.alloc, input) {
             Ok(Some(heard)) => heard,
             Ok(None) => return Ok(()),
             Err(error) => return Err(RunFault::Read(error)),
         };
-        if let Err(fault) = respond(rt, alloc, executor, &heard, sink, workers, gate) {
+        if let Err(fault) = respond(runtime, executor, &heard, sink) {
             return Err(fault);
         }
     }
@@ -101,23 +94,20 @@ fn serve_commands<R: Threads + Sync, C: Source, S: Sink, G: Observer>(
 
 /// Starts helper threads. In a frame of its own, which is freed before the session begins.
 #[inline(never)]
-fn keep_threads<R: Host>(rt: &R, alloc: Global, executor: &mut Executor, workers: Workers)
+fn keep_threads<R: Host, G>(runtime: &Runtime<'_, R, G>, executor: &mut Executor)
     ensures { executor.new ≡ executor.old }
 {
-    executor.keep_threads(*rt, alloc, workers);
+    executor.keep_threads(*runtime.rt, runtime.alloc, runtime.workers);
 }
 
 /// Starts helper threads, reads commands, and answers each before it reads the next. Its frame holds the reader, that of `serve`
 /// the executor.
 #[inline(never)]
 pub(crate) fn serve_input<R: Host, C: Source, S: Sink, G: Observer>(
-    rt: &R,
-    alloc: Global,
+    runtime: &Runtime<'_, R, G>,
     executor: &mut Executor,
     input: &mut C,
     sink: &mut S,
-    workers: Workers,
-    gate: &G,
 ) -> Result<(), RunFault>
     requires alone { executor.old.earlier ≡ [] }
     requires low { 1 ≤ executor.old.present.next }
@@ -132,9 +122,9 @@ pub(crate) fn serve_input<R: Host, C: Source, S: Sink, G: Observer>(
     ensures input_failures { C.failed input.new ≡ C.failed input.old + (if is_batches_read result then 1 else 0) }
     ensures sink_failures { S.failed sink.new ≡ S.failed sink.old + (if is_write result then 1 else 0) }
 {
-    let mut reader = CommandReader::new(alloc);
-    keep_threads(rt, alloc, executor, workers);
-    serve_commands(rt, alloc, executor, &mut reader, input, sink, workers, gate)
+    let mut reader = CommandReader::new(runtime.alloc);
+    keep_threads(runtime, executor);
+    serve_commands(runtime, executor, &mut reader, input, sink)
 }
 
 /// Loads an image, and then reads commands, and answers each before it reads the next. A bad record is answered with its fault, and
@@ -142,13 +132,10 @@ pub(crate) fn serve_input<R: Host, C: Source, S: Sink, G: Observer>(
 /// workers and every observer, and however the input is split into reads.
 #[inline(never)]
 pub fn serve<R: Host, I: Source, C: Source, S: Sink, G: Observer>(
-    rt: &R,
-    alloc: Global,
+    runtime: &Runtime<'_, R, G>,
     image: &mut I,
     input: &mut C,
     sink: &mut S,
-    workers: Workers,
-    gate: &G,
 ) -> Result<(), RunFault>
     requires image { I.failed image.old < 2 ^ 63 }
     requires input { C.failed input.old < 2 ^ 63 }
@@ -164,10 +151,10 @@ pub fn serve<R: Host, I: Source, C: Source, S: Sink, G: Observer>(
     ensures sink_failures { S.failed sink.new ≡ S.failed sink.old + (if is_write result then 1 else 0) }
 {
     // The executor stays where it was made: moved, it would be on the stack twice.
-    gate.begins(Phase::Load);
-    let mut loaded = load_executor(rt, alloc, image);
+    runtime.gate.begins(Phase::Load);
+    let mut loaded = load_executor(runtime.rt, runtime.alloc, image);
     match &mut loaded {
-        Ok(executor) => serve_input(rt, alloc, executor, input, sink, workers, gate),
+        Ok(executor) => serve_input(runtime, executor, input, sink),
         Err(fault) => Err(*fault),
     }
 }
