@@ -39,7 +39,7 @@ use std::thread::Threads;
 use std::time::Clock;
 use std::{fs, io, str};
 use telling::Telling;
-use workers::Workers;
+use workers::{Runtime, Workers};
 
 fn cannot_open(rt: &impl Eprint, path: &str) -> ExitCode {
     let _ = eprintln!(rt; "eve-tpcc: cannot open {path}");
@@ -61,16 +61,15 @@ fn report(rt: &impl Eprint, fault: &StoredRunFault) -> ExitCode {
 
 #[inline(never)]
 fn run<R: Files + Print + Eprint + AllocGlobal + Clock + Host, G: Observer>(
-    rt: &R,
+    runtime: &Runtime<'_, R, G>,
     image: &str,
     batches: &str,
-    workers: Workers,
     shown: Shown,
-    observer: &G,
 ) -> ExitCode
 where
     R::File: Drop,
 {
+    let rt = runtime.rt;
     let Ok(image_file) = fs::open(rt, image) else {
         return cannot_open(rt, image);
     };
@@ -80,16 +79,7 @@ where
     let mut image = image_source(rt, image_file, shown);
     let mut batches = batches_source(rt, batches_file, shown);
     let mut output = reply_sink(rt, io::writer(rt), shown);
-    let ran = run_text(
-        rt,
-        rt.alloc(),
-        &mut image,
-        &mut batches,
-        &mut output,
-        workers,
-        observer,
-    );
-    match ran {
+    match run_text(runtime, &mut image, &mut batches, &mut output) {
         Ok(_) => ExitCode::SUCCESS,
         Err(fault) => report(rt, &StoredRunFault::Run(fault)),
     }
@@ -98,17 +88,16 @@ where
 /// Runs batches, and writes the image of the last state to the file at `path`.
 #[inline(never)]
 fn run_stored<R: Files + Print + Eprint + AllocGlobal + Clock + Host, G: Observer>(
-    rt: &R,
+    runtime: &Runtime<'_, R, G>,
     image: &str,
     batches: &str,
-    workers: Workers,
     path: &str,
     shown: Shown,
-    observer: &G,
 ) -> ExitCode
 where
     R::File: Drop,
 {
+    let rt = runtime.rt;
     let Ok(image_file) = fs::open(rt, image) else {
         return cannot_open(rt, image);
     };
@@ -122,16 +111,7 @@ where
     let mut batches = batches_source(rt, batches_file, shown);
     let mut output = reply_sink(rt, io::writer(rt), shown);
     let mut tables = Telling::new(Counting::new(store_file));
-    let ran = run_and_store(
-        rt,
-        rt.alloc(),
-        &mut image,
-        &mut batches,
-        &mut output,
-        &mut tables,
-        workers,
-        observer,
-    );
+    let ran = run_and_store(runtime, &mut image, &mut batches, &mut output, &mut tables);
     match ran {
         Ok(_) => ExitCode::SUCCESS,
         Err(fault) => report(rt, &fault),
@@ -179,30 +159,20 @@ fn make<R: Print + Eprint + AllocGlobal + Clock>(
 
 #[inline(never)]
 fn serve_commands<R: Files + Input + Print + Eprint + AllocGlobal + Host, G: Observer>(
-    rt: &R,
+    runtime: &Runtime<'_, R, G>,
     image: &str,
-    workers: Workers,
-    observer: &G,
 ) -> ExitCode
 where
     R::File: Drop,
 {
+    let rt = runtime.rt;
     let Ok(image_file) = fs::open(rt, image) else {
         return cannot_open(rt, image);
     };
     let mut image_source = Counting::new(image_file);
     let mut input = Counting::new(rt.reader());
     let mut output = Telling::new(Counting::new(io::writer(rt)));
-    let served = serve(
-        rt,
-        rt.alloc(),
-        &mut image_source,
-        &mut input,
-        &mut output,
-        workers,
-        observer,
-    );
-    match served {
+    match serve(runtime, &mut image_source, &mut input, &mut output) {
         Ok(()) => ExitCode::SUCCESS,
         Err(fault) => report(rt, &StoredRunFault::Run(fault)),
     }
@@ -242,23 +212,19 @@ fn text_of(text: &Option<String>) -> Option<&str> {
 
 /// Runs batches with these options from a stamp on, if there is one.
 fn run_with<R: Files + Print + Eprint + AllocGlobal + Clock + Host, G: Observer>(
-    rt: &R,
+    runtime: &Runtime<'_, R, G>,
     options: &RunOptions<'_>,
     from: &Option<Stamp>,
-    observer: &G,
 ) -> ExitCode
 where
     R::File: Drop,
     requires { IfSome from.now IsWithinLimits }
 {
-    let (image, batches, workers) = (options.image, options.batches, options.workers);
-    let shown = options.shown;
+    let (image, batches, shown) = (options.image, options.batches, options.shown);
     match (options.store, from, options.at) {
-        (None, None, false) => run(rt, image, batches, workers, shown, observer),
-        (Some(path), None, false) => {
-            run_stored(rt, image, batches, workers, path, shown, observer)
-        }
-        _ => run_resumed(rt, options, from, observer),
+        (None, None, false) => run(runtime, image, batches, shown),
+        (Some(path), None, false) => run_stored(runtime, image, batches, path, shown),
+        _ => run_resumed(runtime, options, from),
     }
 }
 
@@ -266,6 +232,7 @@ where
 fn run_line<R: Files + Print + Eprint + AllocGlobal + Clock + Host>(
     rt: &R,
     options: &RunOptions<'_>,
+    workers: Workers,
     from: Option<&str>,
     stats: bool,
 ) -> ExitCode
@@ -285,26 +252,30 @@ where
         ..*options
     };
     let statistics = Statistics::new(rt, stats);
-    let status = run_with(rt, &options, &from, &statistics);
+    let runtime = Runtime {
+        rt,
+        alloc: rt.alloc(),
+        workers,
+        gate: &statistics,
+    };
+    let status = run_with(&runtime, &options, &from);
     statistics.print();
     status
 }
 
 /// Answers commands on the database of an image from a stamp on, if there is one.
 fn serve_with<R: Files + Input + Print + Eprint + AllocGlobal + Host, G: Observer>(
-    rt: &R,
+    runtime: &Runtime<'_, R, G>,
     image: &str,
-    workers: Workers,
     from: &Option<Stamp>,
-    observer: &G,
 ) -> ExitCode
 where
     R::File: Drop,
     requires { IfSome from.now IsWithinLimits }
 {
     match from {
-        None => serve_commands(rt, image, workers, observer),
-        Some(_) => serve_from(rt, image, workers, from, observer),
+        None => serve_commands(runtime, image),
+        Some(_) => serve_from(runtime, image, from),
     }
 }
 
@@ -328,7 +299,13 @@ where
         Err(status) => return status,
     };
     let statistics = Statistics::new(rt, stats);
-    let status = serve_with(rt, image, workers, &from, &statistics);
+    let runtime = Runtime {
+        rt,
+        alloc: rt.alloc(),
+        workers,
+        gate: &statistics,
+    };
+    let status = serve_with(&runtime, image, &from);
     statistics.print();
     status
 }
@@ -357,12 +334,11 @@ where
             let options = RunOptions {
                 image: image.as_str(),
                 batches: batches.as_str(),
-                workers: *workers,
                 store: text_of(store),
                 at: *at,
                 shown,
             };
-            run_line(rt, &options, text_of(from), *stats)
+            run_line(rt, &options, *workers, text_of(from), *stats)
         }
         Line::Check { image } => check(rt, path_of(image.as_str()), shown),
         Line::Make {

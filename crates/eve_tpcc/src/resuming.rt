@@ -21,7 +21,7 @@ use std::rt::Files;
 use std::time::Clock;
 use std::{fs, io, str};
 use telling::Telling;
-use workers::Workers;
+use workers::Runtime;
 
 /// Parses the word of `--from`, if there is one; a malformed word is reported.
 pub fn stamp_from(rt: &impl Eprint, word: Option<&str>) -> Result<Option<Stamp>, ExitCode>
@@ -78,7 +78,6 @@ fn tell(rt: &impl Eprint, stamp: &Stamp) {
 pub struct RunOptions<'a> {
     pub image: &'a str,
     pub batches: &'a str,
-    pub workers: Workers,
     pub store: Option<&'a str>,
     /// Whether to print the stamp of the last state.
     pub at: bool,
@@ -89,12 +88,11 @@ pub struct RunOptions<'a> {
 /// Runs batches from the executor's present state on, and stores the last state in a file.
 #[inline(never)]
 fn run_and_store_batches<R: Files + Print + Eprint + AllocGlobal + Clock + Host, G: Observer>(
-    rt: &R,
+    runtime: &Runtime<'_, R, G>,
     executor: &mut Executor,
     batches: R::File,
     store: StoreFile<R::File>,
     options: &RunOptions<'_>,
-    observer: &G,
 ) -> Result<u64, StoredRunFault>
 where
     R::File: Drop,
@@ -102,19 +100,11 @@ where
     requires sound { IsSoundState executor.old.cards executor.old.present }
     requires low { 1 ≤ executor.old.present.next }
 {
+    let rt = runtime.rt;
     let mut batches = batches_source(rt, batches, options.shown);
     let mut output = reply_sink(rt, io::writer(rt), options.shown);
     let mut tables = Telling::new(Counting::new(store));
-    run_and_store_on(
-        rt,
-        rt.alloc(),
-        executor,
-        &mut batches,
-        &mut output,
-        &mut tables,
-        options.workers,
-        observer,
-    )
+    run_and_store_on(runtime, executor, &mut batches, &mut output, &mut tables)
 }
 
 /// Whether a run left its executor at the state whose token and image were written.
@@ -128,13 +118,12 @@ fn is_left_whole(ran: &Result<u64, StoredRunFault>) -> bool {
 
 /// Runs batches on a loaded executor, and prints the last state's stamp if asked.
 fn run_loaded<R: Files + Print + Eprint + AllocGlobal + Clock + Host, G: Observer>(
-    rt: &R,
+    runtime: &Runtime<'_, R, G>,
     executor: &mut Executor,
     batches: R::File,
     store: StoreFile<R::File>,
     options: &RunOptions<'_>,
     from: &Option<Stamp>,
-    observer: &G,
 ) -> ExitCode
 where
     R::File: Drop,
@@ -143,10 +132,11 @@ where
     requires low { 1 ≤ executor.old.present.next }
     requires within { IfSome from.now IsWithinLimits }
 {
+    let rt = runtime.rt;
     if let Err(status) = resume(rt, executor, from) {
         return status;
     }
-    let ran = run_and_store_batches(rt, executor, batches, store, options, observer);
+    let ran = run_and_store_batches(runtime, executor, batches, store, options);
     if options.at && is_left_whole(&ran) {
         tell(rt, &executor.stamp());
     }
@@ -173,30 +163,21 @@ fn store_of<R: Files + Eprint>(
 /// Runs batches on the database of an image from a stamp on, if there is one, and prints the last state's stamp if asked.
 #[inline(never)]
 fn run_unstored<R: Files + Print + Eprint + AllocGlobal + Clock + Host, G: Observer>(
-    rt: &R,
+    runtime: &Runtime<'_, R, G>,
     image: R::File,
     batches: R::File,
     options: &RunOptions<'_>,
     from: &Option<Stamp>,
-    observer: &G,
 ) -> ExitCode
 where
     R::File: Drop,
     requires { IfSome from.now IsWithinLimits }
 {
+    let rt = runtime.rt;
     let mut image = image_source(rt, image, options.shown);
     let mut batches = batches_source(rt, batches, options.shown);
     let mut output = reply_sink(rt, io::writer(rt), options.shown);
-    let resumed = run_from(
-        rt,
-        rt.alloc(),
-        &mut image,
-        *from,
-        &mut batches,
-        &mut output,
-        options.workers,
-        observer,
-    );
+    let resumed = run_from(runtime, &mut image, *from, &mut batches, &mut output);
     if let (true, Some(stamp)) = (options.at, resumed.at) {
         tell(rt, &stamp);
     }
@@ -212,15 +193,15 @@ where
 /// Runs batches on the database of an image, whose state has the given stamp; without one it is a state before any batch.
 #[inline(never)]
 pub fn run_resumed<R: Files + Print + Eprint + AllocGlobal + Clock + Host, G: Observer>(
-    rt: &R,
+    runtime: &Runtime<'_, R, G>,
     options: &RunOptions<'_>,
     from: &Option<Stamp>,
-    observer: &G,
 ) -> ExitCode
 where
     R::File: Drop,
     requires { IfSome from.now IsWithinLimits }
 {
+    let rt = runtime.rt;
     let Ok(image) = fs::open(rt, options.image) else {
         return cannot_open(rt, options.image);
     };
@@ -229,46 +210,36 @@ where
     };
     let store = match store_of(rt, options.store) {
         Ok(Some(store)) => store,
-        Ok(None) => return run_unstored(rt, image, batches, options, from, observer),
+        Ok(None) => return run_unstored(runtime, image, batches, options, from),
         Err(status) => return status,
     };
     let mut image = image_source(rt, image, options.shown);
-    observer.begins(Phase::Load);
-    let mut loaded = load_told(rt, rt.alloc(), &mut image);
+    runtime.gate.begins(Phase::Load);
+    let mut loaded = load_told(rt, runtime.alloc, &mut image);
     match &mut loaded {
-        Ok(executor) => run_loaded(rt, executor, batches, store, options, from, observer),
+        Ok(executor) => run_loaded(runtime, executor, batches, store, options, from),
         Err(fault) => report(rt, &StoredRunFault::Run(*fault)),
     }
 }
 
 /// Answers commands on a loaded executor.
 fn serve_loaded<R: Input + Print + Eprint + AllocGlobal + Host, G: Observer>(
-    rt: &R,
+    runtime: &Runtime<'_, R, G>,
     executor: &mut Executor,
-    workers: Workers,
     from: &Option<Stamp>,
-    observer: &G,
 ) -> ExitCode
     requires alone { executor.old.earlier ≡ [] }
     requires sound { IsSoundState executor.old.cards executor.old.present }
     requires low { 1 ≤ executor.old.present.next }
     requires within { IfSome from.now IsWithinLimits }
 {
+    let rt = runtime.rt;
     if let Err(status) = resume(rt, executor, from) {
         return status;
     }
     let mut input = Counting::new(rt.reader());
     let mut output = Telling::new(Counting::new(io::writer(rt)));
-    let served = serve_on(
-        rt,
-        rt.alloc(),
-        executor,
-        &mut input,
-        &mut output,
-        workers,
-        observer,
-    );
-    match served {
+    match serve_on(runtime, executor, &mut input, &mut output) {
         Ok(()) => ExitCode::SUCCESS,
         Err(fault) => report(rt, &StoredRunFault::Run(fault)),
     }
@@ -277,24 +248,23 @@ fn serve_loaded<R: Input + Print + Eprint + AllocGlobal + Host, G: Observer>(
 /// Answers commands on the database of an image, whose state has the given stamp.
 #[inline(never)]
 pub fn serve_from<R: Files + Input + Print + Eprint + AllocGlobal + Host, G: Observer>(
-    rt: &R,
+    runtime: &Runtime<'_, R, G>,
     image: &str,
-    workers: Workers,
     from: &Option<Stamp>,
-    observer: &G,
 ) -> ExitCode
 where
     R::File: Drop,
     requires { IfSome from.now IsWithinLimits }
 {
+    let rt = runtime.rt;
     let Ok(image_file) = fs::open(rt, image) else {
         return cannot_open(rt, image);
     };
     let mut image_source = Telling::new(Counting::new(image_file));
-    observer.begins(Phase::Load);
-    let mut loaded = load_told(rt, rt.alloc(), &mut image_source);
+    runtime.gate.begins(Phase::Load);
+    let mut loaded = load_told(rt, runtime.alloc, &mut image_source);
     match &mut loaded {
-        Ok(executor) => serve_loaded(rt, executor, workers, from, observer),
+        Ok(executor) => serve_loaded(runtime, executor, from),
         Err(fault) => report(rt, &StoredRunFault::Run(*fault)),
     }
 }
