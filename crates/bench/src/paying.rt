@@ -13,7 +13,7 @@ use std::time::Duration;
 use telling::Telling;
 use tpcc_rows::id::{CustomerId, RequestNumber};
 use tpcc_rows::number::Cents;
-use workers::{NoGate, Workers};
+use workers::{NoGate, Runtime, Workers};
 
 /// Number of requests in a text's batches.
 fn requests_in(alloc: Global, text: &[u8]) -> Option<u64> {
@@ -56,21 +56,17 @@ fn ends_alone(rt: &(impl Clock + AllocGlobal), text: &[u8], reply: &Reply) -> Op
 
 /// The time from the bytes of an image and of batches to those of the replies, with one worker.
 pub fn whole<R: Clock + AllocGlobal + Host>(rt: &R, image: &[u8], text: &[u8]) -> Option<Duration> {
-    let one = Workers::new(1)?;
+    let runtime = Runtime {
+        rt,
+        alloc: rt.alloc(),
+        workers: Workers::new(1)?,
+        gate: &NoGate,
+    };
     let mut image = Telling::new(BytesSource::new(image, 65_536));
     let mut batches = Telling::new(BytesSource::new(text, 65_536));
     let mut sink = BytesSink::new(rt.alloc(), 65_536);
     let start = start(rt);
-    let ran = run_text(
-        rt,
-        rt.alloc(),
-        &mut image,
-        &mut batches,
-        &mut sink,
-        one,
-        &NoGate,
-    )
-    .is_ok();
+    let ran = run_text(&runtime, &mut image, &mut batches, &mut sink).is_ok();
     let time = since(rt, start);
     ran.then_some(time)
 }

@@ -8,13 +8,12 @@ ghost use Rattle.executor.specs.Chains.{committed, extended};
 use executor::{Executor, Record, Refusal};
 use requests::{Batch, BatchReader, Counting, Reply};
 use runner::load_executor;
-use std::alloc::Global;
 use std::fs;
 use std::io::Result as Printed;
 use std::process::ExitCode;
 use std::rt::Files;
 use std::thread::Threads;
-use workers::{NoGate, Workers};
+use workers::{Gate, NoGate, Runtime, Workers};
 
 /// Two payments and a delivery. Batches can be made of values, too.
 const FIRST: &str = "B,100,commit,3\nP,1,1,1,1,I,3,500\nP,1,2,1,2,L,NAME5,900\nD,1,7\n";
@@ -30,12 +29,10 @@ fn is_granted(reply: &Reply) -> bool {
 }
 
 /// Executes a batch, and commits it where each request is granted; else the batch is taken back. Tells which, beside what it did.
-fn keep_granted<R: Threads + Sync>(
-    rt: &R,
-    alloc: Global,
+fn keep_granted<R: Threads + Sync, G: Gate>(
+    runtime: &Runtime<'_, R, G>,
     executor: &mut Executor,
     batch: &Batch,
-    workers: Workers,
 ) -> Result<(Record, bool), Refusal>
     requires alone { executor.old.earlier ≡ [] }
     ensures alone { executor.new.earlier ≡ [] }
@@ -43,7 +40,7 @@ fn keep_granted<R: Threads + Sync>(
     ensures err { OnErr result (executor.new ≡ executor.old) }
 {
     let before = executor.sequence();
-    let record = executor.execute(rt, alloc, batch, workers, &NoGate)?;
+    let record = executor.execute(runtime, batch)?;
     let is_kept = record.replies.iter().all(is_granted);
     if is_kept {
         executor.commit().unwrap();
@@ -67,19 +64,18 @@ fn show<R: Print>(rt: &R, record: &Record, is_kept: bool) -> Printed<()> {
 }
 
 /// Executes the batch of a text. None where it can't be read, where it isn't executed, or where a print fails.
-fn execute_text<R: Print + AllocGlobal + Threads + Sync>(
-    rt: &R,
+fn execute_text<R: Print + Threads + Sync, G: Gate>(
+    runtime: &Runtime<'_, R, G>,
     executor: &mut Executor,
     text: &str,
-    workers: Workers,
 ) -> Option<()>
     requires alone { executor.old.earlier ≡ [] }
     ensures alone { executor.new.earlier ≡ [] }
 {
-    let mut reader = BatchReader::new(rt.alloc(), text.as_bytes()).ok()?;
-    let batch = reader.next_batch(rt.alloc()).ok()??;
-    let (record, is_kept) = keep_granted(rt, rt.alloc(), executor, &batch, workers).ok()?;
-    show(rt, &record, is_kept).ok()
+    let mut reader = BatchReader::new(runtime.alloc, text.as_bytes()).ok()?;
+    let batch = reader.next_batch(runtime.alloc).ok()??;
+    let (record, is_kept) = keep_granted(runtime, executor, &batch).ok()?;
+    show(runtime.rt, &record, is_kept).ok()
 }
 
 /// Loads the image of this path, and executes both batches.
@@ -89,9 +85,14 @@ where
 {
     let mut source = Counting::new(fs::open(rt, path).ok()?);
     let mut executor = load_executor(rt, rt.alloc(), &mut source).ok()?;
-    let workers = Workers::new(4)?;
-    execute_text(rt, &mut executor, FIRST, workers)?;
-    execute_text(rt, &mut executor, SECOND, workers)
+    let runtime = Runtime {
+        rt,
+        alloc: rt.alloc(),
+        workers: Workers::new(4)?,
+        gate: &NoGate,
+    };
+    execute_text(&runtime, &mut executor, FIRST)?;
+    execute_text(&runtime, &mut executor, SECOND)
 }
 
 fn main(rt: HostRuntime) -> ExitCode {

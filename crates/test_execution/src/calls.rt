@@ -6,7 +6,7 @@ use std::alloc::Global;
 use std::thread::Threads;
 use tpcc_rows::id::RequestNumber;
 use tpcc_rows::key::RowKey;
-use workers::{Gate, NoGate, Workers};
+use workers::{Gate, NoGate, Runtime, Workers};
 
 /// Executes a batch on so many workers, or one request after the other where there is none.
 pub fn execute<R: Threads + Sync, G: Gate>(
@@ -18,7 +18,15 @@ pub fn execute<R: Threads + Sync, G: Gate>(
     gate: &G,
 ) -> Result<Record, Refusal> {
     match Workers::new(count) {
-        Some(workers) => executor.execute(rt, alloc, batch, workers, gate),
+        Some(workers) => {
+            let runtime = Runtime {
+                rt,
+                alloc,
+                workers,
+                gate,
+            };
+            executor.execute(&runtime, batch)
+        }
         None => executor.execute_sequential(rt, alloc, batch),
     }
 }
@@ -30,8 +38,13 @@ pub fn run<R: Threads + Sync>(
     executor: &mut Executor,
     batches: &[Batch],
 ) -> Option<(usize, Option<Refusal>)> {
-    let workers = Workers::new(2)?;
-    let end = executor.run(rt, alloc, batches, workers, &NoGate);
+    let runtime = Runtime {
+        rt,
+        alloc,
+        workers: Workers::new(2)?,
+        gate: &NoGate,
+    };
+    let end = executor.run(&runtime, batches);
     Some((end.records.len(), end.stop))
 }
 

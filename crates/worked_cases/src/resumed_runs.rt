@@ -5,7 +5,7 @@ ghost use Rattle.std.specs.Prelude.{◌≡◌, ◌≤◌, [], IfSome};
 ghost use Rattle.executor.specs.States.{IsSoundState};
 
 use crate::pieces::Pieces;
-use crate::runs::Outcome;
+use crate::runs::{Outcome, runtime_of};
 use crate::text::Text;
 use executor::Executor;
 use hashers::Host;
@@ -17,7 +17,7 @@ use std::alloc::Global;
 use std::io::ErrorKind;
 use std::str;
 use telling::Telling;
-use workers::{NoGate, Workers};
+use workers::Workers;
 
 /// The last request of the first batch leaves no history, so that its number is known by what is told alone.
 const FIRST: &[u8] = b"B,100,commit,3
@@ -123,14 +123,11 @@ fn ran<R: Host + AllocGlobal>(
     let mut sink = BytesSink::new(rt.alloc(), 4_096);
     let mut stored = BytesSink::new(rt.alloc(), 4_096);
     let (count, fault) = match run_and_store_on(
-        rt,
-        rt.alloc(),
+        &runtime_of(rt, Workers::new(2).unwrap()),
         &mut executor,
         &mut source,
         &mut sink,
         &mut stored,
-        Workers::new(2).unwrap(),
-        &NoGate,
     ) {
         Ok(count) => (count, None),
         Err(fault) => (0, Some(fault)),
@@ -163,16 +160,8 @@ fn served<R: Host + AllocGlobal>(
     };
     let mut input = Counting::new(Pieces::new(commands, 7, usize::MAX, ErrorKind::BrokenPipe));
     let mut sink = BytesSink::new(rt.alloc(), 4_096);
-    let ended = serve_on(
-        rt,
-        rt.alloc(),
-        &mut executor,
-        &mut input,
-        &mut sink,
-        Workers::new(1).unwrap(),
-        &NoGate,
-    );
-    if ended.is_err() {
+    let runtime = runtime_of(rt, Workers::new(1).unwrap());
+    if serve_on(&runtime, &mut executor, &mut input, &mut sink).is_err() {
         return None;
     }
     Some(sink.bytes)

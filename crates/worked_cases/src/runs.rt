@@ -9,7 +9,7 @@ use runner::{StoredRunFault, check_text, make_text, run_and_store, run_text};
 use std::alloc::Global;
 use std::thread::Threads;
 use telling::Telling;
-use workers::{NoGate, Workers};
+use workers::{NoGate, Runtime, Workers};
 
 /// An end of a run: the sources of the image and of the batches, and the sinks of the text and of the image that is stored.
 #[derive(Clone, Copy, PartialEq)]
@@ -69,21 +69,24 @@ fn sink_of(alloc: Global, given: &Given<'_>, end: End) -> FailAt<BytesSink>
     )
 }
 
+/// What it takes to execute batches by these workers, which no one watches.
+pub fn runtime_of<R: AllocGlobal>(rt: &R, workers: Workers) -> Runtime<'_, R, NoGate> {
+    Runtime {
+        rt,
+        alloc: rt.alloc(),
+        workers,
+        gate: &NoGate,
+    }
+}
+
 /// Runs the batches on the image.
 pub fn run<R: Host + AllocGlobal>(rt: &R, given: &Given<'_>) -> Outcome {
     let alloc = rt.alloc();
     let mut image = source_of(given, given.image, End::Image);
     let mut batches = source_of(given, given.batches, End::Batches);
     let mut sink = sink_of(alloc, given, End::Text);
-    let (count, fault) = match run_text(
-        rt,
-        alloc,
-        &mut image,
-        &mut batches,
-        &mut sink,
-        given.workers,
-        &NoGate,
-    ) {
+    let runtime = runtime_of(rt, given.workers);
+    let (count, fault) = match run_text(&runtime, &mut image, &mut batches, &mut sink) {
         Ok(count) => (count, None),
         Err(fault) => (0, Some(StoredRunFault::Run(fault))),
     };
@@ -123,14 +126,11 @@ pub fn run_stored<R: Host + AllocGlobal>(rt: &R, given: &Given<'_>) -> Outcome {
     let mut sink = sink_of(alloc, given, End::Text);
     let mut stored = sink_of(alloc, given, End::Stored);
     let (count, fault) = match run_and_store(
-        rt,
-        alloc,
+        &runtime_of(rt, given.workers),
         &mut image,
         &mut batches,
         &mut sink,
         &mut stored,
-        given.workers,
-        &NoGate,
     ) {
         Ok(count) => (count, None),
         Err(fault) => (0, Some(fault)),

@@ -5,14 +5,14 @@ ghost use Rattle.std.specs.Prelude.{None};
 
 use crate::faults::put_fault;
 use crate::pieces::Pieces;
-use crate::runs::{Outcome, are_same, put_printed};
+use crate::runs::{Outcome, are_same, put_printed, runtime_of};
 use crate::text::Text;
 use hashers::Host;
 use requests::{BytesSink, BytesSource, Counting, Failed, ReadError, Source};
 use runner::{RunFault, StoredRunFault};
 use session::serve;
 use std::io::ErrorKind;
-use workers::{NoGate, Workers};
+use workers::Workers;
 
 const COMMANDS: &[u8] = b"T
 B,100,commit,6
@@ -76,14 +76,12 @@ fn served<R: Host + AllocGlobal>(
 ) -> Outcome {
     let mut input = Counting::new(Pieces::new(commands, size.max(1), fails, ErrorKind::BrokenPipe));
     let mut sink = BytesSink::new(rt.alloc(), 64);
+    let workers = Workers::new(workers).unwrap_or(Workers::new(1).unwrap());
     let served = serve(
-        rt,
-        rt.alloc(),
+        &runtime_of(rt, workers),
         &mut BytesSource::new(image, 4_096),
         &mut input,
         &mut sink,
-        Workers::new(workers).unwrap_or(Workers::new(1).unwrap()),
-        &NoGate,
     );
     let fault = match served {
         Ok(()) => None,
@@ -167,13 +165,10 @@ fn show_endless<R: Host + AllocGlobal>(
 ) {
     let mut sink = BytesSink::new(rt.alloc(), 64);
     let served = serve(
-        rt,
-        rt.alloc(),
+        &runtime_of(rt, Workers::new(1).unwrap()),
         &mut BytesSource::new(image, 4_096),
         &mut Endless { front, byte },
         &mut sink,
-        Workers::new(1).unwrap(),
-        &NoGate,
     );
     out.put(sink.bytes.as_slice());
     if let Err(fault) = served {
