@@ -69,7 +69,7 @@ fn sink_of(alloc: Global, given: &Given<'_>, end: End) -> FailAt<BytesSink>
     )
 }
 
-/// What it takes to execute batches by these workers, which no one watches.
+/// A runtime with these workers and no observer.
 pub fn runtime_of<R: AllocGlobal>(rt: &R, workers: Workers) -> Runtime<'_, R, NoGate> {
     Runtime {
         rt,
