@@ -12,7 +12,7 @@ use crate::fault::RunFault;
 use crate::observer::{Observer, Phase};
 use crate::opening::load_told;
 use crate::resumed_fault::ResumedFault;
-use crate::run::run_read;
+use crate::run::run_on;
 use executor::{Executor, NumbersTaken, Stamp};
 use hashers::Host;
 use records::io::Sink;
@@ -79,7 +79,7 @@ fn run_and_tell<R: Host, B: TellingSource, S: Sink, G: Observer>(
     ensures batches_failures { B.failed batches.new ≡ B.failed batches.old + (if is_batches_read result.0 then 1 else 0) }
     ensures sink_failures { S.failed sink.new ≡ S.failed sink.old + (if is_write result.0 then 1 else 0) }
 {
-    match run_read(runtime, executor, batches, sink) {
+    match run_on(runtime, executor, batches, sink) {
         Ok(count) => (Ok(count), Some(executor.stamp())),
         Err(fault) => (Err(fault), told_at(executor, fault)),
     }

@@ -38,8 +38,9 @@ pub(crate) fn run_given<R: Host, S: Sink, G: Observer>(
     run_batches(runtime, executor, text.as_slice(), sink)
 }
 
-/// Reads all bytes of the batches, starts helper threads, and runs the batches from the executor's present state on.
-pub(crate) fn run_read<R: Host, B: TellingSource, S: Sink, G: Observer>(
+/// Reads all bytes of the batches; then starts helper threads, and parses, executes, commits and writes batch after batch, from the
+/// present state of the caller's executor on. Returns the number of batches.
+pub fn run_on<R: Host, B: TellingSource, S: Sink, G: Observer>(
     runtime: &Runtime<'_, R, G>,
     executor: &mut Executor,
     batches: &mut B,
@@ -98,5 +99,5 @@ pub fn run_text<R: Host, I: TellingSource, B: TellingSource, S: Sink, G: Observe
         Ok(executor) => executor,
         Err(fault) => return Err(fault),
     };
-    run_read(runtime, &mut executor, batches, sink)
+    run_on(runtime, &mut executor, batches, sink)
 }

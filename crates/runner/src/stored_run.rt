@@ -117,9 +117,9 @@ fn store_given<R: Host, S: Sink, K: Sink, G: Observer>(
     }
 }
 
-/// Reads all bytes of the batches, runs them from the executor's present state on, and then writes the image of the last state
-/// whose token was written.
-pub(crate) fn store_read<R: Host, B: TellingSource, S: Sink, K: Sink, G: Observer>(
+/// Runs batches as `run_on` does, and then writes the image of the state whose token was written last, now the executor's
+/// present one.
+pub fn run_and_store_on<R: Host, B: TellingSource, S: Sink, K: Sink, G: Observer>(
     runtime: &Runtime<'_, R, G>,
     executor: &mut Executor,
     batches: &mut B,
@@ -188,5 +188,5 @@ pub fn run_and_store<R: Host, I: TellingSource, B: TellingSource, S: Sink, K: Si
         Ok(executor) => executor,
         Err(fault) => return Err(StoredRunFault::Run(fault)),
     };
-    store_read(runtime, &mut executor, batches, sink, tables)
+    run_and_store_on(runtime, &mut executor, batches, sink, tables)
 }

@@ -4,8 +4,6 @@
 mod answer_text;
 mod answering;
 pub mod laws;
-mod loaded;
 mod serving;
 
-pub use loaded::serve_on;
-pub use serving::serve;
+pub use serving::{serve, serve_on};

@@ -100,10 +100,10 @@ fn keep_threads<R: Host, G>(runtime: &Runtime<'_, R, G>, executor: &mut Executor
     executor.keep_threads(*runtime.rt, runtime.alloc, runtime.workers);
 }
 
-/// Starts helper threads, reads commands, and answers each before it reads the next. Its frame holds the reader, that of `serve`
-/// the executor.
+/// Starts helper threads, reads commands, and answers each from the present state of the caller's executor on, before it reads the
+/// next. Its frame holds the reader, that of `serve` the executor.
 #[inline(never)]
-pub(crate) fn serve_input<R: Host, C: Source, S: Sink, G: Observer>(
+pub fn serve_on<R: Host, C: Source, S: Sink, G: Observer>(
     runtime: &Runtime<'_, R, G>,
     executor: &mut Executor,
     input: &mut C,
@@ -154,7 +154,7 @@ pub fn serve<R: Host, I: Source, C: Source, S: Sink, G: Observer>(
     runtime.gate.begins(Phase::Load);
     let mut loaded = load_executor(runtime.rt, runtime.alloc, image);
     match &mut loaded {
-        Ok(executor) => serve_input(runtime, executor, input, sink),
+        Ok(executor) => serve_on(runtime, executor, input, sink),
         Err(fault) => Err(*fault),
     }
 }

@@ -13,11 +13,11 @@ returns-clause-err g c =
 pub returns-in-Ok-clause-ok : goal.returns-in-Ok-clause-ok
 returns-in-Ok-clause-ok g c =
     served_whole (g.I.Source.left c.args.image.now) (g.C.Source.left c.args.input.now) c.in-Ok.executor (option_map commands (g.C.Source.left c.args.input.now))
-    (g.S.Sink.taken c.args.sink.now) (g.S.Sink.taken c.serve_input.new.sink)
-    (subst (λ r. IfOk r (λ chain. IfSome (g.I.Source.left c.args.image.now) (λ bytes. IsOpened bytes chain))) c.in-Ok.is c.load_executor-loaded.ensures.ok) refl c.serve_input.result c.serve_input.ensures.ok
+    (g.S.Sink.taken c.args.sink.now) (g.S.Sink.taken c.serve_on.new.sink)
+    (subst (λ r. IfOk r (λ chain. IfSome (g.I.Source.left c.args.image.now) (λ bytes. IsOpened bytes chain))) c.in-Ok.is c.load_executor-loaded.ensures.ok) refl c.serve_on.result c.serve_on.ensures.ok
 
 pub returns-in-Ok-clause-err : goal.returns-in-Ok-clause-err
 returns-in-Ok-clause-err g c =
     left_whole (g.I.Source.left c.args.image.now) (g.C.Source.left c.args.input.now) c.in-Ok.executor (option_map commands (g.C.Source.left c.args.input.now))
-    (g.S.Sink.taken c.args.sink.now) (g.S.Sink.taken c.serve_input.new.sink)
-    (subst (λ r. IfOk r (λ chain. IfSome (g.I.Source.left c.args.image.now) (λ bytes. IsOpened bytes chain))) c.in-Ok.is c.load_executor-loaded.ensures.ok) refl c.serve_input.result c.serve_input.ensures.kinds c.serve_input.ensures.err
+    (g.S.Sink.taken c.args.sink.now) (g.S.Sink.taken c.serve_on.new.sink)
+    (subst (λ r. IfOk r (λ chain. IfSome (g.I.Source.left c.args.image.now) (λ bytes. IsOpened bytes chain))) c.in-Ok.is c.load_executor-loaded.ensures.ok) refl c.serve_on.result c.serve_on.ensures.kinds c.serve_on.ensures.err

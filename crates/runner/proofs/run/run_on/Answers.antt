@@ -2,7 +2,7 @@ use Rattle.std.proofs.Common.{rules}
 use Rattle.std.proofs.lemmas.Result.{IfErr-weaker, IfOk-weaker, on_ok_weaker}
 use Rattle.runner.proofs.SourcedRuns.{counted_read, unread_told}
 use Rattle.runner.proofs.WholeLemmas.{counted_none, no_batches_read}
-use Rattle.runner.proofs.run.run_read.Goals as goal
+use Rattle.runner.proofs.run.run_on.Goals as goal
 use Rattle.telling.proofs.SourceLemmas.{of_text}
 
 pub returns-in-Err-clause-err : goal.returns-in-Err-clause-err

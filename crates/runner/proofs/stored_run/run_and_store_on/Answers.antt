@@ -1,7 +1,7 @@
 use Rattle.std.proofs.lemmas.Result.{IfErr-weaker, IfOk-weaker, on_ok_weaker}
 use Rattle.runner.proofs.SourcedRuns.{counted_stored, stored_told}
 use Rattle.runner.proofs.WholeLemmas.{counted_none}
-use Rattle.runner.proofs.stored_run.store_read.Goals as goal
+use Rattle.runner.proofs.stored_run.run_and_store_on.Goals as goal
 use Rattle.telling.proofs.SourceLemmas.{of_text}
 
 pub returns-in-Ok-clause-ok : goal.returns-in-Ok-clause-ok

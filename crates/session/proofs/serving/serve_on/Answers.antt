@@ -2,7 +2,7 @@ use Rattle.std.proofs.Common.{option_map, subst}
 use Rattle.std.specs.Prelude.{IfErr, IfSome, OnOk}
 use Rattle.commands.specs.Commands.{commands}
 use Rattle.session.specs.Sessions.{LeavesSession, Served}
-use Rattle.session.proofs.serving.serve_input.Goals as goal
+use Rattle.session.proofs.serving.serve_on.Goals as goal
 
 pub returns-clause-ok : goal.returns-clause-ok
 returns-clause-ok g c =
