@@ -1,5 +1,5 @@
 -- A chain is the one that one thread makes of the batches that are kept.
-use Rattle.std.proofs.Common.{◌≡◌, inl, inr, ℕ, zero, suc, ◌+◌, ◌-◌, ◌<◌, ◌≤◌, List, [], ◌∷◌, ◌++◌, length, take, drop, Some, None, refl, sym, ap, subst, ◌∙◌, append_assoc, append-nil, arith}
+use Rattle.std.proofs.Common.{◌≡◌, ℕ, zero, suc, ◌+◌, ◌-◌, ◌≤◌, List, [], ◌∷◌, ◌++◌, length, take, Some, None, refl, sym, ap, subst, ◌∙◌, append_assoc, append-nil, arith}
 use Rattle.std.proofs.lemmas.List.{length-append, length_push}
 use Rattle.std.specs.List.{slice_get}
 use Rattle.catalog.specs.CardMap.{Cards}
@@ -8,7 +8,7 @@ use Rattle.tpcc_model.specs.Serial.{State, after_batch, serial}
 use Rattle.executor.specs.Calls.{Call, Committed, Executed, IsRecordOfEither, LeadOn, Leads, Refused, ReturnedTo, kept_by, kept_on}
 use Rattle.executor.specs.Kept.{Kept, all_kept, none_kept, serial_chain, states_met, up_to, with_batch, with_committed}
 use Rattle.executor.specs.Laws.{ChainsAreSerial}
-use Rattle.executor.specs.Chains.{IsReturned, Chain, committed, extended, states}
+use Rattle.executor.specs.Chains.{IsReturned, Chain, committed, extended}
 use Rattle.executor.specs.States.{IsSoundState}
 use Rattle.executor.specs.declared.record.Record.{Record}
 use Rattle.executor.proofs.Running.{serial-more}

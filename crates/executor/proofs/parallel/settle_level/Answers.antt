@@ -2,7 +2,6 @@ use Rattle.std.proofs.Common.{◌∙◌, ◌<◌, ap, length, subst, sym}
 use Rattle.std.proofs.lemmas.List.Kept.{AllPairs-from_increasing}
 use Rattle.std.specs.List.{AllPairs}
 use Rattle.gather.specs.Merged.{after_each}
-use Rattle.workers.specs.LevelEnds.{AreDone}
 use Rattle.workers.proofs.Ends.{rows_after_level}
 use Rattle.executor.specs.Filing.{Awaits}
 use Rattle.executor.proofs.Filing.{awaits_others}
