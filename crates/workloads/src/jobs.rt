@@ -7,7 +7,7 @@ use runner::{check_text, make_text, run_and_store, run_text};
 use session::serve;
 use std::alloc::Global;
 use telling::Telling;
-use workers::{NoGate, Workers};
+use workers::{NoGate, Runtime, Workers};
 
 /// How many bytes an end gives or takes at a call.
 const STEP: usize = 65_536;
@@ -31,6 +31,16 @@ impl Scale {
     }
 }
 
+/// A runtime with these workers and no observer.
+fn runtime_of<R>(rt: &R, alloc: Global, workers: Workers) -> Runtime<'_, R, NoGate> {
+    Runtime {
+        rt,
+        alloc,
+        workers,
+        gate: &NoGate,
+    }
+}
+
 /// What batches answer on the database of an image.
 fn answers<R: Host>(
     rt: &R,
@@ -39,20 +49,11 @@ fn answers<R: Host>(
     batches: &[u8],
     workers: usize,
 ) -> Option<Vec<u8>> {
-    let workers = Workers::new(workers)?;
+    let runtime = runtime_of(rt, alloc, Workers::new(workers)?);
     let mut image = Telling::new(BytesSource::new(image, STEP));
     let mut batches = Telling::new(BytesSource::new(batches, STEP));
     let mut sink = BytesSink::new(alloc, STEP);
-    run_text(
-        rt,
-        alloc,
-        &mut image,
-        &mut batches,
-        &mut sink,
-        workers,
-        &NoGate,
-    )
-    .ok()?;
+    run_text(&runtime, &mut image, &mut batches, &mut sink).ok()?;
     Some(sink.bytes)
 }
 
@@ -64,14 +65,11 @@ fn session<R: Host>(
     commands: &[u8],
     workers: usize,
 ) -> Option<Vec<u8>> {
-    let workers = Workers::new(workers)?;
+    let runtime = runtime_of(rt, alloc, Workers::new(workers)?);
     let mut image = BytesSource::new(image, STEP);
     let mut sink = BytesSink::new(alloc, STEP);
     let mut input = BytesSource::new(commands, STEP);
-    serve(
-        rt, alloc, &mut image, &mut input, &mut sink, workers, &NoGate,
-    )
-    .ok()?;
+    serve(&runtime, &mut image, &mut input, &mut sink).ok()?;
     Some(sink.bytes)
 }
 
@@ -159,14 +157,11 @@ fn store<R: Host>(rt: &R, alloc: Global, seed: u32, scale: Scale) -> Option<Vec<
     let mut sink = BytesSink::new(alloc, STEP);
     let mut tables = BytesSink::new(alloc, STEP);
     run_and_store(
-        rt,
-        alloc,
+        &runtime_of(rt, alloc, Workers::new(1)?),
         &mut source,
         &mut requests,
         &mut sink,
         &mut tables,
-        Workers::new(1)?,
-        &NoGate,
     )
     .ok()?;
     let mut bytes = made(alloc, scale)?;
