@@ -199,6 +199,20 @@ fn long_data<R: Host>(rt: &R, alloc: Global, seed: u32, scale: Scale) -> Option<
     answers(rt, alloc, image.as_slice(), batches.as_slice(), 4)
 }
 
+/// Batches of the mix on a hundred small warehouses that have orders, by four workers: few of their requests meet.
+fn cores<R: Host>(rt: &R, alloc: Global, seed: u32, scale: Scale) -> Option<Vec<u8>> {
+    let size = Size {
+        warehouses: scale.of(100, 2),
+        customers: scale.of(30, 10),
+        least_data: STANDARD_DATA,
+        items: scale.of(1_000, 50),
+        orders: scale.of(30, 10),
+    };
+    let image = image(alloc, seed, size).ok()?;
+    let batches = mixed(alloc, seed, size, scale.of(20, 2), scale.of(1_000, 40)).ok()?;
+    answers(rt, alloc, image.as_slice(), batches.as_slice(), 4)
+}
+
 /// What the job of this name gives; None where there is no such job, or it fails.
 pub fn done<R: Host>(
     rt: &R,
@@ -215,6 +229,7 @@ pub fn done<R: Host>(
         "store" => store(rt, alloc, seed, scale),
         "awkward" => awkward(rt, alloc, seed, scale),
         "scale" => long_data(rt, alloc, seed, scale),
+        "cores" => cores(rt, alloc, seed, scale),
         _ => None,
     }
 }

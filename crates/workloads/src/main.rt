@@ -16,8 +16,8 @@ use std::process::ExitCode;
 use std::rt::Env;
 
 /// The names of the jobs.
-const JOBS: [&str; 7] = [
-    "mix", "workers", "payments", "load", "store", "awkward", "scale",
+const JOBS: [&str; 8] = [
+    "mix", "workers", "payments", "load", "store", "awkward", "scale", "cores",
 ];
 
 /// The job and the seed of the command line, where it has words.
