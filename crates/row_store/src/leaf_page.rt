@@ -22,6 +22,14 @@ impl<'a> LeafPage<'a> {
         self.ranks.len()
     }
 
+    /// A number of no meaning. Computing it reads where the first slot is, so that later reads needn't wait for memory.
+    pub fn prefetch(self) -> usize {
+        match self.ranks.first() {
+            Some((rank, _)) => (*rank % 2) as usize,
+            None => 0,
+        }
+    }
+
     /// About the size of the rows when they are encoded, in bytes: an estimate, on which nothing relies. Computing it reads the rows,
     /// so that encoding them needn't wait for memory.
     pub fn estimate(self) -> usize {

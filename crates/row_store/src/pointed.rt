@@ -41,6 +41,8 @@ pub struct PointedStore {
     tables: Box<PointedTables>,
     /// The rank of each key that has a row, or had one at a point. Ranks stay, so that a row comes back without memory.
     leaves: Leaves,
+    /// A sum over what was prefetched. It has no meaning, but keeps a compiler from leaving the reads out.
+    prefetched: usize,
 }
 
 impl Model for PointedStore {
@@ -87,6 +89,31 @@ fn list_new(leaves: &mut Leaves, tables: &PointedTables, key: &RowKey) -> Result
     list(leaves, key)
 }
 
+/// Whether rows of the key's kind are inserted by requests.
+fn is_often_new(key: &RowKey) -> bool {
+    matches!(
+        key,
+        RowKey::Order { .. }
+            | RowKey::NewOrder { .. }
+            | RowKey::OrderLine { .. }
+            | RowKey::History { .. }
+    )
+}
+
+/// Reads the lists where the ranks of changed keys may be inserted. The result has no meaning.
+fn read_lists(leaves: &Leaves, changes: &[(RowKey, Option<Row>)]) -> usize {
+    let mut sum = 0usize;
+    for n in 0..changes.len() {
+        let (key, _) = &changes[n];
+        if is_often_new(key) {
+            if let Some((rank, _)) = leaves.ranks(leaf(key)).last() {
+                sum = sum.wrapping_add(*rank as usize);
+            }
+        }
+    }
+    sum
+}
+
 fn boxed(alloc: Global, tables: PointedTables) -> Result<Box<PointedTables>, Memory>
     ensures { IfOk result (λ boxed. boxed.value ≡ tables) }
 {
@@ -106,7 +133,11 @@ impl PointedStore {
         let tables = RowTables::new(alloc)?;
         let leaves = Leaves::new(alloc)?;
         let tables = boxed(alloc, PointedTables::new(alloc, tables))?;
-        Ok(PointedStore { tables, leaves })
+        Ok(PointedStore {
+            tables,
+            leaves,
+            prefetched: 0,
+        })
     }
 
     /// The rows of a list, of which a later one replaces an earlier one of its key; there is no point, and no leaf is dirty.
@@ -123,7 +154,11 @@ impl PointedStore {
             tables.put(key, row)?;
         }
         let tables = boxed(alloc, PointedTables::new(alloc, tables))?;
-        Ok(PointedStore { tables, leaves })
+        Ok(PointedStore {
+            tables,
+            leaves,
+            prefetched: 0,
+        })
     }
 
     pub fn get(&self, key: &RowKey) -> Option<RowRef<'_>>
@@ -261,6 +296,14 @@ impl PointedStore {
         self.tables.remove(key)
     }
 
+    /// Reads where the ranks of changed keys are listed, so that listing them needn't wait for memory.
+    fn prefetch(&mut self, delta: &Delta)
+        ensures { self.new ≡ self.old }
+    {
+        let sum = read_lists(&self.leaves, delta.as_slice());
+        self.prefetched = self.prefetched.wrapping_add(sum);
+    }
+
     fn change(&mut self, key: RowKey, new_row: Option<Row>) -> Result<(), Memory>
         requires { new_row_fits key new_row ≡ true }
         ensures rows { OnOk result (self.new.rows ≡ changed self.old.rows key new_row) }
@@ -287,6 +330,7 @@ impl PointedStore {
         ensures points { self.new.points ≡ self.old.points }
         ensures clean { KeepsCleanLeaves self.old self.new }
     {
+        self.prefetch(&delta);
         for (key, new_row) in delta.into_changes() {
             self.change(key, new_row)?;
         }
