@@ -50,7 +50,7 @@ fn executed_within<R: Threads + Sync, G: Gate>(
     } = *job;
     let alloc = runtime.alloc;
     if !*strayed {
-        let loan = Loan { store, footprint };
+        let loan = Loan::new(store, footprint);
         match execute(alloc, catalog, request, number, moment, &loan) {
             Ok(done) => return Ok(done),
             Err(Stop::Memory) => return Err(Memory),

@@ -55,10 +55,7 @@ fn on_loan(
     } = scene;
     let request = batch.requests.as_slice().first()?;
     let number = database.number(0)?;
-    let loan = Loan {
-        store: &database.store,
-        footprint,
-    };
+    let loan = Loan::new(&database.store, footprint);
     Some(execute(
         alloc,
         &database.catalog,

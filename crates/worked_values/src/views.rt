@@ -77,7 +77,7 @@ fn show_loan(
     store: &PointedStore,
     footprint: &Footprint,
 ) -> Option<()> {
-    show_view(rt, alloc, what, &Loan { store, footprint })
+    show_view(rt, alloc, what, &Loan::new(store, footprint))
 }
 
 /// All rows; those where the district's next order is only read; and those where its book is written.

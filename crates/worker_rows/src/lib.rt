@@ -1,6 +1,7 @@
 //! Rows of each table by their keys, and views of rows: all of a store's, or those that a footprint lends.
 #![tactic(auto)]
 
+mod hints;
 mod keyed;
 mod loan;
 mod view;

@@ -3,6 +3,7 @@ ghost use Rattle.std.specs.Prelude.{◌≡◌, Some};
 ghost use Rattle.std.specs.List.{list_any};
 ghost use Rattle.tpcc_rows.specs.Granules.{same_granule};
 
+use crate::hints::Hints;
 use crate::view::{RowView, Strayed};
 use row_store::PointedStore;
 use tpcc_rows::footprint::{Footprint, is_among};
@@ -17,13 +18,28 @@ use tpcc_rows::row_ref::RowRef;
 pub struct Loan<'a> {
     pub store: &'a PointedStore,
     pub footprint: &'a Footprint,
+    hints: Hints,
+}
+
+impl<'a> Loan<'a> {
+    pub fn new(store: &'a PointedStore, footprint: &'a Footprint) -> Loan<'a>
+        ensures store { result.store.now ≡ store.now }
+        ensures footprint { result.footprint.now ≡ footprint.now }
+    {
+        Loan {
+            store,
+            footprint,
+            hints: Hints::new(footprint.reads()),
+        }
+    }
 }
 
 impl Loan<'_> {
     fn may_read(&self, granule: &Granule) -> bool
         ensures { result ≡ list_any (same_granule granule.now) self.now.footprint.now.reads }
     {
-        is_among(granule, self.footprint.reads())
+        let reads = self.footprint.reads();
+        self.hints.leads_to(granule, reads) || is_among(granule, reads)
     }
 
     fn may_read_book(&self, warehouse: WarehouseId, district: DistrictId) -> bool

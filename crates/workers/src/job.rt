@@ -64,10 +64,7 @@ pub(crate) fn execute_job<G: Gate>(
         (IsJobDone db.entry.catalog.now db.entry.store.now.rows job.now.moment (job_of job.now) job.now.place)
         (StraysWhere (job_strays (tpcc db.entry.catalog.now job.now.moment) db.entry.store.now.rows (job_of job.now))) }
 {
-    let view = Loan {
-        store: db.store,
-        footprint: job.footprint,
-    };
+    let view = Loan::new(db.store, job.footprint);
     gate.enter(job.place);
     let outcome = execute(
         alloc,
