@@ -1,4 +1,4 @@
-//! Hashes of leaves and of nodes, one at a time or four at once.
+//! Hashes of leaves and of nodes, and their texts.
 ghost use Rattle.std.specs.Prelude.{◌≡◌, ◌≤◌, ◌+◌, ◌++◌, ◌∷◌, [], ℕ, List, length};
 ghost use Rattle.std.specs.Bool.{OnFalse, OnTrue};
 ghost use Rattle.sha2.specs.Sha256.{sha256};
@@ -10,7 +10,6 @@ ghost use Rattle.tpcc_rows.specs.References.{row_of};
 use hashers::{LONG_BYTES, SHORT_BYTES};
 use row_store::LeafPage;
 use sha2::{Digest, Sha256};
-use sha2_lanes::digests_of_four;
 use tpcc_rows::encoding::append_row;
 use tpcc_rows::key::RowKey;
 use tpcc_rows::row_buf::ByteBuf;
@@ -84,22 +83,6 @@ impl Gathered {
     }
 }
 
-/// Buffers for the texts of two leaves. Making them takes as long as hashing a leaf, so they are reused.
-#[derive(Drop)]
-pub(crate) struct TwoTexts {
-    first: ByteBuf<LEAF_BYTES>,
-    second: ByteBuf<LEAF_BYTES>,
-}
-
-impl TwoTexts {
-    pub(crate) fn new() -> TwoTexts {
-        TwoTexts {
-            first: ByteBuf::new(),
-            second: ByteBuf::new(),
-        }
-    }
-}
-
 /// The hash of a leaf: of its rows in key order. They are best prefetched before.
 pub fn hash_leaf(page: LeafPage<'_>) -> [u8; 32]
     ensures { result ≡ sha256 (page_text page.entry) }
@@ -139,44 +122,6 @@ pub(crate) fn encode_leaf(page: LeafPage<'_>, text: &mut ByteBuf<LEAF_BYTES>) ->
         }
     }
     true
-}
-
-/// The hash of a leaf: the given one, if it is of the whole text.
-fn hash_from(page: LeafPage<'_>, is_whole: bool, hash: [u8; 32]) -> [u8; 32]
-    requires { OnTrue is_whole (hash ≡ sha256 (page_text page)) }
-    ensures { result ≡ sha256 (page_text page.entry) }
-{
-    if is_whole { hash } else { hash_leaf(page) }
-}
-
-/// The hashes of four leaves, computed at once except for leaves whose texts may not fit.
-pub(crate) fn hash_four_leaves(
-    front: &mut TwoTexts,
-    back: &mut TwoTexts,
-    first: LeafPage<'_>,
-    second: LeafPage<'_>,
-    third: LeafPage<'_>,
-    fourth: LeafPage<'_>,
-) -> [[u8; 32]; 4]
-    ensures { result ≡ sha256 (page_text first.entry) ∷ sha256 (page_text second.entry) ∷ sha256 (page_text third.entry)
-        ∷ sha256 (page_text fourth.entry) ∷ [] }
-{
-    let first_is_whole = encode_leaf(first, &mut front.first);
-    let second_is_whole = encode_leaf(second, &mut front.second);
-    let third_is_whole = encode_leaf(third, &mut back.first);
-    let fourth_is_whole = encode_leaf(fourth, &mut back.second);
-    let hashes = digests_of_four(
-        front.first.as_slice(),
-        front.second.as_slice(),
-        back.first.as_slice(),
-        back.second.as_slice(),
-    );
-    [
-        hash_from(first, first_is_whole, hashes[0]),
-        hash_from(second, second_is_whole, hashes[1]),
-        hash_from(third, third_is_whole, hashes[2]),
-        hash_from(fourth, fourth_is_whole, hashes[3]),
-    ]
 }
 
 /// The hash of a node, from those of its children.

@@ -12,7 +12,7 @@ use crate::hashing::{LEAF_BYTES, NODE_BYTES};
 use crate::jobs::Job;
 use crate::leaves::Leaves;
 use crate::levels::InnerNodes;
-use crate::places::{Places, do_jobs, sort_by_measure};
+use crate::places::{Encodes, bytes_of, do_jobs, give, sort_by_measure};
 use arrayvec::ArrayVec;
 use hashers::{Helpers, Host, LONG_TEXTS, TEXTS, Ticket};
 use sha2_lanes::SecondBlocks;
@@ -37,34 +37,12 @@ const FEWEST_NODES: usize = 32;
 /// The tickets of a round's groups.
 type Tickets = ArrayVec<Option<Ticket>, MOST_GROUPS>;
 
-/// Places whose texts can be encoded without being hashed.
-pub(crate) trait Encodes<const N: usize>: Places {
-    /// Writes the text of a place, or leaves the buffer empty if the text may not fit.
-    fn encode(&self, place: usize, text: &mut ByteBuf<N>)
-        requires { Self.has self.now place }
-        ensures { IsTextOf (Self.hash self.now place) text.new };
-}
-
 /// How jobs are shared: with at most `most` helpers, in groups of `size`.
 #[derive(Clone, Copy)]
 struct Sharing<'a, P> {
     places: &'a P,
-    second_blocks: &'a SecondBlocks,
     most: usize,
     size: usize,
-}
-
-/// The texts as slices.
-fn bytes_of<const N: usize>(texts: &[ByteBuf<N>]) -> ArrayVec<&[u8], TEXTS>
-    requires small { N < 2 ^ 32 }
-    requires few { length texts.now ≤ TEXTS }
-    ensures { map (λ bytes. sha256 bytes.now) result.items ≡ map (λ text. sha256 text) texts.now }
-{
-    let mut bytes = ArrayVec::new();
-    for text in texts {
-        bytes.push(text.as_slice());
-    }
-    bytes
 }
 
 /// Sends the texts from `start` to before `end` to a helper.
@@ -79,7 +57,7 @@ fn begin_group<const N: usize>(
     requires range { (start ≤ end) × (end ≤ length texts.now) }
     requires few { end ≤ start + TEXTS }
 {
-    helpers.begin(most, bytes_of(&texts[start..end]).as_slice())
+    helpers.begin(most, bytes_of::<N, TEXTS>(&texts[start..end]).as_slice())
 }
 
 /// Encodes the texts of jobs, and sends each group to a helper.
@@ -113,38 +91,6 @@ fn begin<const N: usize, P: Encodes<N>>(
     tickets
 }
 
-/// The hash of a place: the given one, unless its text is empty.
-fn hash_by<P: Places>(places: &P, place: usize, text: &[u8], hash: [u8; 32]) -> [u8; 32]
-    requires there { P.has places.now place }
-    requires text { IsTextOf (P.hash places.now place) text.now }
-    requires hash { hash ≡ sha256 text.now }
-    ensures { result ≡ P.hash places.now place }
-{
-    if text.is_empty() {
-        places.hash_one(place)
-    } else {
-        hash
-    }
-}
-
-/// Sets the jobs' hashes to those of their texts.
-fn give<const N: usize, P: Places>(
-    places: &P,
-    jobs: &mut [Job],
-    texts: &[ByteBuf<N>],
-    hashes: &[[u8; 32]],
-)
-    requires small { N < 2 ^ 32 }
-    requires there { All (λ job. P.has places.now job.place) jobs.old }
-    requires texts { AreTexts (P.hash places.now) jobs.old texts.now }
-    requires hashes { hashes.now ≡ map (λ text. sha256 text) texts.now }
-    ensures { IsDone (P.hash places.now) jobs.old jobs.new }
-{
-    for k in 0..jobs.len() {
-        jobs[k].hash = hash_by(places, jobs[k].place, texts[k].as_slice(), hashes[k]);
-    }
-}
-
 /// The hashes of a group's texts.
 fn hash_group<const N: usize>(
     helpers: &mut Helpers,
@@ -158,11 +104,16 @@ fn hash_group<const N: usize>(
     requires same { length hashes.old ≡ length texts.now }
     ensures { hashes.new ≡ map (λ text. sha256 text) texts.now }
 {
-    helpers.finish(second_blocks, ticket, bytes_of(texts).as_slice(), hashes);
+    helpers.finish(
+        second_blocks,
+        ticket,
+        bytes_of::<N, TEXTS>(texts).as_slice(),
+        hashes,
+    );
 }
 
 /// Sets a group's hashes to those of its texts.
-fn finish_group<const N: usize, P: Places>(
+fn finish_group<const N: usize, P: Encodes<N>>(
     helpers: &mut Helpers,
     ticket: Option<Ticket>,
     sharing: &Sharing<'_, P>,
@@ -179,7 +130,7 @@ fn finish_group<const N: usize, P: Places>(
     let mut hashes = [[0u8; 32]; TEXTS];
     hash_group(
         helpers,
-        sharing.second_blocks,
+        sharing.places.second_blocks(),
         ticket,
         texts,
         &mut hashes[..len],
@@ -189,7 +140,7 @@ fn finish_group<const N: usize, P: Places>(
 
 /// Sets the jobs' hashes to those of their texts, group by group.
 #[tactic(auto, using(crate::proofs::Texts::part_there, crate::proofs::Texts::part_texts))]
-fn finish<const N: usize, P: Places>(
+fn finish<const N: usize, P: Encodes<N>>(
     helpers: &mut Helpers,
     tickets: &[Option<Ticket>],
     sharing: &Sharing<'_, P>,
@@ -234,7 +185,7 @@ fn do_level<const N: usize, P: Encodes<N>>(
 {
     let (first, rest) = jobs.split_at_mut(given);
     let tickets = begin(helpers, sharing, first, &mut texts[..given]);
-    do_jobs(rest, sharing.places);
+    do_jobs::<N, P>(rest, sharing.places);
     finish(helpers, tickets.as_slice(), sharing, first, &texts[..given]);
 }
 
@@ -331,24 +282,17 @@ impl Helped {
     }
 
     /// Hashes leaves.
-    pub(crate) fn do_leaves(
-        &mut self,
-        second_blocks: &SecondBlocks,
-        jobs: &mut [Job],
-        places: &Leaves<'_>,
-        threads: usize,
-    )
+    pub(crate) fn do_leaves(&mut self, jobs: &mut [Job], places: &Leaves<'_>, threads: usize)
         requires { All (λ job. job.place < LEAVES) jobs.old }
         ensures { IsDone (leaf_hash places.now.store.now.rows) jobs.old jobs.new }
     {
         let most = self.most(threads);
         if most == 0 || jobs.len() < FEWEST_LEAVES || self.leaves.len() < ROUND {
-            do_jobs(jobs, places);
+            do_jobs::<LEAF_BYTES, _>(jobs, places);
             return;
         }
         let sharing = Sharing {
             places,
-            second_blocks,
             most,
             size: LONG_TEXTS,
         };
@@ -363,17 +307,12 @@ impl Helped {
     {
         let most = self.most(threads);
         if most == 0 || jobs.len() < FEWEST_NODES {
-            do_jobs(jobs, places);
+            do_jobs::<NODE_BYTES, _>(jobs, places);
             return;
         }
         // The calling thread takes a fifth more than a helper, since helpers begin later.
         let size = (5 * jobs.len() / (5 * most + 6)).clamp(1, TEXTS);
-        let sharing = Sharing {
-            places,
-            second_blocks: places.second_blocks,
-            most,
-            size,
-        };
+        let sharing = Sharing { places, most, size };
         let given = (size * most).min(self.nodes.len()).min(jobs.len());
         do_level(&mut self.helpers, &sharing, given, jobs, &mut self.nodes);
     }

@@ -76,14 +76,3 @@ pub(crate) fn put_hashes(hashes: &mut [[u8; 32]], jobs: &[Job])
         hashes[job.place] = job.hash;
     }
 }
-
-/// Sets the hashes of up to four jobs.
-pub(crate) fn give_hashes(jobs: &mut [Job], hashes: &[[u8; 32]; 4])
-    requires { length jobs.old ≤ 4 }
-    ensures { (value : ℕ → List ℕ) (d : Job) → ((k : ℕ) → k < length jobs.old → at hashes.now k ≡ value (slice_index_or jobs.old k d).place)
-        → IsDone value jobs.old jobs.new }
-{
-    for k in 0..jobs.len() {
-        jobs[k].hash = hashes[k];
-    }
-}

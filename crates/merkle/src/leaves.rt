@@ -5,13 +5,14 @@ ghost use Rattle.merkle.specs.Jobs.{IsDone};
 ghost use Rattle.merkle.specs.Nodes.{at};
 ghost use Rattle.tpcc_model.specs.Roots.{leaf_hash};
 
-use crate::hashing::{LEAF_BYTES, TwoTexts, encode_leaf, hash_four_leaves, hash_leaf};
-use crate::helped::{Encodes, Helped};
+use crate::hashing::{LEAF_BYTES, encode_leaf, hash_leaf};
+use crate::helped::Helped;
 use crate::jobs::{Job, gather_leaves, put_hashes};
 use crate::marks::Marks;
-use crate::places::Places;
+use crate::places::{Encodes, Places};
 use crate::shares::{Context, do_jobs_on};
 use row_store::PointedStore;
+use sha2_lanes::SecondBlocks;
 use std::thread::Threads;
 use tpcc_rows::codes::LEAVES;
 use tpcc_rows::row_buf::ByteBuf;
@@ -23,6 +24,7 @@ const ROWS_AT_ONCE: usize = 4096;
 #[derive(Clone, Copy)]
 pub(crate) struct Leaves<'a> {
     pub(crate) store: &'a PointedStore,
+    pub(crate) second_blocks: &'a SecondBlocks,
 }
 
 impl Places for Leaves<'_> {
@@ -34,10 +36,12 @@ impl Places for Leaves<'_> {
 
     ghost hash = { λ leaves n. leaf_hash leaves.store.now.rows n };
 
-    type Room = TwoTexts;
+    fn second_blocks(&self) -> &SecondBlocks {
+        self.second_blocks
+    }
 
-    fn room() -> TwoTexts {
-        TwoTexts::new()
+    fn prefetch(&self, n: usize) -> usize {
+        self.store.page(n).prefetch()
     }
 
     fn measure(&self, n: usize) -> usize {
@@ -47,26 +51,6 @@ impl Places for Leaves<'_> {
     #[tactic(auto, unfolding(tpcc_model::specs::Roots::leaf_hash))]
     fn hash_one(&self, n: usize) -> [u8; 32] {
         hash_leaf(self.store.page(n))
-    }
-
-    #[tactic(auto, unfolding(tpcc_model::specs::Roots::leaf_hash))]
-    fn hash_four(
-        &self,
-        front: &mut TwoTexts,
-        back: &mut TwoTexts,
-        a: usize,
-        b: usize,
-        c: usize,
-        d: usize,
-    ) -> [[u8; 32]; 4] {
-        hash_four_leaves(
-            front,
-            back,
-            self.store.page(a),
-            self.store.page(b),
-            self.store.page(c),
-            self.store.page(d),
-        )
     }
 }
 
@@ -104,9 +88,9 @@ fn hash_leaves<R: Threads + Sync>(
     let most = context.threads.saturating_mul(ROWS_AT_ONCE);
     let paying = rows_of(jobs, places.store, most) / ROWS_AT_ONCE;
     if paying > 1 {
-        do_jobs_on(context, jobs, places, paying);
+        do_jobs_on::<LEAF_BYTES, _, _>(context, jobs, places, paying);
     } else {
-        helped.do_leaves(context.second_blocks, jobs, places, context.threads);
+        helped.do_leaves(jobs, places, context.threads);
     }
 }
 

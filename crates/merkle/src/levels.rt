@@ -6,12 +6,12 @@ ghost use Rattle.merkle.specs.Jobs.{IsDone};
 ghost use Rattle.merkle.specs.Nodes.{IsJoinedFrom, IsNearlyTree, IsTree, at, join_at};
 
 use crate::hashing::{NODE_BYTES, encode_node, join};
-use crate::helped::{Encodes, Helped};
+use crate::helped::Helped;
 use crate::jobs::{Job, gather_nodes, put_hashes};
 use crate::marks::Marks;
-use crate::places::Places;
+use crate::places::{Encodes, Places};
 use crate::shares::{Context, do_jobs_on};
-use sha2_lanes::{SecondBlocks, digests_of_four_nodes};
+use sha2_lanes::SecondBlocks;
 use std::thread::Threads;
 use tpcc_rows::codes::LEAVES;
 use tpcc_rows::row_buf::ByteBuf;
@@ -43,9 +43,13 @@ impl Places for InnerNodes<'_> {
 
     ghost hash = { λ inner i. join_at inner.nodes.now i };
 
-    type Room = ();
+    fn second_blocks(&self) -> &SecondBlocks {
+        self.second_blocks
+    }
 
-    fn room() {}
+    fn prefetch(&self, _: usize) -> usize {
+        0
+    }
 
     fn measure(&self, _: usize) -> usize {
         NODE_BYTES
@@ -53,24 +57,6 @@ impl Places for InnerNodes<'_> {
 
     fn hash_one(&self, i: usize) -> [u8; 32] {
         join(&self.nodes[2 * i], &self.nodes[2 * i + 1])
-    }
-
-    fn hash_four(
-        &self,
-        _: &mut (),
-        _: &mut (),
-        a: usize,
-        b: usize,
-        c: usize,
-        d: usize,
-    ) -> [[u8; 32]; 4] {
-        digests_of_four_nodes(
-            self.second_blocks,
-            &encode_at(self.nodes, a),
-            &encode_at(self.nodes, b),
-            &encode_at(self.nodes, c),
-            &encode_at(self.nodes, d),
-        )
     }
 }
 
@@ -97,7 +83,7 @@ fn join_nodes<R: Threads + Sync>(
     };
     let paying = jobs.len() / NODES_AT_ONCE;
     if paying > 1 {
-        do_jobs_on(context, jobs, &inner, paying);
+        do_jobs_on::<NODE_BYTES, _, _>(context, jobs, &inner, paying);
     } else {
         helped.do_nodes(jobs, &inner, context.threads);
     }

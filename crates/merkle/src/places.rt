@@ -1,11 +1,19 @@
 //! Places of a tree that have hashes: leaves and inner nodes.
-ghost use Rattle.std.specs.Prelude.{◌≡◌, ◌≤◌, ◌∷◌, [], ℕ, List, All, length};
-ghost use Rattle.merkle.specs.Jobs.{IsDone, KeepsPlaces};
+ghost use Rattle.std.specs.Prelude.{◌≡◌, ◌<◌, ◌≤◌, ◌^◌, ℕ, List, All, length, map};
+ghost use Rattle.merkle.specs.Jobs.{AreTexts, IsDone, IsTextOf, KeepsPlaces};
+ghost use Rattle.sha2.specs.Sha256.{sha256};
+ghost use Rattle.merkle.specs.declared.places.TheConstants.{GROUP};
 
-use crate::jobs::{Job, give_hashes};
+use crate::jobs::Job;
+use arrayvec::ArrayVec;
+use sha2_lanes::{SecondBlocks, digests};
+use tpcc_rows::row_buf::ByteBuf;
 
-/// Places sorted by size together, since four hashed at once take the time of the largest.
+/// Places sorted by size together, since those hashed at once take the time of the largest.
 const WINDOW: usize = 128;
+
+/// Places hashed at once.
+const GROUP: usize = 4;
 
 /// Places that can be hashed.
 pub(crate) trait Places {
@@ -15,10 +23,11 @@ pub(crate) trait Places {
     // The hash of a place.
     ghost hash: { Self → ℕ → List ℕ };
 
-    /// Buffers for two of four texts that are hashed at once. The other two are in another frame, so that no frame exceeds 64 KB.
-    type Room: Drop;
+    fn second_blocks(&self) -> &SecondBlocks;
 
-    fn room() -> Self::Room;
+    /// A number of no meaning. Computing it reads what `measure` reads first, so that `measure` needn't wait for memory.
+    fn prefetch(&self, place: usize) -> usize
+        requires { has self.now place };
 
     /// Approximate size of the text, in bytes. Prefetches it if it is scattered.
     fn measure(&self, place: usize) -> usize
@@ -27,22 +36,24 @@ pub(crate) trait Places {
     fn hash_one(&self, place: usize) -> [u8; 32]
         requires { has self.now place }
         ensures { result ≡ hash self.now place };
+}
 
-    /// Hashes four places at once.
-    fn hash_four(
-        &self,
-        front: &mut Self::Room,
-        back: &mut Self::Room,
-        a: usize,
-        b: usize,
-        c: usize,
-        d: usize,
-    ) -> [[u8; 32]; 4]
-        requires first { has self.now a }
-        requires second { has self.now b }
-        requires third { has self.now c }
-        requires fourth { has self.now d }
-        ensures { result ≡ hash self.now a ∷ hash self.now b ∷ hash self.now c ∷ hash self.now d ∷ [] };
+/// Places whose texts can be encoded without being hashed.
+pub(crate) trait Encodes<const N: usize>: Places {
+    /// Writes the text of a place, or leaves the buffer empty if the text may not fit.
+    fn encode(&self, place: usize, text: &mut ByteBuf<N>)
+        requires { Self.has self.now place }
+        ensures { IsTextOf (Self.hash self.now place) text.new };
+}
+
+/// Reads what measuring reads first.
+fn prefetch<P: Places>(jobs: &mut [Job], places: &P)
+    requires { All (λ job. P.has places.now job.place) jobs.old }
+    ensures { KeepsPlaces jobs.old jobs.new }
+{
+    for k in 0..jobs.len() {
+        jobs[k].measure = places.prefetch(jobs[k].place);
+    }
 }
 
 /// Measures the jobs' texts.
@@ -51,7 +62,7 @@ fn measure<P: Places>(jobs: &mut [Job], places: &P)
     ensures { KeepsPlaces jobs.old jobs.new }
 {
     for k in 0..jobs.len() {
-        jobs[k].measure = places.measure(jobs[k].place);
+        jobs[k].measure = jobs[k].measure.wrapping_add(places.measure(jobs[k].place));
     }
 }
 
@@ -61,8 +72,103 @@ pub(crate) fn sort_by_measure<P: Places>(jobs: &mut [Job], places: &P)
     ensures places { KeepsPlaces jobs.old jobs.new }
     ensures there { All (λ job. P.has places.now job.place) jobs.new }
 {
+    prefetch(jobs, places);
     measure(jobs, places);
     jobs.sort_unstable_by_key(|job: &Job| -> usize { job.measure });
+}
+
+/// The texts as slices.
+pub(crate) fn bytes_of<const N: usize, const MOST: usize>(
+    texts: &[ByteBuf<N>],
+) -> ArrayVec<&[u8], MOST>
+    requires small { N < 2 ^ 32 }
+    requires room { MOST < 2 ^ 32 }
+    requires few { length texts.now ≤ MOST }
+    ensures { map (λ bytes. sha256 bytes.now) result.items ≡ map (λ text. sha256 text) texts.now }
+{
+    let mut bytes = ArrayVec::new();
+    for text in texts {
+        bytes.push(text.as_slice());
+    }
+    bytes
+}
+
+/// The hash of a place: the given one, unless its text is empty.
+fn hash_by<P: Places>(places: &P, place: usize, text: &[u8], hash: [u8; 32]) -> [u8; 32]
+    requires there { P.has places.now place }
+    requires text { IsTextOf (P.hash places.now place) text.now }
+    requires hash { hash ≡ sha256 text.now }
+    ensures { result ≡ P.hash places.now place }
+{
+    if text.is_empty() {
+        places.hash_one(place)
+    } else {
+        hash
+    }
+}
+
+/// Sets the jobs' hashes to those of their texts.
+pub(crate) fn give<const N: usize, P: Places>(
+    places: &P,
+    jobs: &mut [Job],
+    texts: &[ByteBuf<N>],
+    hashes: &[[u8; 32]],
+)
+    requires small { N < 2 ^ 32 }
+    requires there { All (λ job. P.has places.now job.place) jobs.old }
+    requires texts { AreTexts (P.hash places.now) jobs.old texts.now }
+    requires hashes { hashes.now ≡ map (λ text. sha256 text) texts.now }
+    ensures { IsDone (P.hash places.now) jobs.old jobs.new }
+{
+    for k in 0..jobs.len() {
+        jobs[k].hash = hash_by(places, jobs[k].place, texts[k].as_slice(), hashes[k]);
+    }
+}
+
+/// Encodes the texts of jobs.
+fn encode<const N: usize, P: Encodes<N>>(places: &P, jobs: &[Job], texts: &mut [ByteBuf<N>])
+    requires small { N < 2 ^ 32 }
+    requires same { length texts.old ≡ length jobs.now }
+    requires there { All (λ job. P.has places.now job.place) jobs.now }
+    ensures { AreTexts (P.hash places.now) jobs.now texts.new }
+{
+    for k in 0..jobs.len() {
+        places.encode(jobs[k].place, &mut texts[k]);
+    }
+}
+
+/// The hashes of a group's texts.
+fn hash_texts<const N: usize>(
+    second_blocks: &SecondBlocks,
+    texts: &[ByteBuf<N>],
+    hashes: &mut [[u8; 32]],
+)
+    requires small { N < 2 ^ 32 }
+    requires few { length texts.now ≤ GROUP }
+    requires same { length hashes.old ≡ length texts.now }
+    ensures { hashes.new ≡ map (λ text. sha256 text) texts.now }
+{
+    let bytes = bytes_of::<N, GROUP>(texts);
+    digests(second_blocks, bytes.as_slice(), hashes);
+}
+
+/// Hashes jobs at once, each with a text.
+fn do_together<const N: usize, P: Encodes<N>>(
+    jobs: &mut [Job],
+    places: &P,
+    texts: &mut [ByteBuf<N>],
+)
+    requires small { N < 2 ^ 32 }
+    requires few { length jobs.old ≤ GROUP }
+    requires same { length texts.old ≡ length jobs.old }
+    requires there { All (λ job. P.has places.now job.place) jobs.old }
+    ensures { IsDone (P.hash places.now) jobs.old jobs.new }
+{
+    encode(places, jobs, texts);
+    let mut hashes = [[0u8; 32]; GROUP];
+    let hashes = &mut hashes[..jobs.len()];
+    hash_texts(places.second_blocks(), texts, hashes);
+    give(places, jobs, texts, hashes);
 }
 
 /// Hashes jobs one at a time.
@@ -75,73 +181,69 @@ fn do_few<P: Places>(jobs: &mut [Job], places: &P)
     }
 }
 
-/// Hashes three or four jobs at once.
-fn do_four<P: Places>(jobs: &mut [Job], places: &P, front: &mut P::Room, back: &mut P::Room)
-    requires low { 3 ≤ length jobs.old }
-    requires high { length jobs.old ≤ 4 }
+/// Hashes up to `GROUP` jobs, two of them one at a time, which is faster.
+fn do_group<const N: usize, P: Encodes<N>>(jobs: &mut [Job], places: &P, texts: &mut [ByteBuf<N>])
+    requires small { N < 2 ^ 32 }
+    requires few { length jobs.old ≤ GROUP }
+    requires room { length texts.old ≡ GROUP }
     requires there { All (λ job. P.has places.now job.place) jobs.old }
-    ensures { IsDone (P.hash places.now) jobs.old jobs.new }
-{
-    let [a, b, c] = [jobs[0].place, jobs[1].place, jobs[2].place];
-    let d = jobs[jobs.len() - 1].place;
-    let hashes = places.hash_four(front, back, a, b, c, d);
-    give_hashes(jobs, &hashes);
-}
-
-/// Hashes up to four jobs, two of them one at a time, which is faster.
-fn do_group<P: Places>(jobs: &mut [Job], places: &P, front: &mut P::Room, back: &mut P::Room)
-    requires few { length jobs.old ≤ 4 }
-    requires there { All (λ job. P.has places.now job.place) jobs.old }
-    ensures { IsDone (P.hash places.now) jobs.old jobs.new }
+    ensures done { IsDone (P.hash places.now) jobs.old jobs.new }
+    ensures room { length texts.new ≡ GROUP }
 {
     if jobs.len() > 2 {
-        do_four(jobs, places, front, back);
+        do_together(jobs, places, &mut texts[..jobs.len()]);
     } else {
         do_few(jobs, places);
     }
 }
 
-/// Hashes jobs, four neighbours at once.
-fn do_neighbours<P: Places>(jobs: &mut [Job], places: &P, front: &mut P::Room, back: &mut P::Room)
-    requires { All (λ job. P.has places.now job.place) jobs.old }
-    ensures { IsDone (P.hash places.now) jobs.old jobs.new }
+/// Hashes jobs, `GROUP` neighbours at once.
+fn do_neighbours<const N: usize, P: Encodes<N>>(
+    jobs: &mut [Job],
+    places: &P,
+    texts: &mut [ByteBuf<N>],
+)
+    requires small { N < 2 ^ 32 }
+    requires room { length texts.old ≡ GROUP }
+    requires there { All (λ job. P.has places.now job.place) jobs.old }
+    ensures done { IsDone (P.hash places.now) jobs.old jobs.new }
+    ensures room { length texts.new ≡ GROUP }
 {
-    for group in 0..jobs.len().div_ceil(4) {
-        let start = 4 * group;
-        let end = (start + 4).min(jobs.len());
-        do_group(&mut jobs[start..end], places, front, back);
+    for group in 0..jobs.len().div_ceil(GROUP) {
+        let start = GROUP * group;
+        let end = (start + GROUP).min(jobs.len());
+        do_group(&mut jobs[start..end], places, texts);
     }
 }
 
 /// Hashes the jobs of a window.
-fn do_window<P: Places>(jobs: &mut [Job], places: &P, front: &mut P::Room, back: &mut P::Room)
-    requires { All (λ job. P.has places.now job.place) jobs.old }
-    ensures { IsDone (P.hash places.now) jobs.old jobs.new }
+fn do_window<const N: usize, P: Encodes<N>>(jobs: &mut [Job], places: &P, texts: &mut [ByteBuf<N>])
+    requires small { N < 2 ^ 32 }
+    requires room { length texts.old ≡ GROUP }
+    requires there { All (λ job. P.has places.now job.place) jobs.old }
+    ensures done { IsDone (P.hash places.now) jobs.old jobs.new }
+    ensures room { length texts.new ≡ GROUP }
 {
     sort_by_measure(jobs, places);
-    do_neighbours(jobs, places, front, back);
+    do_neighbours(jobs, places, texts);
 }
 
-/// Hashes jobs window by window.
+/// Hashes jobs window by window. Not inlined, since its frame has the texts and callers recurse.
 #[inline(never)]
-fn do_windows<P: Places>(jobs: &mut [Job], places: &P, front: &mut P::Room)
-    requires { All (λ job. P.has places.now job.place) jobs.old }
+pub(crate) fn do_jobs<const N: usize, P: Encodes<N>>(jobs: &mut [Job], places: &P)
+    requires small { N < 2 ^ 32 }
+    requires there { All (λ job. P.has places.now job.place) jobs.old }
     ensures { IsDone (P.hash places.now) jobs.old jobs.new }
 {
-    let mut back = P::room();
+    let mut texts = [
+        ByteBuf::<N>::new(),
+        ByteBuf::new(),
+        ByteBuf::new(),
+        ByteBuf::new(),
+    ];
     for window in 0..jobs.len().div_ceil(WINDOW) {
         let start = WINDOW * window;
         let end = (start + WINDOW).min(jobs.len());
-        do_window(&mut jobs[start..end], places, front, &mut back);
+        do_window(&mut jobs[start..end], places, &mut texts);
     }
-}
-
-/// Hashes jobs. Not inlined, since its frame has a room and callers recurse.
-#[inline(never)]
-pub(crate) fn do_jobs<P: Places>(jobs: &mut [Job], places: &P)
-    requires { All (λ job. P.has places.now job.place) jobs.old }
-    ensures { IsDone (P.hash places.now) jobs.old jobs.new }
-{
-    let mut front = P::room();
-    do_windows(jobs, places, &mut front);
 }

@@ -100,7 +100,10 @@ impl Tree {
             &mut nodes,
             &mut jobs,
             &mut helped,
-            &Leaves { store },
+            &Leaves {
+                store,
+                second_blocks: &second_blocks,
+            },
             &mut marks,
         );
         Ok(Tree {
@@ -145,7 +148,10 @@ impl Tree {
             &mut self.nodes,
             &mut self.jobs,
             &mut self.helped,
-            &Leaves { store },
+            &Leaves {
+                store,
+                second_blocks: &self.second_blocks,
+            },
             &mut marks,
         );
     }

@@ -1,7 +1,7 @@
 use Rattle.std.proofs.Common.{◌≡◌, ℕ, ◌≤◌, get_or}
 use Rattle.merkle.specs.declared.jobs.Job.{Job}
 use Rattle.merkle.proofs.Placing.{IsDoneTo}
-use Rattle.merkle.proofs.helped.give.Given as goal
+use Rattle.merkle.proofs.places.give.Given as goal
 
 -- the jobs before this one have their hashes, those from it on are as they were
 abbrev pub invariant-loop-k : goal.invariant-loop-k

@@ -3,7 +3,7 @@ use Rattle.std.proofs.lemmas.List.{get_or-map, get_or-set_other, get_or_default}
 use Rattle.sha2.specs.Sha256.{sha256}
 use Rattle.merkle.specs.Jobs.{IsTextOf}
 use Rattle.merkle.proofs.Placing.{all-done, all-kept, blank, one-done}
-use Rattle.merkle.proofs.helped.give.Goals as goal
+use Rattle.merkle.proofs.places.give.Goals as goal
 
 pub hash_by-requires : goal.hash_by-requires
 hash_by-requires g c =

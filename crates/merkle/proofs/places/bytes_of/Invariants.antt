@@ -1,6 +1,6 @@
 use Rattle.std.proofs.Common.{◌≡◌, length, map, take}
 use Rattle.sha2.specs.Sha256.{sha256}
-use Rattle.merkle.proofs.helped.bytes_of.Given as goal
+use Rattle.merkle.proofs.places.bytes_of.Given as goal
 
 abbrev pub invariant-loop-text : goal.invariant-loop-text
 invariant-loop-text g l =

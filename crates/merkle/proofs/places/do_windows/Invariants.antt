@@ -1,6 +1,0 @@
-use Rattle.std.proofs.Common.{◌*◌, min, length}
-use Rattle.merkle.proofs.Placing.{IsDoneTo}
-use Rattle.merkle.proofs.places.do_windows.Given as goal
-
-abbrev pub invariant-loop-window : goal.invariant-loop-window
-invariant-loop-window g l = IsDoneTo (g.P.Places.hash l.places) (min (128 * l.window) (length l.fn.jobs)) l.fn.jobs l.jobs
