@@ -12,7 +12,7 @@ use crate::hashing::{LEAF_BYTES, NODE_BYTES};
 use crate::jobs::Job;
 use crate::leaves::Leaves;
 use crate::levels::InnerNodes;
-use crate::places::{Encodes, bytes_of, do_jobs, give, sort_by_measure};
+use crate::places::{Encodes, Places, bytes_of, do_jobs, give};
 use arrayvec::ArrayVec;
 use hashers::{Helpers, Host, LONG_TEXTS, TEXTS, Ticket};
 use sha2_lanes::SecondBlocks;
@@ -296,7 +296,7 @@ impl Helped {
             most,
             size: LONG_TEXTS,
         };
-        sort_by_measure(jobs, places);
+        places.arrange(jobs);
         do_rounds(&mut self.helpers, &sharing, jobs, &mut self.leaves);
     }
 

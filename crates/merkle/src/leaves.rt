@@ -1,7 +1,7 @@
 //! Hashing leaves.
 ghost use Rattle.std.specs.Prelude.{◌≡◌, ◌<◌, ◌≤◌, ◌+◌, ◌∷◌, [], ℕ, All, cond, length, vec_capacity};
 ghost use Rattle.bit_sets.specs.BitSets.{has_bit};
-ghost use Rattle.merkle.specs.Jobs.{IsDone};
+ghost use Rattle.merkle.specs.Jobs.{IsDone, KeepsPlaces};
 ghost use Rattle.merkle.specs.Nodes.{at};
 ghost use Rattle.tpcc_model.specs.Roots.{leaf_hash};
 
@@ -27,6 +27,37 @@ pub(crate) struct Leaves<'a> {
     pub(crate) second_blocks: &'a SecondBlocks,
 }
 
+/// What is read of a leaf, first of all leaves of a window, so that what is read next needn't wait for memory.
+#[derive(Clone, Copy)]
+enum Reading {
+    /// Where its rows are.
+    Lists,
+    /// Its rows, up to about their size.
+    Rows,
+}
+
+/// Reads this of each leaf, and adds to its measure.
+fn measure(jobs: &mut [Job], store: &PointedStore, reading: Reading)
+    requires { All (λ job. job.place < LEAVES) jobs.old }
+    ensures { KeepsPlaces jobs.old jobs.new }
+{
+    for k in 0..jobs.len() {
+        let page = store.page(jobs[k].place);
+        let read = match reading {
+            Reading::Lists => page.prefetch(),
+            Reading::Rows => page.estimate(),
+        };
+        jobs[k].measure = jobs[k].measure.wrapping_add(read);
+    }
+}
+
+/// Sorts jobs by measure.
+fn sort(jobs: &mut [Job])
+    ensures { KeepsPlaces jobs.old jobs.new }
+{
+    jobs.sort_unstable_by_key(|job: &Job| -> usize { job.measure });
+}
+
 impl Places for Leaves<'_> {
     ghost use Rattle.std.specs.Prelude.{◌<◌};
     ghost use Rattle.tpcc_model.specs.Roots.{leaf_hash};
@@ -40,12 +71,10 @@ impl Places for Leaves<'_> {
         self.second_blocks
     }
 
-    fn prefetch(&self, n: usize) -> usize {
-        self.store.page(n).prefetch()
-    }
-
-    fn measure(&self, n: usize) -> usize {
-        self.store.page(n).estimate()
+    fn arrange(&self, jobs: &mut [Job]) {
+        measure(jobs, self.store, Reading::Lists);
+        measure(jobs, self.store, Reading::Rows);
+        sort(jobs);
     }
 
     #[tactic(auto, unfolding(tpcc_model::specs::Roots::leaf_hash))]

@@ -47,13 +47,8 @@ impl Places for InnerNodes<'_> {
         self.second_blocks
     }
 
-    fn prefetch(&self, _: usize) -> usize {
-        0
-    }
-
-    fn measure(&self, _: usize) -> usize {
-        NODE_BYTES
-    }
+    // Their texts have one size.
+    fn arrange(&self, _: &mut [Job]) {}
 
     fn hash_one(&self, i: usize) -> [u8; 32] {
         join(&self.nodes[2 * i], &self.nodes[2 * i + 1])

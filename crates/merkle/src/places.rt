@@ -9,7 +9,7 @@ use arrayvec::ArrayVec;
 use sha2_lanes::{SecondBlocks, digests};
 use tpcc_rows::row_buf::ByteBuf;
 
-/// Places sorted by size together, since those hashed at once take the time of the largest.
+/// Places arranged together, since those hashed at once take the time of the largest.
 const WINDOW: usize = 128;
 
 /// Places hashed at once.
@@ -25,13 +25,11 @@ pub(crate) trait Places {
 
     fn second_blocks(&self) -> &SecondBlocks;
 
-    /// A number of no meaning. Computing it reads what `measure` reads first, so that `measure` needn't wait for memory.
-    fn prefetch(&self, place: usize) -> usize
-        requires { has self.now place };
-
-    /// Approximate size of the text, in bytes. Prefetches it if it is scattered.
-    fn measure(&self, place: usize) -> usize
-        requires { has self.now place };
+    /// Puts the jobs of a window in an order in which neighbours have texts of about the same size.
+    fn arrange(&self, jobs: &mut [Job])
+        requires { All (λ job. has self.now job.place) jobs.old }
+        ensures places { KeepsPlaces jobs.old jobs.new }
+        ensures there { All (λ job. has self.now job.place) jobs.new };
 
     fn hash_one(&self, place: usize) -> [u8; 32]
         requires { has self.now place }
@@ -44,37 +42,6 @@ pub(crate) trait Encodes<const N: usize>: Places {
     fn encode(&self, place: usize, text: &mut ByteBuf<N>)
         requires { Self.has self.now place }
         ensures { IsTextOf (Self.hash self.now place) text.new };
-}
-
-/// Reads what measuring reads first.
-fn prefetch<P: Places>(jobs: &mut [Job], places: &P)
-    requires { All (λ job. P.has places.now job.place) jobs.old }
-    ensures { KeepsPlaces jobs.old jobs.new }
-{
-    for k in 0..jobs.len() {
-        jobs[k].measure = places.prefetch(jobs[k].place);
-    }
-}
-
-/// Measures the jobs' texts.
-fn measure<P: Places>(jobs: &mut [Job], places: &P)
-    requires { All (λ job. P.has places.now job.place) jobs.old }
-    ensures { KeepsPlaces jobs.old jobs.new }
-{
-    for k in 0..jobs.len() {
-        jobs[k].measure = jobs[k].measure.wrapping_add(places.measure(jobs[k].place));
-    }
-}
-
-/// Sorts the jobs by measure.
-pub(crate) fn sort_by_measure<P: Places>(jobs: &mut [Job], places: &P)
-    requires { All (λ job. P.has places.now job.place) jobs.old }
-    ensures places { KeepsPlaces jobs.old jobs.new }
-    ensures there { All (λ job. P.has places.now job.place) jobs.new }
-{
-    prefetch(jobs, places);
-    measure(jobs, places);
-    jobs.sort_unstable_by_key(|job: &Job| -> usize { job.measure });
 }
 
 /// The texts as slices.
@@ -224,7 +191,7 @@ fn do_window<const N: usize, P: Encodes<N>>(jobs: &mut [Job], places: &P, texts:
     ensures done { IsDone (P.hash places.now) jobs.old jobs.new }
     ensures room { length texts.new ≡ GROUP }
 {
-    sort_by_measure(jobs, places);
+    places.arrange(jobs);
     do_neighbours(jobs, places, texts);
 }
 

@@ -53,6 +53,8 @@ pub struct Tree {
     jobs: Vec<Job>,
     helped: Helped,
     second_blocks: SecondBlocks,
+    /// How many threads pay at most.
+    processors: usize,
 }
 
 impl Model for Tree {
@@ -86,7 +88,7 @@ impl Tree {
         let mut nodes = empty_nodes(alloc)?;
         let mut jobs = Vec::with_capacity(alloc, LEAVES)?;
         let second_blocks = SecondBlocks::new(alloc)?;
-        let threads = thread::available_parallelism(rt).map_or(1, NonZeroUsize::get);
+        let processors = thread::available_parallelism(rt).map_or(1, NonZeroUsize::get);
         let mut helped = Helped::alone(alloc);
         let mut marks = Marks::new();
         mark_filled(&mut marks, store);
@@ -94,7 +96,7 @@ impl Tree {
             &Context {
                 rt,
                 second_blocks: &second_blocks,
-                threads,
+                threads: processors,
                 task: Task::Build,
             },
             &mut nodes,
@@ -111,6 +113,7 @@ impl Tree {
             jobs,
             helped,
             second_blocks,
+            processors,
         })
     }
 
@@ -118,14 +121,14 @@ impl Tree {
     pub fn keep_threads<R: Host>(&mut self, rt: R, alloc: Global, threads: usize)
         ensures { self.new ≡ self.old }
     {
-        let processors = thread::available_parallelism(&rt).map_or(1, NonZeroUsize::get);
-        let count = threads.min(processors).saturating_sub(1);
+        let count = threads.min(self.processors).saturating_sub(1);
         if let Ok(helped) = Helped::start(rt, alloc, count) {
             self.helped = helped;
         }
     }
 
-    /// Rehashes the dirty leaves and all nodes above them, on up to `threads` threads, without allocating.
+    /// Rehashes the dirty leaves and all nodes above them, on at most `threads` threads and at most one per processor, without
+    /// allocating.
     pub fn refresh<R: Threads + Sync>(
         &mut self,
         rt: &R,
@@ -142,7 +145,7 @@ impl Tree {
             &Context {
                 rt,
                 second_blocks: &self.second_blocks,
-                threads,
+                threads: threads.min(self.processors),
                 task: Task::Refresh,
             },
             &mut self.nodes,
