@@ -25,6 +25,10 @@ use Rattle.executor.specs.declared.turn.Told.{Told}
 abbrev pub told_job : Cards → Told → Job Granule Request
 told_job cards told = record { number = told.number; request = told.request.now; declared = completed_at cards told.request.now told.footprint.now }
 
+-- it touches more than it declared, on these rows
+abbrev pub told_strays : Cards → Rows → Told → Bool
+told_strays cards rows told = levels.job_strays (tpcc cards told.moment) rows (told_job cards told)
+
 -- these footprints of a batch's requests, completed by the cards, are what the requests declare
 abbrev pub TellsDeclared : Cards → State → Batch → List (Option (Footprint Granule)) → Type 0
 TellsDeclared cards state batch told = completed cards batch.requests told ≡ declared_footprints cards state batch

@@ -1,7 +1,7 @@
 //! Executes a batch in order on one thread, each request on the rows that it declared, or on all rows if it can't stray.
 ghost use Rattle.std.specs.Prelude.{◌≡◌, ◌||◌, IfOk, OnOk};
 ghost use Rattle.serializability.specs.Levels.{job_strays};
-ghost use Rattle.executor.specs.InOrder.{plan_replies_in_turn, plan_rows_in_turn, plan_strays_in_turn, told_job};
+ghost use Rattle.executor.specs.InOrder.{plan_replies_in_turn, plan_rows_in_turn, plan_strays_in_turn, told_strays};
 ghost use Rattle.rollback.specs.Pointed.{KeepsCleanLeaves};
 ghost use Rattle.tpcc_model.specs.Database.{database};
 ghost use Rattle.tpcc_model.specs.Machine.{tpcc};
@@ -72,7 +72,7 @@ fn executed_as_told<R: Threads + Sync, G: Gate>(
     strayed: &mut bool,
 ) -> Result<(Reply, Delta), Memory>
     ensures outcome { IfOk result (IsOutcome (step (database catalog.now store.now.rows) told.now.request.now told.now.number told.now.moment)) }
-    ensures strayed { OnOk result (strayed.new ≡ (strayed.old || job_strays (tpcc catalog.now told.now.moment) store.now.rows (told_job catalog.now told.now))) }
+    ensures strayed { OnOk result (strayed.new ≡ (strayed.old || told_strays catalog.now store.now.rows told.now)) }
 {
     let Told {
         place,
