@@ -1,7 +1,5 @@
 -- What the run of levels asks for, and what it comes to.
-use Rattle.std.proofs.Common.{◌≡◌, ◌↔◌, inl, inr, ℕ, zero, suc, ◌+◌, ◌<◌, Bool, true, false, List, [], ◌∷◌, length, map, get_or, Contains, Option, Some, None, Result, Ok, Err, IsSome, IsOk, IsErr, IsErrAnd, IfErr, Bor, slice_get, refl, sym, ap, subst, ◌∙◌, arith}
-use Rattle.std.proofs.lemmas.List.{length-map}
-use Rattle.std.proofs.lemmas.Option.{slice_get-get_or}
+use Rattle.std.proofs.Common.{◌≡◌, inl, inr, ℕ, zero, suc, ◌+◌, ◌<◌, Bool, true, false, List, [], ◌∷◌, length, map, get_or, Option, Some, None, Result, Ok, Err, IsSome, IsErrAnd, IfErr, Bor, slice_get, refl, sym, ap, subst, ◌∙◌, arith}
 use Rattle.std.specs.FinMap.{find}
 use Rattle.std.specs.List.{All}
 use Rattle.std.specs.Option.{option_copied}
@@ -17,7 +15,6 @@ use Rattle.catalog.specs.CardMap.{Cards}
 use Rattle.requests.specs.declared.request.Batch.{Batch}
 use Rattle.requests.specs.declared.reply.Reply.{Reply}
 use Rattle.requests.specs.declared.request.Request.{Request}
-use Rattle.gather.specs.Books.{Book}
 use Rattle.tpcc_model.specs.Machine.{tpcc}
 use Rattle.tpcc_model.specs.Serial.{State, batch_replies, batch_rows}
 use Rattle.tpcc_model.specs.Soundness.{IsSound}
@@ -25,10 +22,10 @@ use Rattle.tpcc_model.specs.Steps.{steps_at}
 use Rattle.transactions.specs.declared.stop.Stop.{Stop}
 use Rattle.transactions.specs.declared.stop.Stop.TheVariants as stop
 use Rattle.workers.specs.LevelEnds.{StraysWhere}
-use Rattle.executor.specs.Filing.{reply_at}
 use Rattle.executor.specs.Laws.{DeclaredLevelsAreSerial, RunsAsSerial}
 use Rattle.executor.specs.InOrder.{StraysAreInTurn}
 use Rattle.executor.specs.LevelRuns.{IsCutBySome, declared_footprints, declared_levels, levels_by, strays}
+use Rattle.executor.specs.Slots.{Slots, reply_at}
 use Rattle.executor.specs.States.{AreWithinLimits}
 
 -- ---- the places of a level
@@ -51,33 +48,34 @@ stray_up level whole stop.Strayed (Err f) then strays by = subst (StraysWhere wh
 stray_up level whole stop.Memory (Err f) then strays by = subst (StraysWhere whole) (sym by) tt
 
 -- ---- replies in the order of the batch
--- each of these is filed, at its place
-pub none_missing : (entries : List (Option Reply)) (wanted : List Reply) → length entries ≡ length wanted → ((place : ℕ) → place < length wanted → get_or entries place None ≡ slice_get wanted place) → Contains entries None → ⊥
-none_missing entries [] size at missing = let low = missing.1 in absurd (omega (arith, size, low))
-none_missing entries (reply ∷ wanted) size at missing =
-    let low = missing.1 in
-    let below : missing.0 < length (reply ∷ wanted) = omega (arith, size, low) in
-    let no : None ≡ Some (get_or (reply ∷ wanted) missing.0 reply) = sym missing.2 ∙ at missing.0 below ∙ slice_get-get_or (reply ∷ wanted) missing.0 reply below in
-    cc
-
-pub ok_unless : {T E : Type 0} (result : Result T E) (P : Type 0) → (IsErr result ↔ P) → (P → ⊥) → IsOk result
-ok_unless (Ok x) P errs not = refl
-ok_unless (Err e) P errs not = absurd (not (errs.0 refl))
-
-same_at : (xs ys : List Reply) → length xs ≡ length ys → ((place : ℕ) → place < length ys → get_or (map Some xs) place None ≡ slice_get ys place) → xs ≡ ys
-same_at [] [] size at = refl
-same_at [] (y ∷ ys) size at = absurd (omega arith)
-same_at (x ∷ xs) [] size at = absurd (omega arith)
-same_at (x ∷ xs) (y ∷ ys) size at =
-    let first : Some x ≡ Some y = at 0 (omega arith) in
-    let here : x ≡ y = cc in
-    let rest : xs ≡ ys = same_at xs ys (omega arith) (λ place below. at (suc place) (omega (arith, below))) in
+-- each is in the slot of its place
+all_there : (slots : Slots) (wanted : List Reply) → length slots ≡ length wanted → ((place : ℕ) → place < length wanted → reply_at slots place ≡ slice_get wanted place) → slots ≡ map Some wanted
+all_there [] [] size at = refl
+all_there [] (reply ∷ wanted) size at = absurd (omega arith)
+all_there (slot ∷ slots) [] size at = absurd (omega arith)
+all_there (slot ∷ slots) (reply ∷ wanted) size at =
+    let here : slot ≡ Some reply = at 0 (omega arith) in
+    let rest : slots ≡ map Some wanted = all_there slots wanted (omega arith) (λ place below. at (suc place) (omega (arith, below))) in
     (λ i. here i ∷ rest i)
 
-pub same_replies : (replies wanted : List Reply) (entries : List (Option Reply)) → map Some replies ≡ entries → length entries ≡ length wanted → ((place : ℕ) → place < length wanted → get_or entries place None ≡ slice_get wanted place) → replies ≡ wanted
-same_replies replies wanted entries all size at =
-    let counted : length entries ≡ length replies = sym (ap length all) ∙ length-map replies Some in
-    same_at replies wanted (omega (arith, size, counted)) (λ place below. ap (λ (es : List (Option Reply)). get_or es place None) all ∙ at place below)
+-- so none is empty
+pub none_empty : (slots : Slots) (wanted : List Reply) → slots ≡ map Some wanted → All IsSome slots
+none_empty slots wanted are = subst (All IsSome) (sym are) (all_some wanted)
+  where
+    all_some : (replies : List Reply) → All IsSome (map Some replies)
+    all_some [] k d below = absurd (omega (arith, below))
+    all_some (reply ∷ replies) zero d below = refl
+    all_some (reply ∷ replies) (suc k) d below = all_some replies k d (omega (arith, below))
+
+pub same_replies : (replies wanted : List Reply) → map Some replies ≡ map Some wanted → replies ≡ wanted
+same_replies [] [] same = refl
+same_replies [] (y ∷ ys) same = cc
+same_replies (x ∷ xs) [] same = cc
+same_replies (x ∷ xs) (y ∷ ys) same =
+    let here : x ≡ y = cc in
+    let behind : map Some xs ≡ map Some ys = cc in
+    let rest : xs ≡ ys = same_replies xs ys behind in
+    (λ i. here i ∷ rest i)
 
 -- ---- the levels of a cut by what the requests declare
 module _ (cards : Cards) (state : State) (batch : Batch) (footprints : List (Footprint Granule)) (declared : footprints ≡ declared_footprints cards state batch) (cut : List (List ℕ)) (by : IsCutBySome footprints cut) (sound : IsSound (database cards state.rows)) (limits : AreWithinLimits batch.moment state.next batch.requests) where
@@ -102,15 +100,13 @@ module _ (cards : Cards) (state : State) (batch : Batch) (footprints : List (Foo
     pub rows_are : levels.run_rows (tpcc cards batch.moment) state.rows cut_levels ≡ batch_rows cards state batch
     rows_are = ap (levels.run_rows (tpcc cards batch.moment) state.rows) levels_are ∙ as_serial.rows
 
-    -- and a book of what they reply has the replies of the batch
-    pub filed_in_order : (book : Book)
-        → ((place : ℕ) → place < length batch.requests → reply_at book place ≡ find nat_cmp (state.next + place) (levels.run_replies (tpcc cards batch.moment) state.rows cut_levels))
-        → (place : ℕ) → place < length (batch_replies cards state batch) → reply_at book place ≡ slice_get (batch_replies cards state batch) place
-    filed_in_order book filed place below =
+    -- and the slots with what they reply have the replies of the batch
+    pub slots_are : (slots : Slots) → length slots ≡ length batch.requests
+        → ((place : ℕ) → place < length batch.requests → reply_at slots place ≡ find nat_cmp (state.next + place) (levels.run_replies (tpcc cards batch.moment) state.rows cut_levels))
+        → slots ≡ map Some (batch_replies cards state batch)
+    slots_are slots size have =
         let count = length-fold_replies (steps_at cards batch.moment) state.rows state.next batch.requests in
-        filed place (omega (arith, below, count))
+        all_there slots (batch_replies cards state batch) (size ∙ sym count) (λ place below.
+        have place (omega (arith, below, count))
         ∙ ap (λ (found : List (List (Job Granule Request))). find nat_cmp (state.next + place) (levels.run_replies (tpcc cards batch.moment) state.rows found)) levels_are
-        ∙ as_serial.replies place
-
-pub as_many : (cards : Cards) (state : State) (batch : Batch) (book : Book) → length book.replies ≡ length batch.requests → length book.replies ≡ length (batch_replies cards state batch)
-as_many cards state batch book size = size ∙ sym (length-fold_replies (steps_at cards batch.moment) state.rows state.next batch.requests)
+        ∙ as_serial.replies place)

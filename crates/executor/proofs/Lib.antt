@@ -4,7 +4,7 @@ pub mod Levels
 pub mod CutPlaces
 pub mod Examples
 pub mod Numbers
-pub mod Filing
+pub mod Slots
 pub mod LevelSteps
 pub mod ChainFacts
 pub mod Executing

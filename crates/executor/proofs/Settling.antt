@@ -1,5 +1,5 @@
 -- What a level's outcomes come to.
-use Rattle.std.proofs.Common.{◌≡◌, ℕ, ◌+◌, ◌≤◌, ◌<◌, List, [], ◌∷◌, length, map, get_or, refl, sym, ap, subst, ◌∙◌, arith}
+use Rattle.std.proofs.Common.{◌≡◌, ℕ, ◌<◌, List, [], ◌∷◌, length, map, get_or, refl, sym, ap, subst, ◌∙◌, arith}
 use Rattle.std.proofs.lemmas.List.{get_or-map, length-map}
 use Rattle.std.specs.FinMap.{entries}
 use Rattle.std.specs.List.{All, flat_map}
@@ -23,9 +23,3 @@ pub of_places : (P : ℕ → Type 0) (outcomes : List Done) (places : List ℕ) 
 of_places P outcomes places is all i done below =
     let there : i < length places = subst (λ (ps : List ℕ). i < length ps) is (omega (arith, below, length-map outcomes (λ (d : Done). d.place))) in
     subst P (ap (λ (ps : List ℕ). get_or ps i done.place) (sym is) ∙ get_or-map (λ (d : Done). d.place) outcomes i done done.place below) (all i done.place there)
-
--- their numbers are within the limit where their places are those of the batch
-pub numbers_within : (outcomes : List Done) (places : List ℕ) (first count : ℕ) → map (λ done. done.place) outcomes ≡ places → All (λ place. place < count) places → first + count ≤ 1000000000000000 → All (λ done. first + done.place < 1000000000000000) outcomes
-numbers_within outcomes places first count is within high i done below =
-    let low = of_places (λ place. place < count) outcomes places is within i done below in
-    omega (arith, low, high)

@@ -7,7 +7,7 @@ pub mod Chains
 pub mod Stamps
 pub mod Kept
 pub mod Calls
-pub mod Filing
+pub mod Slots
 pub mod PlannedLevels
 pub mod InOrder
 pub mod Executions

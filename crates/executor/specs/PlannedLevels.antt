@@ -4,15 +4,14 @@ use Rattle.serializability.specs.Footprints.{Has}
 use Rattle.serializability.specs.Levels as levels
 use Rattle.tpcc_rows.specs.RowMap.{Rows}
 use Rattle.catalog.specs.CardMap.{Cards}
-use Rattle.gather.specs.Books.{Book}
 use Rattle.requests.specs.declared.reply.Reply.{Reply}
 use Rattle.tpcc_model.specs.Machine.{tpcc}
 use Rattle.workers.specs.LevelEnds.{LevelJob, plan_jobs}
 use Rattle.workers.specs.declared.plan.Plan.{Plan}
-use Rattle.executor.specs.Filing.{Awaits}
+use Rattle.executor.specs.Slots.{Awaits, Slots}
 
 -- the replies to all requests elsewhere are awaited as before
-abbrev pub AwaitsOthers : List ℕ → Book → Book → Type 0
+abbrev pub AwaitsOthers : List ℕ → Slots → Slots → Type 0
 AwaitsOthers places old new = (place : ℕ) → (Has places place → ⊥) → Awaits old place → Awaits new place
 
 -- all levels of a cut, one after the other

@@ -6,6 +6,7 @@
 #![tactic(auto)]
 
 mod batch;
+mod batch_replies;
 mod engine;
 mod executor;
 mod in_order;

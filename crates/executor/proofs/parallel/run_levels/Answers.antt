@@ -1,16 +1,15 @@
-use Rattle.std.proofs.Common.{◌≡◌, ◌∙◌, ◌<◌, ◌+◌, ℕ, List, [], Some, ap, get_or, length, slice_get, subst, sym, arith}
+use Rattle.std.proofs.Common.{◌≡◌, ◌∙◌, ◌<◌, ◌+◌, ℕ, List, [], None, Some, ap, get_or, length, replicate, slice_get, subst, sym, arith}
 use Rattle.std.proofs.lemmas.Option.{slice_get-get_or}
 use Rattle.std.specs.List.{list_any}
 use Rattle.std.specs.Option.{option_copied}
 use Rattle.serializability.specs.Levels.{job_strays, jobs, jobs_at, level_replies, run_replies}
 use Rattle.tpcc_model.specs.Machine.{tpcc}
-use Rattle.gather.specs.Books.{blank}
-use Rattle.executor.specs.Filing.{Awaits}
 use Rattle.executor.specs.PlannedLevels.{plan_levels}
+use Rattle.executor.specs.Slots.{Awaits, Slots}
 use Rattle.executor.proofs.CleanLeaves.{kept_twice}
-use Rattle.executor.proofs.Filing.{FilesRest, files_more}
 use Rattle.executor.proofs.LevelSteps.{replies_on, rows_on, strays_here, strays_on, levels_from}
 use Rattle.executor.proofs.LevelResults.{each_place, lent_at, stray_up}
+use Rattle.executor.proofs.Slots.{ComeToHave, some_more}
 use Rattle.executor.proofs.parallel.run_levels.Goals as goal
 
 pub unwrap-places-requires : goal.unwrap-places-requires
@@ -42,7 +41,7 @@ invariant_of-level-clause-there g c =
 pub settle_level-requires-clause-awaited : goal.settle_level-requires-clause-awaited
 settle_level-requires-clause-awaited g c κs lives =
     let at : slice_get c.args.cut.now c.loop-index.index ≡ Some c.unwrap-places.result.now = sym c.level.ensures ∙ ap option_copied c.unwrap-places.ensures in
-    each_place (Awaits c.loop-index.book) c.unwrap-places.result.now
+    each_place (Awaits c.loop-index.replies) c.unwrap-places.result.now
     (λ place has. c.loop-index.invariant.awaited c.loop-index.index place c.unwrap-places.result.now (omega arith) at has)
 
 pub returns-in_err-settle_level-clause-err : goal.returns-in_err-settle_level-clause-err
@@ -64,6 +63,8 @@ loop-index-preserved g c =
     let i = c.loop-index.index in
     let places = c.unwrap-places.result.now in
     let all = jobs c.args.plan.now.first c.args.plan.now.batch.now.requests c.args.plan.now.footprints.now in
+    let first = c.args.plan.now.first in
+    let none : Slots = replicate (length c.args.plan.now.batch.now.requests) None in
     let told = run_replies machine c.args.store.now.rows (plan_levels c.args.plan.now cut) in
     let rows = c.loop-index.store.rows in
     let left = c.settle_level.new.store.rows in
@@ -72,9 +73,9 @@ loop-index-preserved g c =
     record {
       within = strays_on machine rows all cut i places at left after c.in_ok-settle_level.ensures.within ∙ c.loop-index.invariant.within;
       rows = rows_on machine rows all cut i places at left after ∙ c.loop-index.invariant.rows;
-      filed =
-          files_more told (level_replies machine rows (jobs_at all places)) (run_replies machine left (levels_from machine rows all cut i places at (i + 1))) (blank c.args.plan.now.first (length c.args.plan.now.batch.now.requests)) c.loop-index.book c.settle_level.new.book c.in_ok-settle_level.ensures.filed
-          (subst (λ replies. FilesRest told replies (blank c.args.plan.now.first (length c.args.plan.now.batch.now.requests)) c.loop-index.book) (replies_on machine rows all cut i places at left after) c.loop-index.invariant.filed);
+      replies =
+          some_more first told (level_replies machine rows (jobs_at all places)) (run_replies machine left (levels_from machine rows all cut i places at (i + 1))) none c.loop-index.replies c.settle_level.new.replies c.in_ok-settle_level.ensures.replies
+          (subst (λ replies. ComeToHave first told replies none c.loop-index.replies) (replies_on machine rows all cut i places at left after) c.loop-index.invariant.replies);
       awaited = λ level place others low there has.
           c.in_ok-settle_level.ensures.others place
           (λ here. let same = c.requires.once i level place places others at there here has in absurd (omega (arith, same, low)))

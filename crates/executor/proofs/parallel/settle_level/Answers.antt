@@ -1,26 +1,28 @@
-use Rattle.std.proofs.Common.{◌∙◌, ◌<◌, ap, length, subst, sym}
+use Rattle.std.proofs.Common.{◌∙◌, ◌+◌, ◌<◌, ap, length, map, subst, sym}
 use Rattle.std.proofs.lemmas.List.Kept.{AllPairs-from_increasing}
 use Rattle.std.specs.List.{AllPairs}
 use Rattle.gather.specs.Merged.{after_each}
 use Rattle.workers.proofs.Ends.{rows_after_level}
-use Rattle.executor.specs.Filing.{Awaits}
-use Rattle.executor.proofs.Filing.{awaits_others}
-use Rattle.executor.proofs.Settling.{after_outcomes, numbers_within, of_places}
+use Rattle.executor.specs.Slots.{Awaits, HaveAlso}
+use Rattle.executor.proofs.Settling.{after_outcomes, of_places}
+use Rattle.executor.proofs.Slots.{awaits_others, have_each}
 use Rattle.executor.proofs.parallel.settle_level.Goals as goal
 
-pub file_replies-requires-clause-high : goal.file_replies-requires-clause-high
-file_replies-requires-clause-high g c =
-    let level = c.args.level.now in
-    numbers_within c.in_ok-outcomes.outcomes.items level.places.now level.plan.first (length level.plan.batch.now.requests) c.in_ok-outcomes.ensures.in_order level.there level.plan.high
+pub put_replies-requires : goal.put_replies-requires
+put_replies-requires g c =
+    of_places (λ place. place < length c.args.replies.now) c.in_ok-outcomes.outcomes.items c.args.level.now.places.now c.in_ok-outcomes.ensures.in_order
+    (λ k d below. (c.requires.awaited k d below).0)
 
-pub file_replies-requires-clause-rising : goal.file_replies-requires-clause-rising
-file_replies-requires-clause-rising g c =
+pub returns-clause-replies : goal.returns-clause-replies
+returns-clause-replies g c =
     let level = c.args.level.now in
-    subst (AllPairs (λ place later. place < later)) (sym c.in_ok-outcomes.ensures.in_order) (AllPairs-from_increasing level.places.now level.rising)
-
-pub file_replies-requires-clause-awaited : goal.file_replies-requires-clause-awaited
-file_replies-requires-clause-awaited g c =
-    of_places (Awaits c.args.book.now) c.in_ok-outcomes.outcomes.items c.args.level.now.places.now c.in_ok-outcomes.ensures.in_order c.requires.awaited
+    let outcomes = c.in_ok-outcomes.outcomes.items in
+    let slots = c.args.replies.now in
+    let rise = subst (AllPairs (λ place later. place < later)) (sym c.in_ok-outcomes.ensures.in_order) (AllPairs-from_increasing level.places.now level.rising) in
+    let awaited = of_places (Awaits slots) outcomes level.places.now c.in_ok-outcomes.ensures.in_order c.requires.awaited in
+    subst (λ told. HaveAlso level.plan.first told slots c.put_replies.new.replies) c.in_ok-outcomes.ensures.replies
+    (subst (HaveAlso level.plan.first (map (λ done. (level.plan.first + done.place, done.reply)) outcomes) slots) (sym c.in_ok-deltas.ensures.replies)
+    (have_each level.plan.first outcomes slots rise awaited))
 
 pub returns-clause-rows : goal.returns-clause-rows
 returns-clause-rows g c =
@@ -34,4 +36,6 @@ returns-clause-rows g c =
 pub returns-clause-others : goal.returns-clause-others
 returns-clause-others g c =
     let level = c.args.level.now in
-    awaits_others level.plan.first level.places.now c.in_ok-outcomes.outcomes.items c.args.book.now c.file_replies.new.book c.requires.book c.in_ok-outcomes.ensures.in_order c.in_ok-deltas.ensures.filed
+    let outcomes = c.in_ok-outcomes.outcomes.items in
+    awaits_others level.plan.first level.places.now outcomes c.args.replies.now c.put_replies.new.replies c.in_ok-outcomes.ensures.in_order
+    (subst (λ told. HaveAlso level.plan.first told c.args.replies.now c.put_replies.new.replies) (sym c.in_ok-outcomes.ensures.replies) (returns-clause-replies g c))
