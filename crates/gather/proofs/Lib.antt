@@ -1,2 +1,1 @@
 pub mod Deltas
-pub mod Filing

@@ -1,7 +1,7 @@
-//! Replies: their digests and a token, replies that come out of order, and changes that come together.
+//! Replies: their digests and a token; and changes that come together.
 use crate::printing::print_hash;
 use crate::rows::{Change, Columns, push_changes, ytd_of};
-use gather::{ReplyBook, merge};
+use gather::merge;
 use hex::FromHex;
 use requests::{
     Brand, DeliveryReply, LineReplies, LineReply, NewOrderReply, OrderStatusReply, PaymentReply,
@@ -11,7 +11,7 @@ use requests::{
 use std::alloc::Global;
 use token::{TokenParts, reply_digest};
 use tpcc_rows::delta::Delta;
-use tpcc_rows::id::{CustomerId, ItemId, OrderId, RequestNumber, WarehouseId};
+use tpcc_rows::id::{CustomerId, ItemId, OrderId, WarehouseId};
 use tpcc_rows::key::RowKey;
 use tpcc_rows::number::{Amount, Carrier, Cents, LineQuantity, Moment, StockQuantity};
 use tpcc_rows::row::Row;
@@ -240,74 +240,6 @@ fn show_token(rt: &impl Print) -> Option<()> {
     Some(())
 }
 
-// ---- books
-
-/// The numbers of replies that are filed, each a count that is ten times as great, and how the filing ended.
-fn file_each(rt: &impl Print, book: &mut ReplyBook, numbers: &[(u64, u32)]) -> Option<()> {
-    for (number, count) in numbers {
-        let ended = book.file(RequestNumber::new(*number)?, stock_level(*count));
-        let _ = println!(rt; "reply {number} of {count} is filed: {ended:?}");
-    }
-    Some(())
-}
-
-fn show_counts(rt: &impl Print, replies: &[Reply]) {
-    let _ = print!(rt; "replies:");
-    for reply in replies {
-        if let Reply::StockLevel(reply) = reply {
-            let _ = print!(rt; " {}", reply.low_stock);
-        }
-    }
-    let _ = println!(rt; "");
-}
-
-fn show_in_order(rt: &impl Print, book: ReplyBook) {
-    match book.in_order() {
-        Ok(replies) => show_counts(rt, &replies),
-        Err(error) => {
-            let _ = println!(rt; "{error}");
-        }
-    }
-}
-
-/// Replies that are filed in a book of so many, the first with this number.
-fn show_book(
-    rt: &impl Print,
-    alloc: Global,
-    first: u64,
-    count: usize,
-    numbers: &[(u64, u32)],
-) -> Option<()> {
-    let first = RequestNumber::new(first)?;
-    let mut book = ReplyBook::new(alloc, first, count).ok()?;
-    file_each(rt, &mut book, numbers)?;
-    show_in_order(rt, book);
-    Some(())
-}
-
-const LAST: u64 = 999_999_999_999_999;
-
-/// Books, by their first number and how many they take, and what is filed in them: replies out of order; strangers and
-/// twins, which change nothing; a reply that is missing; a book of none; and a book whose second request has no number.
-const BOOKS: [(u64, usize, &[(u64, u32)]); 5] = [
-    (7, 3, &[(9, 90), (7, 70), (8, 80)]),
-    (
-        7,
-        2,
-        &[(8, 80), (6, 60), (9, 90), (8, 81), (7, 70), (7, 71)],
-    ),
-    (1, 3, &[(1, 10), (3, 30)]),
-    (1, 0, &[(1, 10)]),
-    (LAST, 2, &[(LAST, 10), (LAST, 11), (1, 12)]),
-];
-
-fn show_books(rt: &impl Print, alloc: Global) -> Option<()> {
-    for (first, count, numbers) in &BOOKS {
-        show_book(rt, alloc, *first, *count, *numbers)?;
-    }
-    Some(())
-}
-
 // ---- changes
 
 /// None; one; and three, of which the second removes a row of the first, and the third changes the other one again.
@@ -372,6 +304,5 @@ pub fn show(rt: &impl Print, alloc: Global) -> Option<()> {
     show_refusals(rt);
     show_several(rt);
     show_token(rt)?;
-    show_books(rt, alloc)?;
     show_changes(rt, alloc)
 }
