@@ -229,7 +229,8 @@ fn push_outcome(fields: &mut ByteRecord, reply: &Reply) -> Result<(), Memory>
     }
 }
 
-/// Replaces the record by that of a reply, so that one record serves for many.
+/// Replaces the record by that of a reply, so that one record serves for many. If memory is refused, it has some of the reply's
+/// fields, which the next call replaces too.
 pub fn fill_record(
     fields: &mut ByteRecord,
     number: RequestNumber,
