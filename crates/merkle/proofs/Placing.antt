@@ -8,9 +8,11 @@ use Rattle.std.proofs.lemmas.List.Sorted.{list_any-IsPermutation}
 use Rattle.std.proofs.lemmas.Slice.{take-put_mid}
 use Rattle.std.proofs.lemmas.Bool.{cases_lt, eqb-true, eq-eqb, ne_eqb, false_from_ne_true}
 use Rattle.std.proofs.lemmas.Bool.Decides.{eqb_tells}
-use Rattle.merkle.specs.Jobs.{has_place, AreHashed, IsDone}
-use Rattle.merkle.specs.Marking.{IsNext}
-use Rattle.merkle.specs.Nodes.{at}
+use Rattle.bit_sets.specs.BitSets.{has_bit}
+use Rattle.merkle.specs.Jobs.{has_place, AreGathered, AreHashed, IsDone}
+use Rattle.merkle.specs.Marking.{IsNext, IsNone, is_above}
+use Rattle.merkle.specs.Nodes.{at, in_branch, left_of, IsAtLevel}
+use Rattle.merkle.specs.declared.marks.TheConstants.{BRANCH_LEAVES}
 use Rattle.merkle.specs.declared.jobs.Job.{Job}
 use borrow.Rule.Slice.PartMut.{put_mid, mid_of, post_of, put_same, same_len_mid}
 
@@ -47,6 +49,12 @@ put-more value old now p i h b is small e = elim (eqb_tells p i) [
   or-false : (b : Bool) → cond (b || false) (value i) (at old i) ≡ cond b (value i) (at old i)
   or-false true = refl
   or-false false = refl
+
+-- past the last place nothing is
+pub at-past : (nodes : List (List ℕ)) (i : ℕ) → length nodes ≤ i → at nodes i ≡ []
+at-past [] i h = refl
+at-past (x ∷ nodes) zero h = absurd (omega (arith, h))
+at-past (x ∷ nodes) (suc i) h = at-past nodes i (omega (arith, h))
 
 -- ---- jobs done part by part
 -- the jobs are at the same places, and the first of them are hashed
@@ -149,46 +157,47 @@ or-all false = refl
 has_place-more : (jobs : List Job) (job : Job) (k : ℕ) → has_place (jobs ++ job ∷ []) k ≡ (has_place jobs k || eqb job.place k)
 has_place-more jobs job k = list_any-append (λ j. eqb j.place k) jobs (job ∷ []) ∙ ap (λ b. has_place jobs k || b) (or-nothing (eqb job.place k))
 
--- the jobs are at the places from low to before n that pass the test
-pub record IsGathered (test : ℕ → Bool) (low n : ℕ) (jobs : List Job) : Type 0 where
-  pub few : length jobs + low ≤ n
-  pub range : All (λ job. (low ≤ job.place) × (job.place < n)) jobs
-  pub found : (k : ℕ) → low ≤ k → k < n → has_place jobs k ≡ test k
+pub gathered-past : (Is : ℕ → Type 0) (test : ℕ → Bool) (low n : ℕ) (jobs : List Job) → AreGathered Is test low n jobs → (k : ℕ) → n ≤ k → has_place jobs k ≡ false
+gathered-past Is test low n jobs g k h = false_from_ne_true (has_place jobs k) (λ e. let r = of-place (λ p. (low ≤ p) × (p < n) × Is p) jobs g.range k e in omega (arith, r.1, h))
 
-pub gathered-past : (test : ℕ → Bool) (low n : ℕ) (jobs : List Job) → IsGathered test low n jobs → (k : ℕ) → n ≤ k → has_place jobs k ≡ false
-gathered-past test low n jobs g k h = false_from_ne_true (has_place jobs k) (λ e. let r = of-place (λ p. (low ≤ p) × (p < n)) jobs g.range k e in omega (arith, r.1))
+pub gathered-before : (Is : ℕ → Type 0) (test : ℕ → Bool) (low n : ℕ) (jobs : List Job) → AreGathered Is test low n jobs → (k : ℕ) → k < low → has_place jobs k ≡ false
+gathered-before Is test low n jobs g k h = false_from_ne_true (has_place jobs k) (λ e. let r = of-place (λ p. (low ≤ p) × (p < n) × Is p) jobs g.range k e in omega (arith, r.0, h))
 
-pub gathered-zero : (test : ℕ → Bool) (low : ℕ) → IsGathered test low low []
-gathered-zero test low = record { few = omega arith; range = λ k d h. absurd (omega arith); found = λ k l h. absurd (omega arith) }
+pub gathered-zero : (Is : ℕ → Type 0) (test : ℕ → Bool) (low : ℕ) → AreGathered Is test low low []
+gathered-zero Is test low = record { few = omega arith; range = λ k d h. absurd (omega (arith, h)); found = λ k l h i. absurd (omega (arith, l, h)) }
 
 -- no place of these passes the test
-pub gathered-to : (test : ℕ → Bool) (low n m : ℕ) (jobs : List Job) → n ≤ m → ((k : ℕ) → n ≤ k → k < m → test k ≡ false) → IsGathered test low n jobs → IsGathered test low m jobs
-gathered-to test low n m jobs more none g = record {
+pub gathered-to : (Is : ℕ → Type 0) (test : ℕ → Bool) (low n m : ℕ) (jobs : List Job) → n ≤ m → IsNone Is test n m → AreGathered Is test low n jobs → AreGathered Is test low m jobs
+gathered-to Is test low n m jobs more none g = record {
   few = omega (arith, g.few, more);
-  range = λ k d h. let r = g.range k d h in (r.0, omega (arith, r.1, more));
-  found = λ k l h. elim (cases_lt k n) [
-    | inl s ↦ g.found k l s
-    | inr b ↦ gathered-past test low n jobs g k b ∙ sym (none k b h)
+  range = λ k d h. let r = g.range k d h in (r.0, omega (arith, r.1, more), r.2);
+  found = λ k l h i. elim (cases_lt k n) [
+    | inl s ↦ g.found k l s i
+    | inr b ↦ gathered-past Is test low n jobs g k b ∙ sym (none k b h i)
   ];
 }
 
+-- up to the same place under another name
+pub up-to : (Is : ℕ → Type 0) (test : ℕ → Bool) (low n m : ℕ) → n ≡ m → IsNone Is test low n → IsNone Is test low m
+up-to Is test low n m same none = subst (IsNone Is test low) same none
+
 -- the next place that passes the test
-pub gathered-next : (test : ℕ → Bool) (low n m : ℕ) (jobs after : List Job) (job : Job) → job.place ≡ m → after ≡ jobs ++ job ∷ [] → IsNext test n m → IsGathered test low n jobs → IsGathered test low (m + 1) after
-gathered-next test low n m jobs after job is more next before = subst (IsGathered test low (m + 1)) (sym more) gathered where
-  g : IsGathered test low m jobs
-  g = gathered-to test low n m jobs next.low next.before before
+pub gathered-next : (Is : ℕ → Type 0) (test : ℕ → Bool) (low n m : ℕ) (jobs after : List Job) (job : Job) → job.place ≡ m → after ≡ jobs ++ job ∷ [] → IsNext Is test n m → AreGathered Is test low n jobs → AreGathered Is test low (m + 1) after
+gathered-next Is test low n m jobs after job is more next before = subst (AreGathered Is test low (m + 1)) (sym more) gathered where
+  g : AreGathered Is test low m jobs
+  g = gathered-to Is test low n m jobs next.low next.before before
 
-  only : (low ≤ job.place) × (job.place < m + 1) → All (λ job. (low ≤ job.place) × (job.place < m + 1)) (job ∷ [])
+  only : (low ≤ job.place) × (job.place < m + 1) × Is job.place → All (λ job. (low ≤ job.place) × (job.place < m + 1) × Is job.place) (job ∷ [])
   only r zero d h = r
-  only r (suc k) d h = absurd (omega arith)
+  only r (suc k) d h = absurd (omega (arith, h))
 
-  gathered : IsGathered test low (m + 1) (jobs ++ job ∷ [])
+  gathered : AreGathered Is test low (m + 1) (jobs ++ job ∷ [])
   gathered = record {
     few = omega (arith, g.few, length-append jobs (job ∷ []));
-    range = all-append (λ job. (low ≤ job.place) × (job.place < m + 1)) jobs (job ∷ []) (λ k d h. let r = g.range k d h in (r.0, omega (arith, r.1))) (only (omega (arith, is, g.few), omega (arith, is)));
-    found = λ k l h. has_place-more jobs job k ∙ elim (eqb_tells job.place k) [
+    range = all-append (λ job. (low ≤ job.place) × (job.place < m + 1) × Is job.place) jobs (job ∷ []) (λ k d h. let r = g.range k d h in (r.0, omega (arith, r.1), r.2)) (only (omega (arith, is, g.few), omega (arith, is), subst Is (sym is) next.is));
+    found = λ k l h i. has_place-more jobs job k ∙ elim (eqb_tells job.place k) [
       | inl t ↦ ap (λ b. has_place jobs k || b) t.0 ∙ or-all (has_place jobs k) ∙ sym (ap test (sym t.1 ∙ is) ∙ next.here)
-      | inr t ↦ let ne : m ≢ k = λ e. t.1 (is ∙ e) in ap (λ b. has_place jobs k || b) t.0 ∙ or-nothing (has_place jobs k) ∙ g.found k l (omega arith)
+      | inr t ↦ let ne : m ≢ k = λ e. t.1 (is ∙ e) in ap (λ b. has_place jobs k || b) t.0 ∙ or-nothing (has_place jobs k) ∙ g.found k l (omega (arith, ne, h)) i
     ];
   }
 
@@ -204,21 +213,23 @@ marked-next first marks after jobs more job m is whole added marked k = added k 
         ∙ sym (ap (λ b. b || first k) (has_place-more jobs job k ∙ ap (λ b. has_place jobs k || b) t.0 ∙ or-nothing (has_place jobs k)))
   ]
 
--- marks of children are as they were
-pub same-above : (test marks first : ℕ → Bool) (jobs : List Job) (low n : ℕ) → IsGathered test low n jobs → ((k : ℕ) → marks k ≡ (has_place jobs k || first k))
-    → (i : ℕ) → n ≤ i → (marks (2 * i) || marks (2 * i + 1)) ≡ (first (2 * i) || first (2 * i + 1))
-same-above test marks first jobs low n g marked i h = ap (λ b. b || marks (2 * i + 1)) (same (2 * i) (omega arith)) ∙ ap (λ b. first (2 * i) || b) (same (2 * i + 1) (omega arith)) where
-  same : (k : ℕ) → n ≤ k → marks k ≡ first k
-  same k l = marked k ∙ ap (λ b. b || first k) (gathered-past test low n jobs g k l)
+-- children of a level's nodes aren't among them, so their marks are as they were
+pub same-above : (words first : List ℕ) (jobs : List Job) (low high from n : ℕ) (test : ℕ → Bool) → high ≤ 2 * low → high ≤ BRANCH_LEAVES → AreGathered (IsAtLevel low high) test from n jobs → ((k : ℕ) → has_bit words k ≡ (has_place jobs k || has_bit first k))
+    → (i : ℕ) → IsAtLevel low high i → is_above words i ≡ is_above first i
+same-above words first jobs low high from n test apart inside g marked i level = ap (λ b. b || has_bit words (left_of i + 1)) (same (left_of i) (omega (arith, level.0, level.1, apart, inside))) ∙ ap (λ b. has_bit first (left_of i) || b) (same (left_of i + 1) (omega (arith, level.0, level.1, apart, inside))) where
+  same : (k : ℕ) → high ≤ in_branch k → has_bit words k ≡ has_bit first k
+  same k l = marked k ∙ ap (λ b. b || has_bit first k) (false_from_ne_true (has_place jobs k) (λ e. let r = of-place (λ p. (from ≤ p) × (p < n) × IsAtLevel low high p) jobs g.range k e in omega (arith, r.2.1, l)))
 
 -- ---- jobs done and put at their places
-module _ (value : ℕ → List ℕ) (gathered taken done shown : List Job) (front : taken ≡ gathered) (is : IsDone value taken done) (back : shown ≡ done) where
+module _ (value : ℕ → List ℕ) (gathered done : List Job) (is : IsDone value gathered done) where
   -- what holds of their places holds when they are done
-  pub done-there : (P : ℕ → Type 0) → All (λ job. P job.place) gathered → All (λ job. P job.place) shown
-  done-there P all = subst (All (λ job. P job.place)) (sym back) (all-kept P taken done is.places (subst (All (λ job. P job.place)) (sym front) all))
+  pub done-there : (P : ℕ → Type 0) → All (λ job. P job.place) gathered → All (λ job. P job.place) done
+  done-there P all = all-kept P gathered done is.places all
 
-  pub done-put : (old new : List (List ℕ)) → (AreHashed value shown → (i : ℕ) → at new i ≡ cond (has_place shown i) (value i) (at old i))
+  -- what was put where a job may be
+  pub put-at : (n : ℕ) (old new : List ℕ) → (AreHashed value done → new ≡ cond (has_place done n) (value n) old) → new ≡ cond (has_place gathered n) (value n) old
+  put-at n old new put = put is.hashed ∙ ap (λ b. cond b (value n) old) (is.places n)
+
+  pub done-put : (old new : List (List ℕ)) → (AreHashed value done → (i : ℕ) → at new i ≡ cond (has_place done i) (value i) (at old i))
       → (i : ℕ) → at new i ≡ cond (has_place gathered i) (value i) (at old i)
-  done-put old new put i =
-      put (subst (AreHashed value) (sym back) is.hashed) i
-      ∙ ap (λ b. cond b (value i) (at old i)) (ap (λ jobs. has_place jobs i) back ∙ is.places i ∙ ap (λ jobs. has_place jobs i) front)
+  done-put old new put i = put-at i (at old i) (at new i) (λ hashed. put hashed i)

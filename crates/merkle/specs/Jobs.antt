@@ -1,5 +1,5 @@
 -- Places of a tree that are to be hashed, and their hashes.
-use Rattle.std.specs.Prelude.{◌≡◌, ◌<◌, ℕ, Bool, List, [], All, eqb, get_or, length}
+use Rattle.std.specs.Prelude.{◌≡◌, ◌+◌, ◌<◌, ◌≤◌, ℕ, Bool, List, [], All, eqb, get_or, length}
 use Rattle.sha2.specs.Sha256.{sha256}
 use Rattle.std.specs.List.{list_any}
 use Rattle.merkle.specs.declared.jobs.Job.{Job}
@@ -7,6 +7,12 @@ use Rattle.merkle.specs.declared.jobs.Job.{Job}
 -- whether one of the jobs is at this place
 abbrev pub has_place : List Job → ℕ → Bool
 has_place jobs n = list_any (λ job. eqb job.place n) jobs
+
+-- the jobs are at those of these places, from one on to before another, that pass the test
+pub record AreGathered (Is : ℕ → Type 0) (test : ℕ → Bool) (from end : ℕ) (jobs : List Job) : Type 0 where
+  pub few : length jobs + from ≤ end
+  pub range : All (λ job. (from ≤ job.place) × (job.place < end) × Is job.place) jobs
+  pub found : (k : ℕ) → from ≤ k → k < end → Is k → has_place jobs k ≡ test k
 
 -- each job's hash is the value at its place
 abbrev pub AreHashed : (ℕ → List ℕ) → List Job → Type 0

@@ -3,7 +3,7 @@ ghost use Rattle.std.specs.Prelude.{◌≡◌, ◌<◌, ◌≤◌, ◌+◌, ◌*
 ghost use Rattle.merkle.specs.declared.helped.TheConstants.{MOST_HELPERS, ROUND};
 ghost use Rattle.hashers.specs.declared.parcel.TheConstants.{TEXTS};
 ghost use Rattle.merkle.specs.Jobs.{AreTexts, IsDone, IsTextOf};
-ghost use Rattle.merkle.specs.Nodes.{join_at};
+ghost use Rattle.merkle.specs.Nodes.{join_at, left_of};
 ghost use Rattle.sha2.specs.Sha256.{sha256};
 ghost use Rattle.tpcc_model.specs.Roots.{leaf_hash};
 ghost use Rattle.tpcc_rows.specs.declared.codes.TheConstants.{LEAVES};
@@ -243,6 +243,8 @@ fn texts<const N: usize>(alloc: Global, count: usize) -> Result<Vec<ByteBuf<N>>,
 #[derive(Drop)]
 pub(crate) struct Helped {
     helpers: Helpers,
+    /// How many threads to use at most, the calling one among them.
+    threads: usize,
     leaves: Vec<ByteBuf<LEAF_BYTES>>,
     nodes: Vec<ByteBuf<NODE_BYTES>>,
 }
@@ -252,6 +254,7 @@ impl Helped {
     pub(crate) fn alone(alloc: Global) -> Helped {
         Helped {
             helpers: Helpers::none(alloc),
+            threads: 1,
             leaves: Vec::new(alloc),
             nodes: Vec::new(alloc),
         }
@@ -266,27 +269,33 @@ impl Helped {
         let nodes = texts(alloc, TEXTS * MOST_HELPERS)?;
         Ok(Helped {
             helpers: Helpers::start(rt, alloc, count.min(MOST_HELPERS)),
+            threads: 1,
             leaves,
             nodes,
         })
     }
 
-    /// Number of helpers to use for `threads` threads in all.
-    fn most(&self, threads: usize) -> usize
+    /// Uses at most `threads` threads from now on, the calling one among them.
+    pub(crate) fn use_threads(&mut self, threads: usize) {
+        self.threads = threads;
+    }
+
+    /// Number of helpers to use.
+    fn most(&self) -> usize
         ensures { result ≤ MOST_HELPERS }
     {
         self.helpers
             .len()
-            .min(threads.saturating_sub(1))
+            .min(self.threads.saturating_sub(1))
             .min(MOST_HELPERS)
     }
 
     /// Hashes leaves.
-    pub(crate) fn do_leaves(&mut self, jobs: &mut [Job], places: &Leaves<'_>, threads: usize)
+    pub(crate) fn do_leaves(&mut self, jobs: &mut [Job], places: &Leaves<'_>)
         requires { All (λ job. job.place < LEAVES) jobs.old }
         ensures { IsDone (leaf_hash places.now.store.now.rows) jobs.old jobs.new }
     {
-        let most = self.most(threads);
+        let most = self.most();
         if most == 0 || jobs.len() < FEWEST_LEAVES || self.leaves.len() < ROUND {
             do_jobs::<LEAF_BYTES, _>(jobs, places);
             return;
@@ -301,11 +310,11 @@ impl Helped {
     }
 
     /// Joins nodes.
-    pub(crate) fn do_nodes(&mut self, jobs: &mut [Job], places: &InnerNodes<'_>, threads: usize)
-        requires { All (λ job. 2 * job.place + 1 < length places.now.nodes.now) jobs.old }
+    pub(crate) fn do_nodes(&mut self, jobs: &mut [Job], places: &InnerNodes<'_>)
+        requires { All (λ job. (left_of job.place + 1 < length places.now.nodes.now) × (job.place < 2 * LEAVES)) jobs.old }
         ensures { IsDone (join_at places.now.nodes.now) jobs.old jobs.new }
     {
-        let most = self.most(threads);
+        let most = self.most();
         if most == 0 || jobs.len() < FEWEST_NODES {
             do_jobs::<NODE_BYTES, _>(jobs, places);
             return;

@@ -1,15 +1,17 @@
 //! Jobs: places of a tree to be hashed, and their hashes.
-ghost use Rattle.std.specs.Prelude.{◌≡◌, ◌<◌, ◌≤◌, ◌+◌, ◌||◌, ℕ, List, All, cond, length, slice_index_or, vec_capacity};
+ghost use Rattle.std.specs.Prelude.{◌≡◌, ◌<◌, ◌≤◌, ◌*◌, ◌||◌, ℕ, List, All, cond, length, take};
 ghost use Rattle.bit_sets.specs.BitSets.{has_bit};
-ghost use Rattle.merkle.specs.Jobs.{AreHashed, IsDone, has_place};
+ghost use Rattle.merkle.specs.Jobs.{AreGathered, AreHashed, has_place};
 ghost use Rattle.merkle.specs.Marking.{is_above};
-ghost use Rattle.merkle.specs.Nodes.{at};
-ghost use Rattle.merkle.specs.declared.jobs.Job.{Job};
+ghost use Rattle.merkle.specs.Nodes.{AreWhole, IsAtLevel, at};
+ghost use Rattle.merkle.specs.declared.marks.TheConstants.{BRANCH_LEAVES};
+ghost use Rattle.rollback.specs.Marks.{is_dirty};
 
-use crate::marks::{Marks, next_above};
+use crate::marks::{Marks, next_above, next_dirty};
+use rollback::Dirty;
 use tpcc_rows::codes::LEAVES;
 
-/// A place to be hashed: a leaf by its number, or a node by its index in heap order.
+/// A place to be hashed: a leaf by its number, or a node by its place in the list of nodes.
 #[derive(Clone, Copy)]
 pub(crate) struct Job {
     pub(crate) place: usize,
@@ -19,7 +21,7 @@ pub(crate) struct Job {
 }
 
 impl Job {
-    fn at(place: usize) -> Job
+    pub(crate) fn at(place: usize) -> Job
         ensures { result.place ≡ place }
     {
         Job {
@@ -30,39 +32,72 @@ impl Job {
     }
 }
 
-/// The marked leaves as jobs, in order.
-pub(crate) fn gather_leaves(jobs: &mut Vec<Job>, marks: &Marks)
-    requires room { LEAVES ≤ vec_capacity jobs.old }
-    ensures room { LEAVES ≤ vec_capacity jobs.new }
-    ensures leaves { All (λ job. job.place < LEAVES) jobs.new.items }
-    ensures marked { (n : ℕ) → n < LEAVES → has_place jobs.new.items n ≡ has_bit marks.now.words (LEAVES + n) }
+/// Maximum number of jobs gathered at once.
+pub(crate) const MOST_JOBS: usize = 256;
+
+/// Gathers the dirty leaves from `from` to before `end` as jobs, in order, up to as many as there is room for. Returns how many
+/// there are, and where to go on.
+pub(crate) fn gather_leaves(
+    jobs: &mut [Job; MOST_JOBS],
+    dirty: &Dirty,
+    from: usize,
+    end: usize,
+) -> (usize, usize)
+    requires from { from < end }
+    requires end { end ≤ LEAVES }
+    ensures few { result.0 ≤ MOST_JOBS }
+    ensures on { (from < result.1) × (result.1 ≤ end) }
+    ensures gathered { AreGathered (λ n. n < LEAVES) (is_dirty dirty.now) from result.1 (take result.0 jobs.new) }
 {
-    jobs.clear();
-    let mut next = 0;
-    while let Some(place) = marks.first_from(LEAVES + next) {
-        let n = place - LEAVES;
-        jobs.push_reserved(Job::at(n));
-        next = n + 1;
+    let mut count = 0;
+    let mut next = from;
+    while next < end && count < MOST_JOBS {
+        let n = next_dirty(dirty, next, end);
+        if n == end {
+            next = end;
+        } else {
+            jobs[count] = Job::at(n);
+            count += 1;
+            next = n + 1;
+        }
     }
+    (count, next)
 }
 
-/// The nodes from `low` to before `high` above a mark as jobs, in order; they are marked too.
-pub(crate) fn gather_nodes(jobs: &mut Vec<Job>, marks: &mut Marks, low: usize, high: usize)
-    requires room { LEAVES ≤ vec_capacity jobs.old }
-    requires below { low ≤ high }
-    requires high { high ≤ LEAVES }
-    ensures room { LEAVES ≤ vec_capacity jobs.new }
-    ensures inside { All (λ job. (low ≤ job.place) × (job.place < high)) jobs.new.items }
-    ensures above { (i : ℕ) → low ≤ i → i < high → has_place jobs.new.items i ≡ is_above marks.old.words i }
-    ensures marks { (i : ℕ) → has_bit marks.new.words i ≡ (has_place jobs.new.items i || has_bit marks.old.words i) }
+/// Gathers the nodes of the level from `low` to before `high` that are above a mark, from `from` to before `end`, as jobs, in order,
+/// up to as many as there is room for; they are marked too. Returns how many there are, and where to go on.
+pub(crate) fn gather_nodes(
+    jobs: &mut [Job; MOST_JOBS],
+    marks: &mut Marks,
+    low: usize,
+    high: usize,
+    from: usize,
+    end: usize,
+) -> (usize, usize)
+    requires low { (low ≤ high) × (high ≤ 2 * low) }
+    requires high { high ≤ BRANCH_LEAVES }
+    requires from { from < end }
+    requires end { end ≤ 2 * LEAVES }
+    requires whole { AreWhole end }
+    ensures few { result.0 ≤ MOST_JOBS }
+    ensures on { (from < result.1) × (result.1 ≤ end) }
+    ensures gathered { AreGathered (IsAtLevel low high) (is_above marks.old.words) from result.1 (take result.0 jobs.new) }
+    ensures marks { (i : ℕ) → has_bit marks.new.words i ≡ (has_place (take result.0 jobs.new) i || has_bit marks.old.words i) }
 {
-    jobs.clear();
-    let mut next = low;
-    while let Some(i) = next_above(marks, next, high) {
-        jobs.push_reserved(Job::at(i));
-        marks.add(i);
-        next = i + 1;
+    let mut count = 0;
+    let mut next = from;
+    while next < end && count < MOST_JOBS {
+        let i = next_above(marks, low, high, next, end);
+        if i == end {
+            next = end;
+        } else {
+            jobs[count] = Job::at(i);
+            count += 1;
+            marks.add(i);
+            next = i + 1;
+        }
     }
+    (count, next)
 }
 
 /// Puts the hash of each job at its place.

@@ -1,24 +1,23 @@
 //! Hashing leaves.
-ghost use Rattle.std.specs.Prelude.{◌≡◌, ◌<◌, ◌≤◌, ◌+◌, ◌∷◌, [], ℕ, All, cond, length, vec_capacity};
-ghost use Rattle.bit_sets.specs.BitSets.{has_bit};
-ghost use Rattle.merkle.specs.Jobs.{IsDone, KeepsPlaces};
-ghost use Rattle.merkle.specs.Nodes.{at};
+ghost use Rattle.std.specs.Prelude.{◌≡◌, ◌<◌, ◌≤◌, ◌+◌, ◌*◌, ◌∷◌, [], ℕ, List, false, All, cond, length};
+ghost use Rattle.merkle.specs.Jobs.{AreHashed, KeepsPlaces, has_place};
+ghost use Rattle.merkle.specs.Nodes.{AreWhole, at, in_branch, leaf_place, rehashed};
+ghost use Rattle.merkle.specs.declared.marks.TheConstants.{BRANCH_LEAVES};
+ghost use Rattle.rollback.specs.Marks.{is_dirty};
+ghost use Rattle.row_store.specs.Slots.{slots};
+ghost use Rattle.sha2.specs.Sha256.{sha256};
 ghost use Rattle.tpcc_model.specs.Roots.{leaf_hash};
 
 use crate::hashing::{LEAF_BYTES, encode_leaf, hash_leaf};
 use crate::helped::Helped;
-use crate::jobs::{Job, gather_leaves, put_hashes};
-use crate::marks::Marks;
+use crate::jobs::{Job, MOST_JOBS, gather_leaves};
+use crate::marks::leaf_place;
 use crate::places::{Encodes, Places};
-use crate::shares::{Context, do_jobs_on};
-use row_store::PointedStore;
+use rollback::Dirty;
+use row_store::{LeafPage, PointedStore};
 use sha2_lanes::SecondBlocks;
-use std::thread::Threads;
 use tpcc_rows::codes::LEAVES;
 use tpcc_rows::row_buf::ByteBuf;
-
-/// Minimum rows per thread. Starting one costs as much as hashing a few hundred.
-const ROWS_AT_ONCE: usize = 4096;
 
 /// The leaves of a store.
 #[derive(Clone, Copy)]
@@ -90,55 +89,96 @@ impl Encodes<LEAF_BYTES> for Leaves<'_> {
     }
 }
 
-/// Number of rows on these leaves, removed ones included, counted up to about `most`.
-fn rows_of(jobs: &[Job], store: &PointedStore, most: usize) -> usize
-    requires { All (λ job. job.place < LEAVES) jobs.now }
-{
-    let mut rows = 0usize;
-    for k in 0..jobs.len() {
-        if rows >= most {
-            break;
-        }
-        rows = rows.saturating_add(store.page(jobs[k].place).len());
-    }
-    rows
+/// What is to be hashed: some leaves of a store.
+#[derive(Clone, Copy)]
+pub(crate) struct Change<'a, 'b> {
+    pub(crate) leaves: Leaves<'a>,
+    pub(crate) dirty: &'b Dirty,
 }
 
-/// Hashes leaves, on new threads if that pays, else with helpers.
-fn hash_leaves<R: Threads + Sync>(
-    context: &Context<'_, R>,
-    jobs: &mut [Job],
-    helped: &mut Helped,
-    places: &Leaves<'_>,
-)
-    requires { All (λ job. job.place < LEAVES) jobs.old }
-    ensures { IsDone (leaf_hash places.now.store.now.rows) jobs.old jobs.new }
+/// Puts the hashes of leaves at their places in branches from leaf `first` on.
+fn put_leaves(nodes: &mut [[u8; 32]], first: usize, jobs: &[Job])
+    requires small { length nodes.old ≤ 2 * LEAVES }
+    requires whole { AreWhole (length nodes.old) }
+    requires there { All (λ job. (first ≤ job.place) × (2 * job.place < 2 * first + length nodes.old)) jobs.now }
+    ensures len { length nodes.new ≡ length nodes.old }
+    ensures each { (value : ℕ → List ℕ) → AreHashed value jobs.now → (m : ℕ) → 2 * m < length nodes.old
+        → at nodes.new (leaf_place m) ≡ cond (has_place jobs.now (first + m)) (value (first + m)) (at nodes.old (leaf_place m)) }
+    ensures inner { (i : ℕ) → in_branch i < BRANCH_LEAVES → at nodes.new i ≡ at nodes.old i }
 {
-    let most = context.threads.saturating_mul(ROWS_AT_ONCE);
-    let paying = rows_of(jobs, places.store, most) / ROWS_AT_ONCE;
-    if paying > 1 {
-        do_jobs_on::<LEAF_BYTES, _, _>(context, jobs, places, paying);
-    } else {
-        helped.do_leaves(jobs, places, context.threads);
+    for job in jobs {
+        nodes[leaf_place(job.place - first)] = job.hash;
     }
 }
 
-/// Rehashes the marked leaves.
-pub(crate) fn rehash<R: Threads + Sync>(
-    context: &Context<'_, R>,
-    leaves: &mut [[u8; 32]],
-    jobs: &mut Vec<Job>,
+/// Rehashes the dirty leaves from `from` on, up to as many as are hashed at once. Returns where to go on.
+fn rehash_some(
+    nodes: &mut [[u8; 32]],
+    first: usize,
+    from: usize,
+    change: &Change<'_, '_>,
+    jobs: &mut [Job; MOST_JOBS],
     helped: &mut Helped,
-    places: &Leaves<'_>,
-    marks: &Marks,
-)
-    requires full { length leaves.old ≡ LEAVES }
-    requires room { LEAVES ≤ vec_capacity jobs.old }
-    ensures each { (k : ℕ) → k < LEAVES → at leaves.new k
-        ≡ cond (has_bit marks.now.words (LEAVES + k)) (leaf_hash places.now.store.now.rows k) (at leaves.old k) }
-    ensures room { LEAVES ≤ vec_capacity jobs.new }
+) -> usize
+    requires small { 2 * first + length nodes.old ≤ 2 * LEAVES }
+    requires whole { AreWhole (length nodes.old) }
+    requires from { (first ≤ from) × (2 * from < 2 * first + length nodes.old) }
+    ensures on { (from < result) × (2 * result ≤ 2 * first + length nodes.old) }
+    ensures len { length nodes.new ≡ length nodes.old }
+    ensures done { (m : ℕ) → from ≤ first + m → first + m < result
+        → at nodes.new (leaf_place m) ≡ rehashed change.now.dirty.now change.now.leaves.store.now.rows (at nodes.old (leaf_place m)) (first + m) }
+    ensures before { (m : ℕ) → first + m < from → at nodes.new (leaf_place m) ≡ at nodes.old (leaf_place m) }
+    ensures behind { (m : ℕ) → result ≤ first + m → at nodes.new (leaf_place m) ≡ at nodes.old (leaf_place m) }
+    ensures inner { (i : ℕ) → in_branch i < BRANCH_LEAVES → at nodes.new i ≡ at nodes.old i }
 {
-    gather_leaves(jobs, marks);
-    hash_leaves(context, jobs.as_mut_slice(), helped, places);
-    put_hashes(leaves, jobs.as_slice());
+    let end = first + nodes.len() / 2;
+    let (count, next) = gather_leaves(jobs, change.dirty, from, end);
+    let jobs = &mut jobs[..count];
+    helped.do_leaves(jobs, &change.leaves);
+    put_leaves(nodes, first, jobs);
+    next
+}
+
+/// Rehashes the dirty leaves of branches from leaf `first` on.
+pub(crate) fn rehash(
+    nodes: &mut [[u8; 32]],
+    first: usize,
+    change: &Change<'_, '_>,
+    jobs: &mut [Job; MOST_JOBS],
+    helped: &mut Helped,
+)
+    requires small { 2 * first + length nodes.old ≤ 2 * LEAVES }
+    requires whole { AreWhole (length nodes.old) }
+    ensures len { length nodes.new ≡ length nodes.old }
+    ensures leaves { (m : ℕ) → 2 * m < length nodes.old
+        → at nodes.new (leaf_place m) ≡ rehashed change.now.dirty.now change.now.leaves.store.now.rows (at nodes.old (leaf_place m)) (first + m) }
+    ensures inner { (i : ℕ) → in_branch i < BRANCH_LEAVES → at nodes.new i ≡ at nodes.old i }
+{
+    let end = first + nodes.len() / 2;
+    let mut next = first;
+    while next < end {
+        next = rehash_some(nodes, first, next, change, jobs, helped);
+    }
+}
+
+/// Adds a leaf to a set if its page has slots.
+fn add_if_filled(filled: &mut Dirty, page: LeafPage<'_>, n: usize)
+    requires { n < LEAVES }
+    ensures kept { (i : ℕ) → is_dirty filled.new i ≡ false → is_dirty filled.old i ≡ false }
+    ensures empty { is_dirty filled.new n ≡ false → slots page.entry ≡ [] }
+{
+    if page.len() > 0 {
+        filled.add(n);
+    }
+}
+
+/// The leaves of a store that have rows.
+pub(crate) fn filled_leaves(store: &PointedStore) -> Dirty
+    ensures { (n : ℕ) → n < LEAVES → is_dirty result n ≡ false → leaf_hash store.now.rows n ≡ sha256 (0 ∷ []) }
+{
+    let mut filled = Dirty::new();
+    for n in 0..LEAVES {
+        add_if_filled(&mut filled, store.page(n), n);
+    }
+    filled
 }

@@ -1,34 +1,28 @@
 //! Hashing inner nodes.
-ghost use Rattle.std.specs.Prelude.{◌≡◌, ◌<◌, ◌≤◌, ◌+◌, ◌*◌, ℕ, All, length, vec_capacity};
+ghost use Rattle.std.specs.Prelude.{◌≡◌, ◌<◌, ◌≤◌, ◌+◌, ◌*◌, ℕ, length};
 ghost use Rattle.bit_sets.specs.BitSets.{has_bit};
 ghost use Rattle.sha2.specs.Sha256.{sha256};
-ghost use Rattle.merkle.specs.Jobs.{IsDone};
-ghost use Rattle.merkle.specs.Nodes.{IsJoinedFrom, IsNearlyTree, IsTree, at, join_at};
+ghost use Rattle.merkle.specs.Nodes.{AreBranches, AreJoinedTo, AreNearlyBranches, at, in_branch, join_at, left_of};
+ghost use Rattle.merkle.specs.declared.marks.TheConstants.{BRANCH_LEAVES};
+ghost use Rattle.tpcc_rows.specs.declared.codes.TheConstants.{LEAVES};
 
 use crate::hashing::{NODE_BYTES, encode_node, join};
 use crate::helped::Helped;
-use crate::jobs::{Job, gather_nodes, put_hashes};
-use crate::marks::Marks;
+use crate::jobs::{Job, MOST_JOBS, gather_nodes, put_hashes};
+use crate::marks::{BRANCH_LEAVES, BRANCH_NODES, Marks};
 use crate::places::{Encodes, Places};
-use crate::shares::{Context, do_jobs_on};
 use sha2_lanes::SecondBlocks;
-use std::thread::Threads;
-use tpcc_rows::codes::LEAVES;
 use tpcc_rows::row_buf::ByteBuf;
 
-/// Minimum nodes per thread.
-const NODES_AT_ONCE: usize = 512;
-
-/// The text of a node.
-#[tactic(auto, unfolding(tpcc_model::specs::Roots::joined))]
-fn encode_at(nodes: &[[u8; 32]], i: usize) -> [u8; NODE_BYTES]
-    requires { 2 * i + 1 < length nodes.now }
-    ensures { sha256 result ≡ join_at nodes.now i }
+/// The place of a node's left child.
+fn left_of(i: usize) -> usize
+    requires { i < 2 * LEAVES }
+    ensures { result ≡ left_of i }
 {
-    encode_node(&nodes[2 * i], &nodes[2 * i + 1])
+    i + i % BRANCH_NODES
 }
 
-/// The inner nodes of a tree.
+/// The inner nodes of branches.
 #[derive(Clone, Copy)]
 pub(crate) struct InnerNodes<'a> {
     pub(crate) nodes: &'a [[u8; 32]],
@@ -36,10 +30,11 @@ pub(crate) struct InnerNodes<'a> {
 }
 
 impl Places for InnerNodes<'_> {
-    ghost use Rattle.std.specs.Prelude.{◌<◌, ◌+◌, ◌*◌, length};
-    ghost use Rattle.merkle.specs.Nodes.{join_at};
+    ghost use Rattle.std.specs.Prelude.{◌<◌, ◌≤◌, ◌+◌, ◌*◌, length};
+    ghost use Rattle.merkle.specs.Nodes.{join_at, left_of};
+    ghost use Rattle.tpcc_rows.specs.declared.codes.TheConstants.{LEAVES};
 
-    ghost has = { λ inner i. 2 * i + 1 < length inner.nodes.now };
+    ghost has = { λ inner i. (left_of i + 1 < length inner.nodes.now) × (i < 2 * LEAVES) };
 
     ghost hash = { λ inner i. join_at inner.nodes.now i };
 
@@ -51,83 +46,95 @@ impl Places for InnerNodes<'_> {
     fn arrange(&self, _: &mut [Job]) {}
 
     fn hash_one(&self, i: usize) -> [u8; 32] {
-        join(&self.nodes[2 * i], &self.nodes[2 * i + 1])
+        let left = left_of(i);
+        join(&self.nodes[left], &self.nodes[left + 1])
     }
 }
 
 impl Encodes<NODE_BYTES> for InnerNodes<'_> {
+    #[tactic(auto, unfolding(tpcc_model::specs::Roots::joined))]
     fn encode(&self, i: usize, text: &mut ByteBuf<NODE_BYTES>) {
+        let left = left_of(i);
         text.clear();
-        text.push(encode_at(self.nodes, i).as_slice());
+        text.push(encode_node(&self.nodes[left], &self.nodes[left + 1]).as_slice());
     }
 }
 
-/// Joins nodes, on new threads if that pays, else with helpers.
-fn join_nodes<R: Threads + Sync>(
-    context: &Context<'_, R>,
-    jobs: &mut [Job],
+/// Joins again the nodes from `from` on of the level from `low` to before `high` that are above a mark, up to as many as are hashed
+/// at once. Returns where to go on.
+fn rejoin_some(
+    nodes: &mut [[u8; 32]],
+    second_blocks: &SecondBlocks,
+    marks: &mut Marks,
+    jobs: &mut [Job; MOST_JOBS],
     helped: &mut Helped,
-    nodes: &[[u8; 32]],
-)
-    requires { All (λ job. 2 * job.place + 1 < length nodes.now) jobs.old }
-    ensures { IsDone (join_at nodes.now) jobs.old jobs.new }
+    low: usize,
+    high: usize,
+    from: usize,
+) -> usize
+    requires small { length nodes.old ≤ 2 * LEAVES }
+    requires low { (1 ≤ low) × (low ≤ high) × (high ≤ 2 * low) }
+    requires high { high ≤ BRANCH_LEAVES }
+    requires from { from < length nodes.old }
+    requires to { AreJoinedTo low high from nodes.old (has_bit marks.old.words) }
+    ensures on { (from < result) × (result ≤ length nodes.new) }
+    ensures len { length nodes.new ≡ length nodes.old }
+    ensures to { AreJoinedTo low high result nodes.new (has_bit marks.new.words) }
+    ensures leaves { (i : ℕ) → BRANCH_LEAVES ≤ in_branch i → at nodes.new i ≡ at nodes.old i }
 {
+    let (count, next) = gather_nodes(jobs, marks, low, high, from, nodes.len());
+    let jobs = &mut jobs[..count];
     let inner = InnerNodes {
         nodes,
-        second_blocks: context.second_blocks,
+        second_blocks,
     };
-    let paying = jobs.len() / NODES_AT_ONCE;
-    if paying > 1 {
-        do_jobs_on::<NODE_BYTES, _, _>(context, jobs, &inner, paying);
-    } else {
-        helped.do_nodes(jobs, &inner, context.threads);
-    }
+    helped.do_nodes(jobs, &inner);
+    put_hashes(nodes, jobs);
+    next
 }
 
-/// Joins again the nodes from `low` to before `high` above a mark. None of them is a child of another.
-fn rejoin_level<R: Threads + Sync>(
-    context: &Context<'_, R>,
+/// Joins again the nodes of the level from `low` to before `high` that are above a mark.
+fn rejoin_level(
     nodes: &mut [[u8; 32]],
+    second_blocks: &SecondBlocks,
     marks: &mut Marks,
-    jobs: &mut Vec<Job>,
+    jobs: &mut [Job; MOST_JOBS],
     helped: &mut Helped,
     low: usize,
     high: usize,
 )
-    requires room { LEAVES ≤ vec_capacity jobs.old }
-    requires low { 1 ≤ low }
-    requires apart { high ≤ 2 * low }
-    requires below { low ≤ high }
-    requires high { high ≤ LEAVES }
-    requires from { IsJoinedFrom high nodes.old (has_bit marks.old.words) }
-    ensures from { IsJoinedFrom low nodes.new (has_bit marks.new.words) }
-    ensures leaves { (i : ℕ) → LEAVES ≤ i → at nodes.new i ≡ at nodes.old i }
-    ensures room { LEAVES ≤ vec_capacity jobs.new }
+    requires small { length nodes.old ≤ 2 * LEAVES }
+    requires low { (1 ≤ low) × (low ≤ high) × (high ≤ 2 * low) }
+    requires high { high ≤ BRANCH_LEAVES }
+    requires to { AreJoinedTo low high 0 nodes.old (has_bit marks.old.words) }
+    ensures len { length nodes.new ≡ length nodes.old }
+    ensures to { AreJoinedTo low high (length nodes.new) nodes.new (has_bit marks.new.words) }
+    ensures leaves { (i : ℕ) → BRANCH_LEAVES ≤ in_branch i → at nodes.new i ≡ at nodes.old i }
 {
-    gather_nodes(jobs, marks, low, high);
-    join_nodes(context, jobs.as_mut_slice(), helped, nodes);
-    put_hashes(nodes, jobs.as_slice());
+    let mut next = 0;
+    while next < nodes.len() {
+        next = rejoin_some(nodes, second_blocks, marks, jobs, helped, low, high, next);
+    }
 }
 
 /// Joins again all inner nodes above a mark, level by level from the lowest.
-pub(crate) fn rejoin<R: Threads + Sync>(
-    context: &Context<'_, R>,
+pub(crate) fn rejoin(
     nodes: &mut [[u8; 32]],
+    second_blocks: &SecondBlocks,
     marks: &mut Marks,
-    jobs: &mut Vec<Job>,
+    jobs: &mut [Job; MOST_JOBS],
     helped: &mut Helped,
 )
-    requires full { length nodes.old ≡ 2 * LEAVES }
-    requires room { LEAVES ≤ vec_capacity jobs.old }
-    requires nearly { IsNearlyTree nodes.old (has_bit marks.old.words) }
-    ensures tree { IsTree nodes.new }
-    ensures leaves { (i : ℕ) → LEAVES ≤ i → at nodes.new i ≡ at nodes.old i }
-    ensures room { LEAVES ≤ vec_capacity jobs.new }
+    requires small { length nodes.old ≤ 2 * LEAVES }
+    requires nearly { AreNearlyBranches nodes.old (has_bit marks.old.words) }
+    ensures len { length nodes.new ≡ length nodes.old }
+    ensures branches { AreBranches nodes.new }
+    ensures leaves { (i : ℕ) → BRANCH_LEAVES ≤ in_branch i → at nodes.new i ≡ at nodes.old i }
 {
-    let mut high = LEAVES;
+    let mut high = BRANCH_LEAVES;
     while high > 1 {
         let low = high - high / 2;
-        rejoin_level(context, nodes, marks, jobs, helped, low, high);
+        rejoin_level(nodes, second_blocks, marks, jobs, helped, low, high);
         high = low;
     }
 }

@@ -8,8 +8,8 @@ mod jobs;
 mod leaves;
 mod levels;
 mod marks;
+mod parts;
 mod places;
-mod shares;
 pub mod tree;
 
 pub use tree::Tree;

@@ -1,66 +1,103 @@
 //! Marks of a tree's places to be rehashed.
-ghost use Rattle.std.specs.Prelude.{◌≡◌, ◌<◌, ◌≤◌, ◌+◌, ◌∷◌, [], ℕ, IfSome, None, false};
-ghost use Rattle.sha2.specs.Sha256.{sha256};
+ghost use Rattle.std.specs.Prelude.{◌≡◌, ◌+◌, ◌*◌, ◌<◌, ◌≤◌, ◌≢◌, ℕ, IfSome, None, false};
 ghost use Rattle.bit_sets.specs.BitSets.{has_bit};
-ghost use Rattle.merkle.specs.Marking.{IsNext, is_above};
-ghost use Rattle.row_store.specs.Slots.{slots};
+ghost use Rattle.merkle.specs.Marking.{IsNext, IsNone, is_above};
+ghost use Rattle.merkle.specs.Nodes.{AreWhole, IsAtLevel, leaf_place};
 ghost use Rattle.rollback.specs.Marks.{is_dirty};
-ghost use Rattle.tpcc_model.specs.Roots.{leaf_hash};
 
 use bit_sets::{Bits, WORD_BITS};
 use rollback::Dirty;
-use row_store::{LeafPage, PointedStore};
 use tpcc_rows::codes::LEAVES;
 
-/// A bit for each place in heap order: for node i bit i, for leaf n bit `LEAVES` + n.
+/// Branches of a tree.
+pub(crate) const BRANCHES: usize = 16;
+
+/// Leaves per branch.
+pub(crate) const BRANCH_LEAVES: usize = 4096;
+
+/// Nodes per branch, and one place that none is at.
+pub(crate) const BRANCH_NODES: usize = 8192;
+
+/// A bit for each place.
 const MARK_WORDS: usize = 2 * LEAVES / WORD_BITS;
 
 /// A set of places.
 pub(crate) type Marks = Bits<MARK_WORDS>;
 
-/// Marks the leaves of a set.
-pub(crate) fn mark_dirty(marks: &mut Marks, dirty: &Dirty)
-    requires { (i : ℕ) → has_bit marks.old.words i ≡ false }
-    ensures { (n : ℕ) → n < LEAVES → has_bit marks.new.words (LEAVES + n) ≡ is_dirty dirty.now n }
+/// The place of a leaf in branches from leaf 0 on.
+pub(crate) fn leaf_place(n: usize) -> usize
+    requires { n < LEAVES }
+    ensures { result ≡ leaf_place n }
 {
-    let mut next = 0;
-    while let Some(n) = dirty.first_from(next) {
-        marks.add(LEAVES + n);
+    n + BRANCH_LEAVES * (n / BRANCH_LEAVES + 1)
+}
+
+/// The first leaf of the set from `from` on, or `end` if there is none before.
+pub(crate) fn next_dirty(dirty: &Dirty, from: usize, end: usize) -> usize
+    requires end { end ≤ LEAVES }
+    requires from { from ≤ end }
+    ensures low { from ≤ result }
+    ensures high { result ≤ end }
+    ensures here { result < end → IsNext (λ n. n < LEAVES) (is_dirty dirty.now) from result }
+    ensures before { IsNone (λ n. n < LEAVES) (is_dirty dirty.now) from result }
+{
+    match dirty.first_from(from) {
+        Some(n) => n.min(end),
+        None => end,
+    }
+}
+
+/// Marks the leaves of a set from `first` to before `end`, in branches from leaf `first` on.
+pub(crate) fn mark_dirty(marks: &mut Marks, dirty: &Dirty, first: usize, end: usize)
+    requires first { first ≤ end }
+    requires end { end ≤ LEAVES }
+    requires clear { (i : ℕ) → has_bit marks.old.words i ≡ false }
+    ensures { (m : ℕ) → first + m < end → has_bit marks.new.words (leaf_place m) ≡ is_dirty dirty.now (first + m) }
+{
+    let mut next = first;
+    while next < end {
+        let n = next_dirty(dirty, next, end);
+        if n == end {
+            return;
+        }
+        marks.add(leaf_place(n - first));
         next = n + 1;
     }
 }
 
-/// Marks a leaf if its page has slots.
-fn mark_if_filled(marks: &mut Marks, page: LeafPage<'_>, n: usize)
-    requires { n < LEAVES }
-    ensures kept { (i : ℕ) → has_bit marks.new.words i ≡ false → has_bit marks.old.words i ≡ false }
-    ensures empty { has_bit marks.new.words (LEAVES + n) ≡ false → slots page.entry ≡ [] }
+/// The first node from `from` to before `high` with a marked child, in the branch that begins at `branch`.
+fn next_in_branch(marks: &Marks, branch: usize, from: usize, high: usize) -> Option<usize>
+    requires branch { AreWhole branch }
+    requires inside { branch + BRANCH_NODES ≤ 2 * LEAVES }
+    requires from { (branch ≤ from) × (from ≤ high) }
+    requires high { high ≤ branch + BRANCH_LEAVES }
+    ensures some { IfSome result (λ i. (i < high) × IsNext (λ i. branch ≤ i) (is_above marks.now.words) from i) }
+    ensures none { result ≡ None → IsNone (λ i. branch ≤ i) (is_above marks.now.words) from high }
 {
-    if page.len() > 0 {
-        marks.add(LEAVES + n);
-    }
+    let child = marks.first_from(2 * from - branch)?;
+    let node = (child + branch) / 2;
+    if node < high { Some(node) } else { None }
 }
 
-/// Marks the leaves with rows.
-pub(crate) fn mark_filled(marks: &mut Marks, store: &PointedStore)
-    ensures { (n : ℕ) → n < LEAVES → has_bit marks.new.words (LEAVES + n) ≡ false → leaf_hash store.now.rows n ≡ sha256 (0 ∷ []) }
+/// The first node from `from` on of the level from `low` to before `high` with a marked child, or `end` if there is none before.
+pub(crate) fn next_above(marks: &Marks, low: usize, high: usize, from: usize, end: usize) -> usize
+    requires low { low ≤ high }
+    requires high { high ≤ BRANCH_LEAVES }
+    requires from { from ≤ end }
+    requires end { end ≤ 2 * LEAVES }
+    requires whole { AreWhole end }
+    ensures low { from ≤ result }
+    ensures high { result ≤ end }
+    ensures here { result < end → IsNext (IsAtLevel low high) (is_above marks.now.words) from result }
+    ensures before { IsNone (IsAtLevel low high) (is_above marks.now.words) from result }
 {
-    for n in 0..LEAVES {
-        mark_if_filled(marks, store.page(n), n);
+    let mut branch = from - from % BRANCH_NODES;
+    while branch < end {
+        let first = from.clamp(branch + low, branch + high);
+        if let Some(node) = next_in_branch(marks, branch, first, branch + high) {
+            return node;
+        }
+        branch += BRANCH_NODES;
     }
-}
-
-/// The first node from `from` to before `high` with a marked child.
-pub(crate) fn next_above(marks: &Marks, from: usize, high: usize) -> Option<usize>
-    requires from { from ≤ LEAVES }
-    requires high { high ≤ LEAVES }
-    ensures some { IfSome result (λ i. (i < high) × IsNext (is_above marks.now.words) from i) }
-    ensures none { result ≡ None → (i : ℕ) → from ≤ i → i < high → is_above marks.now.words i ≡ false }
-{
-    let child = marks.first_from(2 * from)?;
-    if child < 2 * high {
-        Some(child / 2)
-    } else {
-        None
-    }
+    end
 }

@@ -1,17 +1,15 @@
 //! The hash tree.
-ghost use Rattle.std.specs.Prelude.{◌≡◌, ◌<◌, ◌≤◌, ◌+◌, ℕ, IfOk, cond, drop, vec_capacity};
-ghost use Rattle.bit_sets.specs.BitSets.{has_bit};
-ghost use Rattle.merkle.specs.Nodes.{IsOf, IsOfClean, IsTree, at, rehashed};
-ghost use Rattle.tpcc_model.specs.Roots.{leaf_hash, root};
+ghost use Rattle.std.specs.Prelude.{◌≡◌, ◌<◌, ◌≤◌, ◌*◌, ℕ, IfOk, IfSome, length};
+ghost use Rattle.merkle.specs.Nodes.{AreBranches, AreRefreshed, AreWhole, IsOf, IsOfClean, IsOver, at, node_over, rehashed};
+ghost use Rattle.tpcc_model.specs.Roots.{root};
 ghost use Rattle.tpcc_rows.specs.RowMap.{Rows};
 
 use crate::alike::empty_nodes;
+use crate::hashing::join;
 use crate::helped::Helped;
-use crate::jobs::Job;
-use crate::leaves::{Leaves, rehash};
-use crate::levels::rejoin;
-use crate::marks::{Marks, mark_dirty, mark_filled};
-use crate::shares::{Context, Task};
+use crate::leaves::{Change, Leaves, filled_leaves};
+use crate::marks::{BRANCH_NODES, BRANCHES};
+use crate::parts::{refresh_all, refresh_by, refresh_part};
 use hashers::Host;
 use rollback::Dirty;
 use row_store::PointedStore;
@@ -23,50 +21,113 @@ use std::thread::{self, Threads};
 use tpcc_rows::codes::LEAVES;
 use tpcc_rows::memory::Memory;
 
-/// Rehashes the marked leaves and all nodes above them.
-fn refresh_nodes<R: Threads + Sync>(
-    context: &Context<'_, R>,
-    nodes: &mut [[u8; 32]],
-    jobs: &mut Vec<Job>,
-    helped: &mut Helped,
-    places: &Leaves<'_>,
-    marks: &mut Marks,
-)
-    requires tree { IsTree nodes.old }
-    requires room { LEAVES ≤ vec_capacity jobs.old }
-    ensures tree { IsTree nodes.new }
-    ensures leaves { (n : ℕ) → n < LEAVES → at nodes.new (LEAVES + n)
-        ≡ cond (has_bit marks.old.words (LEAVES + n)) (leaf_hash places.now.store.now.rows n) (at nodes.old (LEAVES + n)) }
-    ensures room { LEAVES ≤ vec_capacity jobs.new }
+/// The height of the root above the branches' roots.
+const HEIGHT: usize = 4;
+
+/// Minimum rows per new thread. Starting one costs as much as hashing a few hundred.
+const ROWS_A_THREAD: usize = 2048;
+
+/// Minimum number of new threads that pay, since helpers hash less than that sooner.
+const FEWEST_THREADS: usize = 4;
+
+/// Rows that take as long to hash as the nodes above a leaf.
+const ROWS_OF_NODES: usize = 16;
+
+/// The node of a number in the level of `width` nodes at a height above the branches' roots.
+fn join_over(nodes: &[[u8; 32]], height: usize, width: usize, n: usize) -> [u8; 32]
+    requires full { length nodes.now ≡ 2 * LEAVES }
+    requires width { IsOver height width }
+    requires n { n < width }
+    ensures { result ≡ node_over nodes.now height n }
 {
-    let (_, leaves) = nodes.split_at_mut(LEAVES);
-    rehash(context, leaves, jobs, helped, places, marks);
-    rejoin(context, nodes, marks, jobs, helped);
+    if height == 0 {
+        return nodes[BRANCH_NODES * n + 1];
+    }
+    let left = join_over(nodes, height - 1, 2 * width, 2 * n);
+    let right = join_over(nodes, height - 1, 2 * width, 2 * n + 1);
+    join(&left, &right)
 }
 
-/// The hashes of all nodes in heap order: the root at 1, the children of node i at 2 i and 2 i + 1. Contracts see those of the
-/// leaves.
+/// The root above branches.
+fn root_over(nodes: &[[u8; 32]]) -> [u8; 32]
+    requires { length nodes.now ≡ 2 * LEAVES }
+    ensures { result ≡ node_over nodes.now 4 0 }
+{
+    join_over(nodes, HEIGHT, 1, 0)
+}
+
+/// The work of rehashing leaves and the nodes above, in rows, counted up to about `most`.
+fn work_of(change: &Change<'_, '_>, most: usize) -> usize {
+    let mut work = 0usize;
+    let mut next = 0;
+    while let Some(n) = change.dirty.first_from(next) {
+        if work >= most {
+            return work;
+        }
+        let rows = change.leaves.store.page(n).len();
+        work = work.saturating_add(rows).saturating_add(ROWS_OF_NODES);
+        next = n + 1;
+    }
+    work
+}
+
+/// The number of places for each of at most so many threads, if new threads pay.
+fn places_a_thread(change: &Change<'_, '_>, threads: usize) -> Option<usize>
+    ensures { IfSome result (λ size. (0 < size) × AreWhole size) }
+{
+    let most = threads.min(BRANCHES);
+    let paying = work_of(change, most * ROWS_A_THREAD) / ROWS_A_THREAD;
+    let count = paying.min(most);
+    if count < FEWEST_THREADS.min(most) || count < 2 {
+        return None;
+    }
+    Some(BRANCHES.div_ceil(count) * BRANCH_NODES)
+}
+
+/// Rehashes the dirty leaves, and the nodes above them up to the branches' roots: on at most `threads` new threads if they pay, else
+/// with helpers.
+fn refresh_nodes<R: Threads + Sync>(
+    rt: &R,
+    alloc: Global,
+    change: &Change<'_, '_>,
+    threads: usize,
+    nodes: &mut [[u8; 32]],
+    helped: &mut Helped,
+)
+    requires full { length nodes.old ≡ 2 * LEAVES }
+    requires branches { AreBranches nodes.old }
+    ensures { AreRefreshed change.now.dirty.now change.now.leaves.store.now.rows 0 nodes.old nodes.new }
+{
+    if let Some(size) = places_a_thread(change, threads) {
+        refresh_by(rt, alloc, change, size, 0, nodes);
+        return;
+    }
+    helped.use_threads(threads);
+    refresh_part(nodes, 0, change, helped);
+}
+
+/// The hashes of all nodes: in branches, and the root. Contracts see those of the leaves.
 #[derive(Drop)]
 pub struct Tree {
     nodes: Vec<[u8; 32]>,
-    // With capacity for all leaves, so that a refresh doesn't allocate.
-    jobs: Vec<Job>,
+    root: [u8; 32],
     helped: Helped,
     second_blocks: SecondBlocks,
     /// How many threads pay at most.
     processors: usize,
+    alloc: Global,
 }
 
 impl Model for Tree {
-    ghost use Rattle.std.specs.Prelude.{ℕ, ◌≤◌, List, drop, vec_capacity};
-    ghost use Rattle.merkle.specs.Nodes.{IsTree};
+    ghost use Rattle.std.specs.Prelude.{ℕ, ◌≡◌, ◌*◌, List, length};
+    ghost use Rattle.merkle.specs.Nodes.{AreBranches, leaves_of, node_over};
     ghost use Rattle.tpcc_rows.specs.declared.codes.TheConstants.{LEAVES};
 
     ghost Value = { List (List ℕ) };
 
-    ghost view = { λ t. drop LEAVES t.nodes.items };
+    ghost view = { λ t. leaves_of t.nodes.items };
 
-    ghost invariant = { λ t. IsTree t.nodes.items × (LEAVES ≤ vec_capacity t.jobs) };
+    ghost invariant = { λ t. AreBranches t.nodes.items × (length t.nodes.items ≡ 2 * LEAVES) × (t.root ≡ node_over t.nodes.items 4 0) };
 }
 
 impl Tree {
@@ -74,7 +135,7 @@ impl Tree {
     pub fn root(&self) -> [u8; 32]
         ensures { (rows : Rows) → IsOf self.now rows → result ≡ root rows }
     {
-        self.nodes[1]
+        self.root
     }
 
     /// Builds the tree of the rows, on all processors.
@@ -86,34 +147,24 @@ impl Tree {
         ensures { IfOk result (λ tree. IsOf tree store.now.rows) }
     {
         let mut nodes = empty_nodes(alloc)?;
-        let mut jobs = Vec::with_capacity(alloc, LEAVES)?;
         let second_blocks = SecondBlocks::new(alloc)?;
-        let processors = thread::available_parallelism(rt).map_or(1, NonZeroUsize::get);
-        let mut helped = Helped::alone(alloc);
-        let mut marks = Marks::new();
-        mark_filled(&mut marks, store);
-        refresh_nodes(
-            &Context {
-                rt,
-                second_blocks: &second_blocks,
-                threads: processors,
-                task: Task::Build,
-            },
-            &mut nodes,
-            &mut jobs,
-            &mut helped,
-            &Leaves {
+        let dirty = filled_leaves(store);
+        let change = Change {
+            leaves: Leaves {
                 store,
                 second_blocks: &second_blocks,
             },
-            &mut marks,
-        );
+            dirty: &dirty,
+        };
+        refresh_all(rt, alloc, &change, &mut nodes);
+        let root = root_over(&nodes);
         Ok(Tree {
             nodes,
-            jobs,
-            helped,
+            root,
+            helped: Helped::alone(alloc),
             second_blocks,
-            processors,
+            processors: thread::available_parallelism(rt).map_or(1, NonZeroUsize::get),
+            alloc,
         })
     }
 
@@ -139,23 +190,18 @@ impl Tree {
         ensures leaves { (n : ℕ) → n < LEAVES → at self.new n ≡ rehashed dirty.now store.now.rows (at self.old n) n }
         ensures rows { IsOfClean self.old dirty.now store.now.rows → IsOf self.new store.now.rows }
     {
-        let mut marks = Marks::new();
-        mark_dirty(&mut marks, dirty);
+        let leaves = Leaves {
+            store,
+            second_blocks: &self.second_blocks,
+        };
         refresh_nodes(
-            &Context {
-                rt,
-                second_blocks: &self.second_blocks,
-                threads: threads.min(self.processors),
-                task: Task::Refresh,
-            },
+            rt,
+            self.alloc,
+            &Change { leaves, dirty },
+            threads.min(self.processors),
             &mut self.nodes,
-            &mut self.jobs,
             &mut self.helped,
-            &Leaves {
-                store,
-                second_blocks: &self.second_blocks,
-            },
-            &mut marks,
         );
+        self.root = root_over(&self.nodes);
     }
 }

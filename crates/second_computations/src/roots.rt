@@ -5,8 +5,10 @@ use crate::rows::{lines_of, stored};
 use crate::second_root::{leaf_of, second_root};
 use merkle::Tree;
 use merkle::hashing::hash_leaf;
+use rollback::Dirty;
 use std::alloc::Global;
 use std::thread::Threads;
+use tpcc_rows::codes::LEAVES;
 
 const WAREHOUSE_AND_DISTRICT: &str = "\
 10,1,1,1
@@ -124,6 +126,44 @@ fn show_random<R: Threads + Sync + Print>(rt: &R, alloc: Global) -> Option<()> {
     Some(())
 }
 
+/// All leaves.
+fn all_leaves() -> Dirty {
+    let mut leaves = Dirty::new();
+    for n in 0..LEAVES {
+        leaves.add(n);
+    }
+    leaves
+}
+
+/// Whether a tree without rows has the root of these, once all its leaves are rehashed on at most so many threads.
+fn agrees_when_refreshed<R: Threads + Sync>(
+    rt: &R,
+    alloc: Global,
+    lines: &[&str],
+    threads: usize,
+) -> Option<bool> {
+    let mut tree = Tree::build(rt, alloc, &stored(alloc, &[])?).ok()?;
+    tree.refresh(rt, &stored(alloc, lines)?, &all_leaves(), threads);
+    Some(tree.root() == second_root(alloc, lines)?)
+}
+
+fn show_refreshed<R: Threads + Sync + Print>(rt: &R, alloc: Global) -> Option<()> {
+    let text = random_rows(alloc, &mut Dice { state: 4 }, 400)?;
+    let lines = lines_of(alloc, &text)?;
+    let mut agreeing = 0u32;
+    for threads in 1..9 {
+        let agrees = agrees_when_refreshed(rt, alloc, &lines, threads)?;
+        agreeing = agreeing.saturating_add(u32::from(agrees));
+    }
+    print_agreeing(
+        rt,
+        "roots once all leaves are rehashed on 1 to 8 threads",
+        agreeing,
+        8,
+    );
+    Some(())
+}
+
 pub fn show<R: Threads + Sync + Print>(rt: &R, alloc: Global) -> Option<()> {
     let no_rows = stored(alloc, &[])?;
     print_hash(rt, "hash of an empty leaf", &hash_leaf(no_rows.page(0)));
@@ -131,5 +171,6 @@ pub fn show<R: Threads + Sync + Print>(rt: &R, alloc: Global) -> Option<()> {
         show_chosen(rt, alloc, name, text)?;
     }
     show_long_leaf(rt, alloc, &lines_of(alloc, &long_leaf(alloc)?)?)?;
-    show_random(rt, alloc)
+    show_random(rt, alloc)?;
+    show_refreshed(rt, alloc)
 }

@@ -1,5 +1,5 @@
 use Rattle.std.proofs.Common.{◌+◌, ◌*◌, ◌≤◌, arith, ◌∙◌}
-use Rattle.tpcc_rows.specs.declared.codes.TheConstants.{LEAVES}
+use Rattle.merkle.specs.declared.marks.TheConstants.{BRANCH_LEAVES}
 use Rattle.merkle.proofs.Joins.{width_le, wide}
 use Rattle.merkle.proofs.alike.+fill_alike.Goals as goal
 
@@ -14,5 +14,5 @@ fill-requires-2-clause-high t c = let small = width_le c.args.height c.args.low 
 
 pub returns-clause-leaves : goal.returns-clause-leaves
 returns-clause-leaves t c = λ n small.
-    let half : 2 * c.args.low ≤ LEAVES = wide c.args.height c.args.low c.if-height-eq0.false c.requires.width in
-    c.fill-2.ensures.above (LEAVES + n) (omega (arith, half)) ∙ c.fill_alike-below.ensures.leaves n small
+    let half : 2 * c.args.low ≤ BRANCH_LEAVES = wide c.args.height c.args.low c.if-height-eq0.false c.requires.width in
+    c.fill-2.ensures.above (BRANCH_LEAVES + n) (omega (arith, half)) ∙ c.fill_alike-below.ensures.leaves n small

@@ -1,32 +1,35 @@
-use Rattle.std.proofs.Common.{◌+◌, ◌-◌, ◌≡◌, ℕ, Bool, arith, ap, ◌∙◌}
+use Rattle.std.proofs.Common.{◌≢◌, ◌<◌, arith, ◌∙◌}
+use Rattle.std.proofs.lemmas.List.{length-set, length-take-le, take_more_set}
 use Rattle.tpcc_rows.specs.declared.codes.TheConstants.{LEAVES}
-use Rattle.bit_sets.specs.BitSets.{has_bit}
-use Rattle.merkle.specs.Marking.{IsNext}
-use Rattle.merkle.proofs.Placing.{gathered-next, gathered-to}
+use Rattle.rollback.specs.Marks.{is_dirty}
+use Rattle.merkle.proofs.Placing.{gathered-next, gathered-to, up-to}
 use Rattle.merkle.proofs.jobs.gather_leaves.Goals as goal
 
-pub loop-place-preserved : goal.loop-place-preserved
-loop-place-preserved c =
-    let before = c.loop-place.invariant in
-    let words = c.args.marks.now.words in
-    let test : ℕ → Bool = λ n. has_bit words (LEAVES + n) in
-    let found = c.in-Some.ensures.some in
-    let low = found.1.low in
-    let n : ℕ = c.in-Some.place - LEAVES in
-    let is : LEAVES + n ≡ c.in-Some.place = omega (arith, low) in
-    let next : IsNext test c.loop-place.next n = record {
-      low = omega (arith, low);
-      here = ap (has_bit words) is ∙ found.1.here;
-      before = λ k l h. found.1.before (LEAVES + k) (omega (arith, l)) (omega (arith, h, is));
-    } in
+pub loop-next-preserved-then-n-end : goal.loop-next-preserved-then-n-end
+loop-next-preserved-then-n-end c =
+    let before = c.loop-next.invariant in
     record {
-      within = omega (arith, found.0);
-      room = omega (arith, c.push_reserved.ensures.capacity, before.room);
-      gathered = gathered-next test 0 c.loop-place.next n c.loop-place.jobs.items c.push_reserved.new.self.items c.at.result c.at.ensures c.push_reserved.ensures.items next before.gathered;
+      long = before.long;
+      few = before.few;
+      high = omega arith;
+      gathered = gathered-to (λ n. n < LEAVES) (is_dirty c.args.dirty.now) c.args.from c.loop-next.next c.args.end _ before.high
+          (up-to (λ n. n < LEAVES) (is_dirty c.args.dirty.now) c.loop-next.next c.next_dirty-n.result c.args.end c.if-n-end.true c.next_dirty-n.ensures.before) before.gathered;
     }
 
-pub returns-clause-marked : goal.returns-clause-marked
-returns-clause-marked c =
-    let before = c.loop-place.invariant in
-    let words = c.args.marks.now.words in
-    λ n small. (gathered-to (λ n. has_bit words (LEAVES + n)) 0 c.loop-place.next LEAVES c.loop-place.jobs.items before.within (λ k l h. c.first_from.ensures.none c.in_default.is (LEAVES + k) (omega (arith, l)) (omega (arith, h))) before.gathered).found n (omega arith) small
+pub loop-next-preserved : goal.loop-next-preserved
+loop-next-preserved c =
+    let before = c.loop-next.invariant in
+    let n = c.next_dirty-n.result in
+    let small : n < c.args.end = let ne : n ≢ c.args.end = c.if-n-end.false in omega (arith, ne, c.next_dirty-n.ensures.high) in
+    record {
+      long = length-set c.loop-next.jobs c.loop-next.count c.at.result ∙ before.long;
+      few = omega (arith, c.if-count-lt-MOST_JOBS.true);
+      high = omega (arith, small);
+      gathered = gathered-next (λ n. n < LEAVES) (is_dirty c.args.dirty.now) c.args.from c.loop-next.next n _ _ c.at.result c.at.ensures
+          (take_more_set c.loop-next.jobs c.loop-next.count c.at.result (omega (arith, c.if-count-lt-MOST_JOBS.true, before.long))) (c.next_dirty-n.ensures.here small) before.gathered;
+    }
+
+pub returns-else-count-lt-MOST_JOBS-clause-on : goal.returns-else-count-lt-MOST_JOBS-clause-on
+returns-else-count-lt-MOST_JOBS-clause-on c =
+    let before = c.loop-next.invariant in
+    (omega (arith, before.gathered.few, length-take-le c.loop-next.count c.loop-next.jobs (omega (arith, before.few, before.long)), c.if-count-lt-MOST_JOBS.false), before.high)

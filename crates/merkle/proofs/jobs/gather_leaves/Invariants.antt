@@ -1,16 +1,18 @@
-use Rattle.std.proofs.Common.{◌≤◌, ◌+◌, ◌-◌, vec_capacity}
+use Rattle.std.proofs.Common.{◌≡◌, ◌-◌, ◌≤◌, ◌<◌, length, take}
 use Rattle.tpcc_rows.specs.declared.codes.TheConstants.{LEAVES}
-use Rattle.bit_sets.specs.BitSets.{has_bit}
-use Rattle.merkle.proofs.Placing.{IsGathered}
+use Rattle.merkle.specs.Jobs.{AreGathered}
+use Rattle.merkle.specs.declared.jobs.TheConstants.{MOST_JOBS}
+use Rattle.rollback.specs.Marks.{is_dirty}
 use Rattle.merkle.proofs.jobs.gather_leaves.Given as goal
 
--- the jobs are at the marked leaves before the next one
-abbrev pub invariant-loop-place : goal.invariant-loop-place
-invariant-loop-place l = record {
-  within : l.next ≤ LEAVES;
-  room : LEAVES ≤ vec_capacity l.jobs;
-  gathered : IsGathered (λ n. has_bit l.fn.marks.words (LEAVES + n)) 0 l.next l.jobs.items;
+-- the jobs are at the dirty leaves before the next one
+abbrev pub invariant-loop-next : goal.invariant-loop-next
+invariant-loop-next l = record {
+  long : length l.jobs ≡ MOST_JOBS;
+  few : l.count ≤ MOST_JOBS;
+  high : l.next ≤ l.end;
+  gathered : AreGathered (λ n. n < LEAVES) (is_dirty l.dirty) l.from l.next (take l.count l.jobs);
 }
 
-abbrev pub decreases-loop-place : goal.decreases-loop-place
-decreases-loop-place l = LEAVES - l.next
+abbrev pub decreases-loop-next : goal.decreases-loop-next
+decreases-loop-next l = l.end - l.next

@@ -1,34 +1,54 @@
-use Rattle.std.proofs.Common.{arith, sym, ◌∙◌}
+use Rattle.std.proofs.Common.{◌≢◌, ◌<◌, ◌+◌, arith, set, sym, take, ◌∙◌}
+use Rattle.std.proofs.lemmas.List.{length-set, length-take-le, take_more_set}
 use Rattle.bit_sets.specs.BitSets.{has_bit}
-use Rattle.merkle.specs.Marking.{IsNext, is_above}
-use Rattle.merkle.proofs.Placing.{gathered-next, gathered-to, marked-next, same-above}
+use Rattle.merkle.specs.Marking.{IsNext, IsNone, is_above}
+use Rattle.merkle.specs.Nodes.{IsAtLevel}
+use Rattle.merkle.proofs.Placing.{gathered-next, gathered-to, marked-next, same-above, up-to}
 use Rattle.merkle.proofs.jobs.gather_nodes.Goals as goal
 
-pub loop-i-preserved : goal.loop-i-preserved
-loop-i-preserved c =
-    let before = c.loop-i.invariant in
+pub loop-next-preserved-then-i-end : goal.loop-next-preserved-then-i-end
+loop-next-preserved-then-i-end c =
+    let before = c.loop-next.invariant in
+    let level = IsAtLevel c.args.low c.args.high in
     let first = c.args.marks.now.words in
-    let marks = c.loop-i.marks.words in
-    let jobs = c.loop-i.jobs.items in
-    let more = c.push_reserved.ensures.items in
-    let found = c.in-Some.ensures.some in
-    let same = same-above (is_above first) (has_bit marks) (has_bit first) jobs c.args.low c.loop-i.next before.gathered before.marked in
-    let next : IsNext (is_above first) c.loop-i.next c.in-Some.i = record {
-      low = found.1.low;
-      here = sym (same c.in-Some.i found.1.low) ∙ found.1.here;
-      before = λ k l h. sym (same k l) ∙ found.1.before k l h;
-    } in
+    let same = same-above c.loop-next.marks.words first (take c.loop-next.count c.loop-next.jobs) c.args.low c.args.high c.args.from c.loop-next.next (is_above first) c.requires.low.1 c.requires.high before.gathered before.marked in
+    let none : IsNone level (is_above first) c.loop-next.next c.next_above-i.result = λ k l h at_level. sym (same k at_level) ∙ c.next_above-i.ensures.before k l h at_level in
     record {
-      within = omega (arith, found.0);
-      room = omega (arith, c.push_reserved.ensures.capacity, before.room);
-      gathered = gathered-next (is_above first) c.args.low c.loop-i.next c.in-Some.i jobs c.push_reserved.new.self.items c.at.result c.at.ensures more next before.gathered;
-      marked = marked-next (has_bit first) (has_bit marks) (has_bit c.add.new.self.words) jobs c.push_reserved.new.self.items c.at.result c.in-Some.i c.at.ensures more c.add.ensures before.marked;
+      long = before.long;
+      few = before.few;
+      high = omega arith;
+      gathered = gathered-to level (is_above first) c.args.from c.loop-next.next c.args.end _ before.high (up-to level (is_above first) c.loop-next.next c.next_above-i.result c.args.end c.if-i-end.true none) before.gathered;
+      marked = before.marked;
     }
 
-pub returns-clause-above : goal.returns-clause-above
-returns-clause-above c =
-    let before = c.loop-i.invariant in
+pub loop-next-preserved : goal.loop-next-preserved
+loop-next-preserved c =
+    let before = c.loop-next.invariant in
+    let level = IsAtLevel c.args.low c.args.high in
     let first = c.args.marks.now.words in
-    let jobs = c.loop-i.jobs.items in
-    let same = same-above (is_above first) (has_bit c.loop-i.marks.words) (has_bit first) jobs c.args.low c.loop-i.next before.gathered before.marked in
-    λ i low high. (gathered-to (is_above first) c.args.low c.loop-i.next c.args.high jobs before.within (λ k l h. sym (same k l) ∙ c.next_above.ensures.none c.in_default.is k l h) before.gathered).found i low high
+    let marks = c.loop-next.marks.words in
+    let jobs = take c.loop-next.count c.loop-next.jobs in
+    let after = set c.loop-next.jobs c.loop-next.count c.at.result in
+    let more = take_more_set c.loop-next.jobs c.loop-next.count c.at.result (omega (arith, c.if-count-lt-MOST_JOBS.true, before.long)) in
+    let i = c.next_above-i.result in
+    let small : i < c.args.end = let ne : i ≢ c.args.end = c.if-i-end.false in omega (arith, ne, c.next_above-i.ensures.high) in
+    let found = c.next_above-i.ensures.here small in
+    let same = same-above marks first jobs c.args.low c.args.high c.args.from c.loop-next.next (is_above first) c.requires.low.1 c.requires.high before.gathered before.marked in
+    let next : IsNext level (is_above first) c.loop-next.next i = record {
+      low = found.low;
+      is = found.is;
+      here = sym (same i found.is) ∙ found.here;
+      before = λ k l h at_level. sym (same k at_level) ∙ found.before k l h at_level;
+    } in
+    record {
+      long = length-set c.loop-next.jobs c.loop-next.count c.at.result ∙ before.long;
+      few = omega (arith, c.if-count-lt-MOST_JOBS.true);
+      high = omega (arith, small);
+      gathered = gathered-next level (is_above first) c.args.from c.loop-next.next i jobs (take (c.loop-next.count + 1) after) c.at.result c.at.ensures more next before.gathered;
+      marked = marked-next (has_bit first) (has_bit marks) (has_bit c.add.new.self.words) jobs (take (c.loop-next.count + 1) after) c.at.result i c.at.ensures more c.add.ensures before.marked;
+    }
+
+pub returns-else-count-lt-MOST_JOBS-clause-on : goal.returns-else-count-lt-MOST_JOBS-clause-on
+returns-else-count-lt-MOST_JOBS-clause-on c =
+    let before = c.loop-next.invariant in
+    (omega (arith, before.gathered.few, length-take-le c.loop-next.count c.loop-next.jobs (omega (arith, before.few, before.long)), c.if-count-lt-MOST_JOBS.false), before.high)

@@ -1,17 +1,17 @@
-use Rattle.std.proofs.Common.{arith}
-use Rattle.rollback.specs.Marks.{is_dirty}
+use Rattle.std.proofs.Common.{◌≢◌, ◌<◌, arith}
 use Rattle.bit_sets.specs.BitSets.{has_bit}
-use Rattle.merkle.proofs.Marking.{all-marked, marked-more}
+use Rattle.rollback.specs.Marks.{is_dirty}
+use Rattle.merkle.proofs.Marking.{marked-more}
 use Rattle.merkle.proofs.marks.mark_dirty.Goals as goal
 
-pub loop-n-preserved : goal.loop-n-preserved
-loop-n-preserved c =
-    let found = c.in-Some.ensures.some in
+pub loop-next-preserved : goal.loop-next-preserved
+loop-next-preserved c =
+    let n = c.next_dirty-n.result in
+    let before = c.loop-next.invariant in
+    let small : n < c.args.end = let ne : n ≢ c.args.end = c.if-n-end.false in omega (arith, ne, c.next_dirty-n.ensures.high) in
+    let found = c.next_dirty-n.ensures.here small in
     record {
-      within = omega (arith, found.0);
-      marked = marked-more (is_dirty c.args.dirty.now) (has_bit c.loop-n.marks.words) (has_bit c.add.new.self.words) c.loop-n.next c.in-Some.n
-          (record { low = found.1.low; here = found.1.here; before = found.1.before }) c.add.ensures c.loop-n.invariant.marked;
+      low = omega (arith, before.low, found.low);
+      high = omega (arith, small);
+      marked = marked-more (is_dirty c.args.dirty.now) (has_bit c.loop-next.marks.words) (has_bit c.add.new.self.words) c.args.first c.loop-next.next n c.leaf_place.result before.low found.is found c.leaf_place.ensures c.add.ensures before.marked;
     }
-
-pub returns : goal.returns
-returns c = all-marked (is_dirty c.args.dirty.now) (has_bit c.loop-n.marks.words) c.loop-n.next c.loop-n.invariant.marked (c.first_from.ensures.none c.in_default.is)

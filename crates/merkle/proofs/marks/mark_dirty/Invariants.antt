@@ -1,15 +1,15 @@
-use Rattle.std.proofs.Common.{◌≤◌, ◌-◌}
-use Rattle.tpcc_rows.specs.declared.codes.TheConstants.{LEAVES}
-use Rattle.rollback.specs.Marks.{is_dirty}
+use Rattle.std.proofs.Common.{◌-◌, ◌≤◌}
 use Rattle.bit_sets.specs.BitSets.{has_bit}
+use Rattle.rollback.specs.Marks.{is_dirty}
 use Rattle.merkle.proofs.Marking.{AreMarkedTo}
 use Rattle.merkle.proofs.marks.mark_dirty.Given as goal
 
-abbrev pub invariant-loop-n : goal.invariant-loop-n
-invariant-loop-n l = record {
-  within : l.next ≤ LEAVES;
-  marked : AreMarkedTo (is_dirty l.fn.dirty) (has_bit l.marks.words) l.next;
+abbrev pub invariant-loop-next : goal.invariant-loop-next
+invariant-loop-next l = record {
+  low : l.first ≤ l.next;
+  high : l.next ≤ l.end;
+  marked : AreMarkedTo (is_dirty l.dirty) (has_bit l.marks.words) l.first l.next;
 }
 
-abbrev pub decreases-loop-n : goal.decreases-loop-n
-decreases-loop-n l = LEAVES - l.next
+abbrev pub decreases-loop-next : goal.decreases-loop-next
+decreases-loop-next l = l.end - l.next

@@ -1,0 +1,126 @@
+//! Rehashing parts of a tree, on new threads.
+ghost use Rattle.std.specs.Prelude.{◌≡◌, ◌<◌, ◌≤◌, ◌+◌, ◌*◌, ◌/◌, length};
+ghost use denote.Param.Send.{IsSync};
+ghost use Rattle.merkle.specs.Nodes.{AreBranches, AreRefreshed, AreWhole};
+ghost use Rattle.tpcc_rows.specs.declared.codes.TheConstants.{LEAVES};
+
+use crate::helped::Helped;
+use crate::jobs::{Job, MOST_JOBS};
+use crate::leaves::{Change, rehash};
+use crate::levels::rejoin;
+use crate::marks::{BRANCH_NODES, Marks, mark_dirty};
+use rayon::prelude::par_chunks_mut_for_each;
+use std::alloc::Global;
+use std::thread::{Threads, join_mut};
+
+/// Rehashes the dirty leaves of branches from leaf `first` on, and all nodes above them. Not inlined, since its frame has the marks
+/// and callers recurse.
+#[inline(never)]
+pub(crate) fn refresh_part(
+    nodes: &mut [[u8; 32]],
+    first: usize,
+    change: &Change<'_, '_>,
+    helped: &mut Helped,
+)
+    requires branches { AreBranches nodes.old }
+    requires small { 2 * first + length nodes.old ≤ 2 * LEAVES }
+    ensures { AreRefreshed change.now.dirty.now change.now.leaves.store.now.rows first nodes.old nodes.new }
+{
+    let mut marks = Marks::new();
+    mark_dirty(&mut marks, change.dirty, first, first + nodes.len() / 2);
+    let mut jobs = [Job::at(0); MOST_JOBS];
+    rehash(nodes, first, change, &mut jobs, helped);
+    rejoin(
+        nodes,
+        change.leaves.second_blocks,
+        &mut marks,
+        &mut jobs,
+        helped,
+    );
+}
+
+/// The same without helpers.
+fn refresh_alone(nodes: &mut [[u8; 32]], first: usize, change: &Change<'_, '_>, alloc: Global)
+    requires branches { AreBranches nodes.old }
+    requires small { 2 * first + length nodes.old ≤ 2 * LEAVES }
+    ensures { AreRefreshed change.now.dirty.now change.now.leaves.store.now.rows first nodes.old nodes.new }
+{
+    let mut helped = Helped::alone(alloc);
+    refresh_part(nodes, first, change, &mut helped);
+}
+
+/// The same for two parts, the first on a new thread, if one can be started.
+#[cycle(shares)]
+fn do_parts<R: Threads + Sync>(
+    rt: &R,
+    alloc: Global,
+    change: &Change<'_, '_>,
+    size: usize,
+    first: usize,
+    front: &mut [[u8; 32]],
+    back: &mut [[u8; 32]],
+)
+    requires size { (0 < size) × AreWhole size }
+    requires small { 2 * first + length front.old + length back.old ≤ 2 * LEAVES }
+    requires front { AreBranches front.old }
+    requires back { AreBranches back.old }
+    ensures front { AreRefreshed change.now.dirty.now change.now.leaves.store.now.rows first front.old front.new }
+    ensures back { AreRefreshed change.now.dirty.now change.now.leaves.store.now.rows (first + length front.old / 2) back.old back.new }
+{
+    let next = first + front.len() / 2;
+    let mut here = ||
+        requires { (2 * first + length front.now ≤ 2 * LEAVES) × AreBranches front.now }
+        ensures { AreRefreshed change.entry.now.dirty.now change.entry.now.leaves.store.now.rows first front.entry.now front.exit.now }
+    { refresh_alone(front, first, change, alloc) };
+    let mut there = ||
+        requires { IsSync R.row × (0 < size) × AreWhole size × (2 * next + length back.now ≤ 2 * LEAVES) × AreBranches back.now }
+        ensures { AreRefreshed change.entry.now.dirty.now change.entry.now.leaves.store.now.rows next back.entry.now back.exit.now }
+    { refresh_by::<R>(rt, alloc, change, size, next, back) };
+    join_mut(rt, &mut here, &mut there);
+}
+
+/// The same, with `size` places per thread. The calling thread starts all others, since threads that start each other often share a
+/// processor.
+#[cycle(shares)]
+pub(crate) fn refresh_by<R: Threads + Sync>(
+    rt: &R,
+    alloc: Global,
+    change: &Change<'_, '_>,
+    size: usize,
+    first: usize,
+    nodes: &mut [[u8; 32]],
+)
+    requires size { (0 < size) × AreWhole size }
+    requires small { 2 * first + length nodes.old ≤ 2 * LEAVES }
+    requires branches { AreBranches nodes.old }
+    ensures { AreRefreshed change.now.dirty.now change.now.leaves.store.now.rows first nodes.old nodes.new }
+{
+    if nodes.len() <= size {
+        refresh_alone(nodes, first, change, alloc);
+        return;
+    }
+    let (front, back) = nodes.split_at_mut(size);
+    do_parts::<R>(rt, alloc, change, size, first, front, back);
+}
+
+/// The same for a whole tree, on threads of `rayon`.
+pub(crate) fn refresh_all<R: Threads + Sync>(
+    rt: &R,
+    alloc: Global,
+    change: &Change<'_, '_>,
+    nodes: &mut [[u8; 32]],
+)
+    requires full { length nodes.old ≡ 2 * LEAVES }
+    requires branches { AreBranches nodes.old }
+    ensures { AreRefreshed change.now.dirty.now change.now.leaves.store.now.rows 0 nodes.old nodes.new }
+{
+    par_chunks_mut_for_each(
+        rt,
+        nodes,
+        BRANCH_NODES,
+        |place: usize, branch: &mut [[u8; 32]]|
+            requires { (place + length branch.old ≤ 2 * LEAVES) × AreWhole place × AreBranches branch.old }
+            ensures { AreRefreshed change.entry.now.dirty.now change.entry.now.leaves.store.now.rows (place / 2) branch.old branch.new }
+        { refresh_alone(branch, place / 2, change, alloc) },
+    );
+}
