@@ -33,6 +33,16 @@ impl Log {
         }
     }
 
+    /// No changes, in the memory of these.
+    pub(crate) fn emptied(mut self) -> Log
+        ensures olds { result.olds.items ≡ [] }
+        ensures removals { result.removals ≡ 0 }
+    {
+        self.olds.clear();
+        self.removals = 0;
+        self
+    }
+
     /// How many of the changes were removals.
     pub(crate) fn removals(&self) -> usize
         ensures { result ≡ self.now.removals }

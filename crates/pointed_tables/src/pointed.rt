@@ -19,6 +19,7 @@ use rollback::{Dirty, NoSuchPoint, POINTS, PointsFull};
 use row_tables::store::RowTables;
 use std::alloc::Global;
 use std::marker::Model;
+use std::mem;
 use tpcc_rows::codes::leaf;
 use tpcc_rows::delta::Delta;
 use tpcc_rows::id::{CustomerId, DistrictId, ItemId, LineNumber, OrderId, WarehouseId};
@@ -37,6 +38,8 @@ pub struct PointedTables {
     alloc: Global,
     store: RoomyTables,
     points: ArrayVec<Log, POINTS, Global>,
+    /// Whose memory the next point's log takes over.
+    spare: Log,
     dirty: Dirty,
 }
 
@@ -105,6 +108,7 @@ impl PointedTables {
             alloc,
             store: RoomyTables::new(alloc, tables),
             points: ArrayVec::new_in(alloc),
+            spare: Log::new(alloc),
             dirty: Dirty::new(),
         }
     }
@@ -320,7 +324,8 @@ impl PointedTables {
         ensures rows { self.new.rows ≡ self.old.rows }
         ensures dirty { self.new.dirty ≡ self.old.dirty }
     {
-        self.points.push(Log::new(self.alloc));
+        let spare = mem::replace(&mut self.spare, Log::new(self.alloc));
+        self.points.push(spare.emptied());
     }
 
     /// The present rows become the newest point, without allocating.
@@ -347,6 +352,7 @@ impl PointedTables {
     {
         let log = self.points.remove(0);
         self.store.release(log.removals());
+        self.spare = log.emptied();
     }
 
     /// Forgets the oldest point, without allocating.

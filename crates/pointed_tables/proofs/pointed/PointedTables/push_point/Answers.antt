@@ -14,10 +14,10 @@ push-requires c =
 pub invariant_of-self : goal.invariant_of-self
 invariant_of-self c =
     subst (λ ls. IsPointed ls c.self.inside.store.rows c.self.inside.store.room) (sym c.push.ensures.items)
-    (pointed-mark c.new.result c.self.inside.store.rows c.new.ensures.olds c.new.ensures.removals c.self.inside.points.items c.self.inside.store.room c.self.invariant)
+    (pointed-mark c.emptied.result c.self.inside.store.rows c.emptied.ensures.olds c.emptied.ensures.removals c.self.inside.points.items c.self.inside.store.room c.self.invariant)
 
 pub returns-clause-points : goal.returns-clause-points
 returns-clause-points c =
     ap (λ ls. points_of ls c.self.inside.store.rows) c.push.ensures.items
-    ∙ points-mark c.new.result c.self.inside.store.rows c.new.ensures.olds c.new.ensures.removals c.self.inside.points.items
+    ∙ points-mark c.emptied.result c.self.inside.store.rows c.emptied.ensures.olds c.emptied.ensures.removals c.self.inside.points.items
     ∙ ap (λ (p : Pointed). p.points ++ p.rows ∷ []) c.self.view_is
