@@ -7,7 +7,7 @@ ghost use Rattle.merkle.specs.Nodes.{AreWhole, IsAtLevel, at};
 ghost use Rattle.merkle.specs.declared.marks.TheConstants.{BRANCH_LEAVES};
 ghost use Rattle.rollback.specs.Marks.{is_dirty};
 
-use crate::marks::{Marks, next_above, next_dirty};
+use crate::marks::{Level, Marks, next_above, next_dirty};
 use rollback::Dirty;
 use tpcc_rows::codes::LEAVES;
 
@@ -64,30 +64,27 @@ pub(crate) fn gather_leaves(
     (count, next)
 }
 
-/// Gathers the nodes of the level from `low` to before `high` that are above a mark, from `from` to before `end`, as jobs, in order,
-/// up to as many as there is room for; they are marked too. Returns how many there are, and where to go on.
+/// Gathers the nodes of the level that are above a mark, from `from` to before `end`, as jobs, in order, up to as many as there is
+/// room for; they are marked too. Returns how many there are, and where to go on.
 pub(crate) fn gather_nodes(
     jobs: &mut [Job; MOST_JOBS],
     marks: &mut Marks,
-    low: usize,
-    high: usize,
+    level: Level,
     from: usize,
     end: usize,
 ) -> (usize, usize)
-    requires low { (low ≤ high) × (high ≤ 2 * low) }
-    requires high { high ≤ BRANCH_LEAVES }
     requires from { from < end }
     requires end { end ≤ 2 * LEAVES }
     requires whole { AreWhole end }
     ensures few { result.0 ≤ MOST_JOBS }
     ensures on { (from < result.1) × (result.1 ≤ end) }
-    ensures gathered { AreGathered (IsAtLevel low high) (is_above marks.old.words) from result.1 (take result.0 jobs.new) }
+    ensures gathered { AreGathered (IsAtLevel level.low level.high) (is_above marks.old.words) from result.1 (take result.0 jobs.new) }
     ensures marks { (i : ℕ) → has_bit marks.new.words i ≡ (has_place (take result.0 jobs.new) i || has_bit marks.old.words i) }
 {
     let mut count = 0;
     let mut next = from;
     while next < end && count < MOST_JOBS {
-        let i = next_above(marks, low, high, next, end);
+        let i = next_above(marks, level, next, end);
         if i == end {
             next = end;
         } else {

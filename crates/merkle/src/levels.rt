@@ -9,7 +9,7 @@ ghost use Rattle.tpcc_rows.specs.declared.codes.TheConstants.{LEAVES};
 use crate::hashing::{NODE_BYTES, encode_node, join};
 use crate::helped::Helped;
 use crate::jobs::{Job, MOST_JOBS, gather_nodes, put_hashes};
-use crate::marks::{BRANCH_LEAVES, BRANCH_NODES, Marks};
+use crate::marks::{BRANCH_LEAVES, BRANCH_NODES, Level, Marks};
 use crate::places::{Encodes, Places};
 use sha2_lanes::SecondBlocks;
 use tpcc_rows::row_buf::ByteBuf;
@@ -60,29 +60,26 @@ impl Encodes<NODE_BYTES> for InnerNodes<'_> {
     }
 }
 
-/// Joins again the nodes from `from` on of the level from `low` to before `high` that are above a mark, up to as many as are hashed
-/// at once. Returns where to go on.
+/// Joins again the nodes of the level from `from` on that are above a mark, up to as many as are hashed at once. Returns where to go
+/// on.
 fn rejoin_some(
     nodes: &mut [[u8; 32]],
     second_blocks: &SecondBlocks,
     marks: &mut Marks,
     jobs: &mut [Job; MOST_JOBS],
     helped: &mut Helped,
-    low: usize,
-    high: usize,
+    level: Level,
     from: usize,
 ) -> usize
     requires small { length nodes.old ≤ 2 * LEAVES }
-    requires low { (1 ≤ low) × (low ≤ high) × (high ≤ 2 * low) }
-    requires high { high ≤ BRANCH_LEAVES }
     requires from { from < length nodes.old }
-    requires to { AreJoinedTo low high from nodes.old (has_bit marks.old.words) }
+    requires to { AreJoinedTo level.low level.high from nodes.old (has_bit marks.old.words) }
     ensures on { (from < result) × (result ≤ length nodes.new) }
     ensures len { length nodes.new ≡ length nodes.old }
-    ensures to { AreJoinedTo low high result nodes.new (has_bit marks.new.words) }
+    ensures to { AreJoinedTo level.low level.high result nodes.new (has_bit marks.new.words) }
     ensures leaves { (i : ℕ) → BRANCH_LEAVES ≤ in_branch i → at nodes.new i ≡ at nodes.old i }
 {
-    let (count, next) = gather_nodes(jobs, marks, low, high, from, nodes.len());
+    let (count, next) = gather_nodes(jobs, marks, level, from, nodes.len());
     let jobs = &mut jobs[..count];
     let inner = InnerNodes {
         nodes,
@@ -93,27 +90,24 @@ fn rejoin_some(
     next
 }
 
-/// Joins again the nodes of the level from `low` to before `high` that are above a mark.
+/// Joins again the nodes of the level that are above a mark.
 fn rejoin_level(
     nodes: &mut [[u8; 32]],
     second_blocks: &SecondBlocks,
     marks: &mut Marks,
     jobs: &mut [Job; MOST_JOBS],
     helped: &mut Helped,
-    low: usize,
-    high: usize,
+    level: Level,
 )
     requires small { length nodes.old ≤ 2 * LEAVES }
-    requires low { (1 ≤ low) × (low ≤ high) × (high ≤ 2 * low) }
-    requires high { high ≤ BRANCH_LEAVES }
-    requires to { AreJoinedTo low high 0 nodes.old (has_bit marks.old.words) }
+    requires to { AreJoinedTo level.low level.high 0 nodes.old (has_bit marks.old.words) }
     ensures len { length nodes.new ≡ length nodes.old }
-    ensures to { AreJoinedTo low high (length nodes.new) nodes.new (has_bit marks.new.words) }
+    ensures to { AreJoinedTo level.low level.high (length nodes.new) nodes.new (has_bit marks.new.words) }
     ensures leaves { (i : ℕ) → BRANCH_LEAVES ≤ in_branch i → at nodes.new i ≡ at nodes.old i }
 {
     let mut next = 0;
     while next < nodes.len() {
-        next = rejoin_some(nodes, second_blocks, marks, jobs, helped, low, high, next);
+        next = rejoin_some(nodes, second_blocks, marks, jobs, helped, level, next);
     }
 }
 
@@ -134,7 +128,14 @@ pub(crate) fn rejoin(
     let mut high = BRANCH_LEAVES;
     while high > 1 {
         let low = high - high / 2;
-        rejoin_level(nodes, second_blocks, marks, jobs, helped, low, high);
+        rejoin_level(
+            nodes,
+            second_blocks,
+            marks,
+            jobs,
+            helped,
+            Level { low, high },
+        );
         high = low;
     }
 }

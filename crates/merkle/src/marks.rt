@@ -3,6 +3,7 @@ ghost use Rattle.std.specs.Prelude.{◌≡◌, ◌+◌, ◌*◌, ◌<◌, ◌≤
 ghost use Rattle.bit_sets.specs.BitSets.{has_bit};
 ghost use Rattle.merkle.specs.Marking.{IsNext, IsNone, is_above};
 ghost use Rattle.merkle.specs.Nodes.{AreWhole, IsAtLevel, leaf_place};
+ghost use Rattle.merkle.specs.declared.marks.TheConstants.{BRANCH_LEAVES};
 ghost use Rattle.rollback.specs.Marks.{is_dirty};
 
 use bit_sets::{Bits, WORD_BITS};
@@ -79,22 +80,32 @@ fn next_in_branch(marks: &Marks, branch: usize, from: usize, high: usize) -> Opt
     if node < high { Some(node) } else { None }
 }
 
-/// The first node from `from` on of the level from `low` to before `high` with a marked child, or `end` if there is none before.
-pub(crate) fn next_above(marks: &Marks, low: usize, high: usize, from: usize, end: usize) -> usize
-    requires low { low ≤ high }
-    requires high { high ≤ BRANCH_LEAVES }
+/// A level of nodes: those from `low` to before `high` in each branch.
+#[derive(Clone, Copy)]
+pub(crate) struct Level {
+    pub(crate) low: usize,
+    pub(crate) high: usize,
+    pub(crate) ghost some: { 1 ≤ low },
+    pub(crate) ghost rising: { low ≤ high },
+    pub(crate) ghost apart: { high ≤ 2 * low },
+    pub(crate) ghost inside: { high ≤ BRANCH_LEAVES },
+}
+
+/// The first node of the level from `from` on with a marked child, or `end` if there is none before.
+pub(crate) fn next_above(marks: &Marks, level: Level, from: usize, end: usize) -> usize
     requires from { from ≤ end }
     requires end { end ≤ 2 * LEAVES }
     requires whole { AreWhole end }
     ensures low { from ≤ result }
     ensures high { result ≤ end }
-    ensures here { result < end → IsNext (IsAtLevel low high) (is_above marks.now.words) from result }
-    ensures before { IsNone (IsAtLevel low high) (is_above marks.now.words) from result }
+    ensures here { result < end → IsNext (IsAtLevel level.low level.high) (is_above marks.now.words) from result }
+    ensures before { IsNone (IsAtLevel level.low level.high) (is_above marks.now.words) from result }
 {
     let mut branch = from - from % BRANCH_NODES;
     while branch < end {
-        let first = from.clamp(branch + low, branch + high);
-        if let Some(node) = next_in_branch(marks, branch, first, branch + high) {
+        let high = branch + level.high;
+        let first = from.clamp(branch + level.low, high);
+        if let Some(node) = next_in_branch(marks, branch, first, high) {
             return node;
         }
         branch += BRANCH_NODES;

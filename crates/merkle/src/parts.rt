@@ -49,18 +49,25 @@ fn refresh_alone(nodes: &mut [[u8; 32]], first: usize, change: &Change<'_, '_>, 
     refresh_part(nodes, first, change, &mut helped);
 }
 
+/// How a tree is shared out: `size` places a thread.
+#[derive(Drop)]
+pub(crate) struct Sharing<'a, R> {
+    pub(crate) rt: &'a R,
+    pub(crate) alloc: Global,
+    pub(crate) size: usize,
+    pub(crate) ghost some: { 0 < size },
+    pub(crate) ghost whole: { AreWhole size },
+}
+
 /// The same for two parts, the first on a new thread, if one can be started.
-#[cycle(shares)]
+#[cycle(parts)]
 fn do_parts<R: Threads + Sync>(
-    rt: &R,
-    alloc: Global,
+    sharing: &Sharing<'_, R>,
     change: &Change<'_, '_>,
-    size: usize,
     first: usize,
     front: &mut [[u8; 32]],
     back: &mut [[u8; 32]],
 )
-    requires size { (0 < size) × AreWhole size }
     requires small { 2 * first + length front.old + length back.old ≤ 2 * LEAVES }
     requires front { AreBranches front.old }
     requires back { AreBranches back.old }
@@ -68,39 +75,36 @@ fn do_parts<R: Threads + Sync>(
     ensures back { AreRefreshed change.now.dirty.now change.now.leaves.store.now.rows (first + length front.old / 2) back.old back.new }
 {
     let next = first + front.len() / 2;
+    let alloc = sharing.alloc;
     let mut here = ||
         requires { (2 * first + length front.now ≤ 2 * LEAVES) × AreBranches front.now }
         ensures { AreRefreshed change.entry.now.dirty.now change.entry.now.leaves.store.now.rows first front.entry.now front.exit.now }
     { refresh_alone(front, first, change, alloc) };
     let mut there = ||
-        requires { IsSync R.row × (0 < size) × AreWhole size × (2 * next + length back.now ≤ 2 * LEAVES) × AreBranches back.now }
+        requires { IsSync R.row × (2 * next + length back.now ≤ 2 * LEAVES) × AreBranches back.now }
         ensures { AreRefreshed change.entry.now.dirty.now change.entry.now.leaves.store.now.rows next back.entry.now back.exit.now }
-    { refresh_by::<R>(rt, alloc, change, size, next, back) };
-    join_mut(rt, &mut here, &mut there);
+    { refresh_by::<R>(sharing, change, next, back) };
+    join_mut(sharing.rt, &mut here, &mut there);
 }
 
-/// The same, with `size` places per thread. The calling thread starts all others, since threads that start each other often share a
-/// processor.
-#[cycle(shares)]
+/// The same, shared out. The calling thread starts all others, since threads that start each other often share a processor.
+#[cycle(parts)]
 pub(crate) fn refresh_by<R: Threads + Sync>(
-    rt: &R,
-    alloc: Global,
+    sharing: &Sharing<'_, R>,
     change: &Change<'_, '_>,
-    size: usize,
     first: usize,
     nodes: &mut [[u8; 32]],
 )
-    requires size { (0 < size) × AreWhole size }
     requires small { 2 * first + length nodes.old ≤ 2 * LEAVES }
     requires branches { AreBranches nodes.old }
     ensures { AreRefreshed change.now.dirty.now change.now.leaves.store.now.rows first nodes.old nodes.new }
 {
-    if nodes.len() <= size {
-        refresh_alone(nodes, first, change, alloc);
+    if nodes.len() <= sharing.size {
+        refresh_alone(nodes, first, change, sharing.alloc);
         return;
     }
-    let (front, back) = nodes.split_at_mut(size);
-    do_parts::<R>(rt, alloc, change, size, first, front, back);
+    let (front, back) = nodes.split_at_mut(sharing.size);
+    do_parts::<R>(sharing, change, first, front, back);
 }
 
 /// The same for a whole tree, on threads of `rayon`.

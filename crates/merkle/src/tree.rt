@@ -9,7 +9,7 @@ use crate::hashing::join;
 use crate::helped::Helped;
 use crate::leaves::{Change, Leaves, filled_leaves};
 use crate::marks::{BRANCH_NODES, BRANCHES};
-use crate::parts::{refresh_all, refresh_by, refresh_part};
+use crate::parts::{Sharing, refresh_all, refresh_by, refresh_part};
 use hashers::Host;
 use rollback::Dirty;
 use row_store::PointedStore;
@@ -99,7 +99,7 @@ fn refresh_nodes<R: Threads + Sync>(
     ensures { AreRefreshed change.now.dirty.now change.now.leaves.store.now.rows 0 nodes.old nodes.new }
 {
     if let Some(size) = places_a_thread(change, threads) {
-        refresh_by(rt, alloc, change, size, 0, nodes);
+        refresh_by(&Sharing { rt, alloc, size }, change, 0, nodes);
         return;
     }
     helped.use_threads(threads);

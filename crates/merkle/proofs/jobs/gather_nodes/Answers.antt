@@ -9,9 +9,9 @@ use Rattle.merkle.proofs.jobs.gather_nodes.Goals as goal
 pub loop-next-preserved-then-i-end : goal.loop-next-preserved-then-i-end
 loop-next-preserved-then-i-end c =
     let before = c.loop-next.invariant in
-    let level = IsAtLevel c.args.low c.args.high in
+    let level = IsAtLevel c.args.level.low c.args.level.high in
     let first = c.args.marks.now.words in
-    let same = same-above c.loop-next.marks.words first (take c.loop-next.count c.loop-next.jobs) c.args.low c.args.high c.args.from c.loop-next.next (is_above first) c.requires.low.1 c.requires.high before.gathered before.marked in
+    let same = same-above c.loop-next.marks.words first (take c.loop-next.count c.loop-next.jobs) c.args.level.low c.args.level.high c.args.from c.loop-next.next (is_above first) c.args.level.apart c.args.level.inside before.gathered before.marked in
     let none : IsNone level (is_above first) c.loop-next.next c.next_above-i.result = λ k l h at_level. sym (same k at_level) ∙ c.next_above-i.ensures.before k l h at_level in
     record {
       long = before.long;
@@ -24,7 +24,7 @@ loop-next-preserved-then-i-end c =
 pub loop-next-preserved : goal.loop-next-preserved
 loop-next-preserved c =
     let before = c.loop-next.invariant in
-    let level = IsAtLevel c.args.low c.args.high in
+    let level = IsAtLevel c.args.level.low c.args.level.high in
     let first = c.args.marks.now.words in
     let marks = c.loop-next.marks.words in
     let jobs = take c.loop-next.count c.loop-next.jobs in
@@ -33,7 +33,7 @@ loop-next-preserved c =
     let i = c.next_above-i.result in
     let small : i < c.args.end = let ne : i ≢ c.args.end = c.if-i-end.false in omega (arith, ne, c.next_above-i.ensures.high) in
     let found = c.next_above-i.ensures.here small in
-    let same = same-above marks first jobs c.args.low c.args.high c.args.from c.loop-next.next (is_above first) c.requires.low.1 c.requires.high before.gathered before.marked in
+    let same = same-above marks first jobs c.args.level.low c.args.level.high c.args.from c.loop-next.next (is_above first) c.args.level.apart c.args.level.inside before.gathered before.marked in
     let next : IsNext level (is_above first) c.loop-next.next i = record {
       low = found.low;
       is = found.is;

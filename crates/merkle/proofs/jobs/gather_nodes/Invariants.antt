@@ -12,7 +12,7 @@ invariant-loop-next l = record {
   long : length l.jobs ≡ MOST_JOBS;
   few : l.count ≤ MOST_JOBS;
   high : l.next ≤ l.end;
-  gathered : AreGathered (IsAtLevel l.low l.high) (is_above l.fn.marks.words) l.from l.next (take l.count l.jobs);
+  gathered : AreGathered (IsAtLevel l.level.low l.level.high) (is_above l.fn.marks.words) l.from l.next (take l.count l.jobs);
   marked : (k : ℕ) → has_bit l.marks.words k ≡ (has_place (take l.count l.jobs) k || has_bit l.fn.marks.words k);
 }
 

@@ -9,7 +9,7 @@ abbrev pub invariant-loop-next : goal.invariant-loop-next
 invariant-loop-next l = record {
   inside : l.next ≤ length l.nodes;
   len : length l.nodes ≡ length l.fn.nodes;
-  to : AreJoinedTo l.low l.high l.next l.nodes (has_bit l.marks.words);
+  to : AreJoinedTo l.level.low l.level.high l.next l.nodes (has_bit l.marks.words);
   leaves : (i : ℕ) → BRANCH_LEAVES ≤ in_branch i → at l.nodes i ≡ at l.fn.nodes i;
 }
 

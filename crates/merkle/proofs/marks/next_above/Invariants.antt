@@ -7,7 +7,7 @@ use Rattle.merkle.proofs.marks.next_above.Given as goal
 abbrev pub invariant-loop-branch : goal.invariant-loop-branch
 invariant-loop-branch l = record {
   whole : AreWhole l.branch;
-  none : IsNone (IsAtLevel l.low l.high) (is_above l.marks.words) l.from l.branch;
+  none : IsNone (IsAtLevel l.level.low l.level.high) (is_above l.marks.words) l.from l.branch;
 }
 
 abbrev pub decreases-loop-branch : goal.decreases-loop-branch

@@ -2,7 +2,7 @@ use Rattle.std.proofs.Common.{◌+◌, ◌/◌, ◌++◌, ◌%◌, length, ap, r
 use Rattle.merkle.specs.Nodes.{AreRefreshed}
 use Rattle.merkle.specs.declared.marks.TheConstants.{BRANCH_NODES}
 use Rattle.merkle.proofs.Refreshing.{both-refreshed}
-use Rattle.merkle.proofs.parts.+shares.Goals as goal
+use Rattle.merkle.proofs.parts.+parts.Goals as goal
 
 pub refresh_by-returns : goal.refresh_by-returns
 refresh_by-returns g t c =
@@ -13,4 +13,4 @@ refresh_by-returns g t c =
     let new = c.do_parts.new.front ++ c.do_parts.new.back in
     subst (λ old. AreRefreshed dirty rows c.args.first old new) (sym c.split_at_mut-front.ensures.value)
     (both-refreshed dirty rows c.args.first (c.args.first + length a / 2) a b c.do_parts.new.front c.do_parts.new.back refl
-    (ap (λ n. n % BRANCH_NODES) c.split_at_mut-front.ensures.front_len ∙ c.requires.size.1) c.do_parts.ensures.front c.do_parts.ensures.back)
+    (ap (λ n. n % BRANCH_NODES) c.split_at_mut-front.ensures.front_len ∙ c.args.sharing.now.whole) c.do_parts.ensures.front c.do_parts.ensures.back)

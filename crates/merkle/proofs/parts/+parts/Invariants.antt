@@ -1,6 +1,6 @@
 use Prim.Native.Nat.{◌+◌, ◌*◌}
 use Rattle.std.proofs.Common.{length}
-use Rattle.merkle.proofs.parts.+shares.Given as goal
+use Rattle.merkle.proofs.parts.+parts.Given as goal
 
 abbrev pub decreases-refresh_by : goal.decreases-refresh_by
 decreases-refresh_by g l = 4 * length l.nodes.now
