@@ -1,9 +1,9 @@
 -- Joins in a list of branches, and the node that each place holds.
-use Rattle.std.proofs.Common.{◌≡◌, ◌≢◌, inl, inr, ℕ, zero, suc, ◌+◌, ◌-◌, ◌*◌, ◌%◌, ◌<◌, ◌≤◌, ◌||◌, Bool, true, false, cond, List, [], ◌∷◌, length, get_or, refl, sym, ap, subst, ◌∙◌, arith}
+use Rattle.std.proofs.Common.{◌≡◌, ◌≢◌, inl, inr, ℕ, zero, suc, ◌+◌, ◌-◌, ◌*◌, ◌%◌, ◌<◌, ◌≤◌, ◌||◌, Bool, true, false, cond, List, [], ◌∷◌, length, get_or, refl, sym, ap, ◌∙◌, arith}
 use Rattle.std.proofs.lemmas.List.FromFn.{get_or-map-range_with_len}
 use Rattle.std.proofs.lemmas.Bool.{cases_Bool, cases_lt, cond-true, cond-false, false_from_ne_true, or_parts}
 use Rattle.merkle.specs.Jobs.{AreGathered, has_place}
-use Rattle.merkle.specs.Nodes.{at, in_branch, left_of, leaf_place, leaves_of, join_at, node_over, AreBranches, AreJoinedTo, AreNearlyBranches, IsAtLevel, IsInner, IsJoin, IsOf, IsOver, IsWidth}
+use Rattle.merkle.specs.Nodes.{at, in_branch, left_of, leaf_place, leaves_of, join_at, node_over, AreBranches, AreJoinedTo, AreNearlyBranches, IsAtLevel, IsInner, IsJoin, IsOf, IsWidth}
 use Rattle.merkle.specs.declared.jobs.Job.{Job}
 use Rattle.merkle.specs.declared.marks.TheConstants.{BRANCHES, BRANCH_LEAVES, BRANCH_NODES}
 use Rattle.merkle.proofs.Placing.{of-place}
@@ -100,6 +100,11 @@ at-width : (height w c b : ℕ) → IsAt height w c b → w ≤ BRANCH_LEAVES
 at-width zero w c b is = omega (arith, is.0)
 at-width (suc height) w c b is = let k = at-width height (2 * w) (2 * c) b is in omega (arith, k)
 
+-- a level of b nodes at this height above the branches' roots has BRANCHES of them below
+abbrev IsOver : ℕ → ℕ → Type 0
+IsOver zero b = b ≡ BRANCHES
+IsOver (suc height) b = IsOver height (2 * b)
+
 module _ (nodes : List (List ℕ)) (branches : AreBranches nodes) (full : length nodes ≡ 2 * LEAVES) where
   abbrev leaf_at : ℕ → List ℕ
   leaf_at n = at nodes (leaf_place n)
@@ -189,19 +194,25 @@ level-above old new low below hash is level joins inside above i l h = elim (cas
 ]
 
 -- ---- above the branches
-pub over_le : (height w : ℕ) → IsOver height w → w ≤ BRANCHES
-over_le zero w e = omega (arith, e)
-over_le (suc height) w e = let k = over_le height (2 * w) e in omega (arith, k)
-
-pub over-wide : (height w : ℕ) → height ≢ 0 → IsOver height w → IsOver (height - 1) (2 * w)
-over-wide zero w ne e = absurd (ne refl)
-over-wide (suc height) w ne e = let same : height ≡ suc height - 1 = omega arith in subst (λ h. IsOver h (2 * w)) same e
-
 pub over-zero : (nodes : List (List ℕ)) (height n : ℕ) → height ≡ 0 → at nodes (BRANCH_NODES * n + 1) ≡ node_over nodes height n
 unfolding node
 over-zero nodes height n e = ap (λ h. node_over nodes h n) (sym e)
 
-pub over-suc : (nodes : List (List ℕ)) (height n : ℕ) → height ≢ 0 → joined (node_over nodes (height - 1) (2 * n)) (node_over nodes (height - 1) (2 * n + 1)) ≡ node_over nodes height n
+over-suc : (nodes : List (List ℕ)) (height n : ℕ) → height ≢ 0 → joined (node_over nodes (height - 1) (2 * n)) (node_over nodes (height - 1) (2 * n + 1)) ≡ node_over nodes height n
 unfolding node
 over-suc nodes zero n ne = absurd (ne refl)
 over-suc nodes (suc height) n ne = let same : suc height - 1 ≡ height = omega arith in ap (λ h. joined (node_over nodes h (2 * n)) (node_over nodes h (2 * n + 1))) same
+
+-- a level of w nodes at a height, joined from that below
+pub joined-level : (nodes old new : List (List ℕ)) (w height : ℕ) → 2 * w ≤ BRANCHES → ((n : ℕ) → n < 2 * w → at old (2 * w + n) ≡ node_over nodes height n) → ((n : ℕ) → n < w → at new (w + n) ≡ join_at old (w + n))
+    → (n : ℕ) → n < w → at new (w + n) ≡ node_over nodes (height + 1) n
+joined-level nodes old new w height few level joins n small =
+    let left : left_of (w + n) ≡ 2 * w + 2 * n = omega (arith, few, small) in
+    let right : left_of (w + n) + 1 ≡ 2 * w + (2 * n + 1) = omega (arith, few, small) in
+    let below : height ≡ height + 1 - 1 = omega arith in
+    let above : height + 1 ≢ 0 = λ e. absurd (omega (arith, e)) in
+    joins n small
+    ∙ ap (λ y. joined y (at old (left_of (w + n) + 1))) (ap (at old) left ∙ level (2 * n) (omega (arith, small)))
+    ∙ ap (joined (node_over nodes height (2 * n))) (ap (at old) right ∙ level (2 * n + 1) (omega (arith, small)))
+    ∙ ap (λ h. joined (node_over nodes h (2 * n)) (node_over nodes h (2 * n + 1))) below
+    ∙ over-suc nodes (height + 1) n above

@@ -7,7 +7,7 @@ use Rattle.rollback.specs.Marks.{is_dirty}
 use Rattle.tpcc_model.specs.Roots.{joined, leaf_hash, node}
 use Rattle.tpcc_rows.specs.RowMap.{Rows}
 use Rattle.tpcc_rows.specs.declared.codes.TheConstants.{LEAVES}
-use Rattle.merkle.specs.declared.marks.TheConstants.{BRANCHES, BRANCH_LEAVES, BRANCH_NODES}
+use Rattle.merkle.specs.declared.marks.TheConstants.{BRANCH_LEAVES, BRANCH_NODES}
 
 -- the hash at a place
 abbrev pub at : List (List ℕ) → ℕ → List ℕ
@@ -100,8 +100,3 @@ branch_root nodes b = at nodes (BRANCH_NODES * b + 1)
 -- the node of a height above the branches' roots, and a number
 abbrev pub node_over : List (List ℕ) → ℕ → ℕ → List ℕ
 node_over nodes height n = node (branch_root nodes) height n
-
--- a level of b nodes at this height above the branches' roots has BRANCHES of them below
-abbrev pub IsOver : ℕ → ℕ → Type 0
-IsOver zero b = b ≡ BRANCHES
-IsOver (suc height) b = IsOver height (2 * b)

@@ -10,6 +10,7 @@ mod levels;
 mod marks;
 mod parts;
 mod places;
+mod top;
 pub mod tree;
 
 pub use tree::Tree;

@@ -1,15 +1,15 @@
 //! The hash tree.
 ghost use Rattle.std.specs.Prelude.{◌≡◌, ◌<◌, ◌≤◌, ◌*◌, ℕ, IfOk, IfSome, length};
-ghost use Rattle.merkle.specs.Nodes.{AreBranches, AreRefreshed, AreWhole, IsOf, IsOfClean, IsOver, at, node_over, rehashed};
+ghost use Rattle.merkle.specs.Nodes.{AreBranches, AreRefreshed, AreWhole, IsOf, IsOfClean, at, rehashed};
 ghost use Rattle.tpcc_model.specs.Roots.{root};
 ghost use Rattle.tpcc_rows.specs.RowMap.{Rows};
 
 use crate::alike::empty_nodes;
-use crate::hashing::join;
 use crate::helped::Helped;
 use crate::leaves::{Change, Leaves, filled_leaves};
 use crate::marks::{BRANCH_NODES, BRANCHES};
 use crate::parts::{Sharing, refresh_all, refresh_by, refresh_part};
+use crate::top::root_over;
 use hashers::Host;
 use rollback::Dirty;
 use row_store::PointedStore;
@@ -21,9 +21,6 @@ use std::thread::{self, Threads};
 use tpcc_rows::codes::LEAVES;
 use tpcc_rows::memory::Memory;
 
-/// The height of the root above the branches' roots.
-const HEIGHT: usize = 4;
-
 /// Minimum rows per new thread. Starting one costs as much as hashing a few hundred.
 const ROWS_A_THREAD: usize = 2048;
 
@@ -32,29 +29,6 @@ const FEWEST_THREADS: usize = 4;
 
 /// Rows that take as long to hash as the nodes above a leaf.
 const ROWS_OF_NODES: usize = 16;
-
-/// The node of a number in the level of `width` nodes at a height above the branches' roots.
-fn join_over(nodes: &[[u8; 32]], height: usize, width: usize, n: usize) -> [u8; 32]
-    requires full { length nodes.now ≡ 2 * LEAVES }
-    requires width { IsOver height width }
-    requires n { n < width }
-    ensures { result ≡ node_over nodes.now height n }
-{
-    if height == 0 {
-        return nodes[BRANCH_NODES * n + 1];
-    }
-    let left = join_over(nodes, height - 1, 2 * width, 2 * n);
-    let right = join_over(nodes, height - 1, 2 * width, 2 * n + 1);
-    join(&left, &right)
-}
-
-/// The root above branches.
-fn root_over(nodes: &[[u8; 32]]) -> [u8; 32]
-    requires { length nodes.now ≡ 2 * LEAVES }
-    ensures { result ≡ node_over nodes.now 4 0 }
-{
-    join_over(nodes, HEIGHT, 1, 0)
-}
 
 /// The work of rehashing leaves and the nodes above, in rows, counted up to about `most`.
 fn work_of(change: &Change<'_, '_>, most: usize) -> usize {
@@ -157,7 +131,7 @@ impl Tree {
             dirty: &dirty,
         };
         refresh_all(rt, alloc, &change, &mut nodes);
-        let root = root_over(&nodes);
+        let root = root_over(&nodes, &second_blocks);
         Ok(Tree {
             nodes,
             root,
@@ -202,6 +176,6 @@ impl Tree {
             &mut self.nodes,
             &mut self.helped,
         );
-        self.root = root_over(&self.nodes);
+        self.root = root_over(&self.nodes, &self.second_blocks);
     }
 }
