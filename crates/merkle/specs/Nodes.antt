@@ -1,4 +1,4 @@
--- The nodes of a tree below its uppermost four levels, in branches: subtrees over BRANCH_LEAVES leaves each, one behind the other in one list, each in
+-- The nodes of a tree below its uppermost four levels, in branches: subtrees over BRANCH_LEAVES leaves each, one after another in one list, each in
 -- heap order: its root at 1, the children of i at 2 i and 2 i + 1, its leaf m at BRANCH_LEAVES + m.
 use Rattle.std.specs.Prelude.{◌≡◌, ℕ, zero, suc, ◌+◌, ◌*◌, ◌/◌, ◌%◌, ◌<◌, ◌≤◌, Bool, false, cond, List, [], ◌∷◌, length, get_or, map}
 use Rattle.std.specs.List.{range_with_len}
