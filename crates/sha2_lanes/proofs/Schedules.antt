@@ -1,39 +1,69 @@
 -- The words of a schedule, one by one.
-use Rattle.std.proofs.Common.{◌≡◌, ℕ, ◌+◌, ◌-◌, ◌*◌, ◌/◌, ◌%◌, ◌<◌, ◌≤◌, List, slice_index, slice_set, length, ◌≢◌, ◌∙◌, ap, arith, inl, inr}
-use Rattle.std.proofs.lemmas.List.{get_or-set_same, get_or-set_other}
+use Rattle.std.proofs.Common.{◌≡◌, ℕ, zero, suc, ◌+◌, ◌-◌, ◌*◌, ◌<◌, ◌≤◌, List, [], ◌∷◌, slice_index, slice_index_or, slice_set, length, ◌≢◌, ◌∙◌, ap, arith, inl, inr, refl, sym}
+use Rattle.std.proofs.lemmas.List.{get_or-set_same, get_or-set_other, length-set}
 use Rattle.std.proofs.lemmas.Bool.{cases_lt}
-use Rattle.sha2.specs.Sha256.{IsWindow, schedule, window_word}
-use Rattle.sha2.proofs.Schedule256.{IsWindow_next, window_word_at, window_word_place}
-use Rattle.sha2_lanes.specs.Lanes.{column}
-use Rattle.sha2_lanes.proofs.Lanes.{column-set}
-
--- one of the first 16 words, from the window that they fill
-pub first_word : (b w : List ℕ) (t : ℕ) → t < 16 → IsWindow w (schedule b 48) 16 → slice_index w t ≡ slice_index (schedule b 48) t
-first_word b w t lt window =
-    let here : (16 + t) % 16 ≡ t = omega arith in
-    let there : 16 + t - 16 ≡ t = omega arith in
-    rw (here, there) at (window.1 t lt)
-
--- a later word, from the window before it
-pub later_word : (b w : List ℕ) (t : ℕ) → 16 ≤ t → t < 64 → IsWindow w (schedule b 48) t → window_word w (t % 16) ≡ slice_index (schedule b 48) t
-later_word b w t low high window =
-    let same : 16 * (t / 16) + t % 16 ≡ t = omega arith in
-    window_word_place w (t / 16) (t % 16) ∙ ap (window_word w) same ∙ window_word_at b w t low high window
-
--- the window with a word more, of the message in one lane
-pub later_window : (b : List ℕ) (j : ℕ) (window : List (List ℕ)) (word : List ℕ) (t : ℕ) → 16 ≤ t → t < 64 → IsWindow (column j window) (schedule b 48) t
-    → slice_index word j ≡ slice_index (schedule b 48) t → IsWindow (column j (slice_set window (t % 16) word)) (schedule b 48) (t + 1)
-later_window b j window word t low high held is =
-    rw (column-set j window (t % 16) word, is) (IsWindow_next b (column j window) t low high held)
+use Rattle.sha2.specs.Sha256.{add32, next_word, round, round_constants, rounds, schedule, small_sigma0, small_sigma1, word_at}
+use Rattle.sha2.proofs.Schedule256.{rounds_next, slice_index-schedule_first, slice_index-schedule_next}
+use Rattle.sha2_lanes.specs.Lanes.{lane_at}
+use Rattle.sha2_lanes.specs.Schedules.{AreAt, AreWords}
 
 -- a list whose first elements have these values, with one more
-pub one_more : (value : ℕ → ℕ) (xs : List ℕ) (t x : ℕ) → t < length xs → x ≡ value t → ((k : ℕ) → k < t → slice_index xs k ≡ value k)
-    → (k : ℕ) → k < t + 1 → slice_index (slice_set xs t x) k ≡ value k
-one_more value xs t x room is held k lt = elim (cases_lt k t) [
+pub one_more : {A : Type 0} (d : A) (value : ℕ → A) (xs : List A) (t : ℕ) (x : A) → t < length xs → x ≡ value t
+    → ((k : ℕ) → k < t → slice_index_or xs k d ≡ value k)
+    → (k : ℕ) → k < t + 1 → slice_index_or (slice_set xs t x) k d ≡ value k
+one_more d value xs t x room is held k lt = elim (cases_lt k t) [
   | inl before ↦
       let other : k ≢ t = omega arith in
-      get_or-set_other xs t k x 0 other ∙ held k before
+      get_or-set_other xs t k x d other ∙ held k before
   | inr from ↦
       let here : k ≡ t = omega arith in
-      rw here (get_or-set_same xs t x 0 room ∙ is)
+      rw here (get_or-set_same xs t x d room ∙ is)
 ]
+
+-- the words of a block in one lane, from those of all lanes
+pub first_words : (j : ℕ) (words : List (List ℕ)) (b : List ℕ) → length words ≡ 64 → ((t : ℕ) → t < 16 → lane_at words t j ≡ word_at b (4 * t))
+    → AreWords j words b 16
+first_words j words b long are = (long, λ t lt. are t lt ∙ sym (slice_index-schedule_first b 48 t lt))
+
+-- one word more, from the four that it follows from
+pub extended : (j : ℕ) (words : List (List ℕ)) (b : List ℕ) (t : ℕ) (word : List ℕ) → 16 ≤ t → t < 64 → AreWords j words b t
+    → slice_index word j ≡ add32 (add32 (add32 (small_sigma1 (lane_at words (t - 2) j)) (lane_at words (t - 7) j)) (small_sigma0 (lane_at words (t - 15) j))) (lane_at words (t - 16) j)
+    → AreWords j (slice_set words t word) b (t + 1)
+extended j words b t word low high held is =
+    let near = held.1 (t - 2) (omega arith) in
+    let middle = held.1 (t - 7) (omega arith) in
+    let far = held.1 (t - 15) (omega arith) in
+    let last = held.1 (t - 16) (omega arith) in
+    let all = rw (near, middle, far, last) at is in
+    let value : slice_index word j ≡ slice_index (schedule b 48) t = all ∙ sym (slice_index-schedule_next b 48 t low (omega arith)) in (
+      length-set words t word ∙ held.0,
+      λ k lt. elim (cases_lt k t) [
+        | inl before ↦
+            let other : k ≢ t = omega arith in
+            ap (λ (v : List ℕ). slice_index v j) (get_or-set_other words t k word [] other) ∙ held.1 k before
+        | inr from ↦
+            let here : k ≡ t = omega arith in
+            rw here (ap (λ (v : List ℕ). slice_index v j) (get_or-set_same words t word [] (omega (arith, held.0))) ∙ value)
+      ],
+    )
+
+-- the same place spelled another way
+pub AreAt_at : (j : ℕ) (words variables : List (List ℕ)) (b h : List ℕ) (s t : ℕ) → s ≡ t → AreAt j words variables b h s → AreAt j words variables b h t
+AreAt_at j words variables b h s t same held = rw same at held
+
+-- each word of a list four times in turn
+unfoldable pub four_times : List ℕ → List ℕ
+four_times [] = []
+four_times (word ∷ words) = word ∷ word ∷ word ∷ word ∷ four_times words
+
+pub four_times_at : (words : List ℕ) (t j : ℕ) → j < 4 → slice_index (four_times words) (4 * t + j) ≡ slice_index words t
+unfolding four_times
+four_times_at [] t j lt = refl
+four_times_at (word ∷ words) zero zero lt = refl
+four_times_at (word ∷ words) zero (suc zero) lt = refl
+four_times_at (word ∷ words) zero (suc (suc zero)) lt = refl
+four_times_at (word ∷ words) zero (suc (suc (suc zero))) lt = refl
+four_times_at (word ∷ words) zero (suc (suc (suc (suc j)))) lt = absurd (omega arith)
+four_times_at (word ∷ words) (suc t) j lt =
+    let next : 4 * suc t + j ≡ suc (suc (suc (suc (4 * t + j)))) = omega arith in
+    rw next (four_times_at words t j lt)

@@ -1,40 +1,31 @@
 //! The second blocks of messages of 65 bytes: the last byte and the padding, so one of 256.
-ghost use Rattle.std.specs.Prelude.{◌≡◌, ◌<◌, [], ℕ, length, slice_index, slice_index_or, vec_len};
-ghost use Rattle.sha2.specs.Sha256.{add32, round_constants};
+ghost use Rattle.std.specs.Prelude.{◌≡◌, ◌<◌, [], ℕ, length, slice_index_or, vec_len};
 ghost use Rattle.sha2_lanes.specs.Padding.{second_block};
 ghost use Rattle.sha2_lanes.specs.Schedules.{AreSums};
 
-use crate::block::words_of;
-use crate::constants::ROUND_CONSTANTS;
+use crate::block::lay_words;
 use crate::padded::Padded;
-use crate::rounds::next_word;
+use crate::rounds::{constant, extend};
+use crate::word::add;
 use std::alloc::{AllocError, Global};
 use std::simd::u32x4;
 
 // How many values a byte has.
 const BYTES: usize = 256;
 
-// The sum of the constant and the word of round `t`, in the first lane.
-fn sum(t: usize, word: u32x4) -> u32
-    requires { t < 64 }
-    ensures { result ≡ add32 (slice_index round_constants t) (slice_index word 0) }
-{
-    ROUND_CONSTANTS[t].wrapping_add(word.to_array()[0])
-}
-
 // The expanded schedule of a block: the sum of each round's constant and word.
 fn sums_of(block: &[u8]) -> [u32; 64]
     requires { length block.now ≡ 64 }
     ensures { AreSums result block.now }
 {
-    let mut window = words_of(block, block, block, block);
-    let mut sums = [0; 64];
-    'first: for t in 0..16 {
-        sums[t] = sum(t, window[t]);
-    }
+    let mut words = [u32x4::splat(0); 64];
+    lay_words(&mut words, block, block, block, block);
     'schedule: for t in 16..64 {
-        let word = next_word(&mut window, t % 16);
-        sums[t] = sum(t, word);
+        extend(&mut words, t);
+    }
+    let mut sums = [0; 64];
+    'sums: for t in 0..64 {
+        sums[t] = add(constant(t), words[t]).to_array()[0];
     }
     sums
 }
