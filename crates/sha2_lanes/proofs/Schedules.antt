@@ -20,6 +20,22 @@ one_more d value xs t x room is held k lt = elim (cases_lt k t) [
       rw here (get_or-set_same xs t x d room ∙ is)
 ]
 
+-- the same with four more
+pub four_more : {A : Type 0} (d : A) (value : ℕ → A) (xs : List A) (t : ℕ) (x0 x1 x2 x3 : A) → t + 4 ≤ length xs
+    → x0 ≡ value t → x1 ≡ value (t + 1) → x2 ≡ value (t + 2) → x3 ≡ value (t + 3) → ((k : ℕ) → k < t → slice_index_or xs k d ≡ value k)
+    → (k : ℕ) → k < t + 4 → slice_index_or (slice_set (slice_set (slice_set (slice_set xs t x0) (t + 1) x1) (t + 2) x2) (t + 3) x3) k d ≡ value k
+four_more d value xs t x0 x1 x2 x3 room e0 e1 e2 e3 held k lt =
+    let l1 = length-set xs t x0 in
+    let xs1 = slice_set xs t x0 in
+    let l2 = length-set xs1 (t + 1) x1 in
+    let xs2 = slice_set xs1 (t + 1) x1 in
+    let l3 = length-set xs2 (t + 2) x2 in
+    let xs3 = slice_set xs2 (t + 2) x2 in
+    let s1 = one_more d value xs t x0 (omega arith) e0 held in
+    let s2 = one_more d value xs1 (t + 1) x1 (omega (arith, l1)) e1 s1 in
+    let s3 = one_more d value xs2 (t + 2) x2 (omega (arith, l1, l2)) e2 (λ i lt. s2 i (omega arith)) in
+    one_more d value xs3 (t + 3) x3 (omega (arith, l1, l2, l3)) e3 (λ i lt. s3 i (omega arith)) k (omega arith)
+
 -- the words of a block in one lane, from those of all lanes
 pub first_words : (j : ℕ) (words : List (List ℕ)) (b : List ℕ) → length words ≡ 64 → ((t : ℕ) → t < 16 → lane_at words t j ≡ word_at b (4 * t))
     → AreWords j words b 16

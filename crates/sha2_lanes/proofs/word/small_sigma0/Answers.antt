@@ -1,14 +1,18 @@
-use Rattle.std.proofs.Common.{ℕ, ◌/◌, ◌^◌, arith, ap, bit_xor, slice_index}
-use Rattle.sha2_lanes.proofs.Rotations.{rotated_two}
+use Rattle.std.proofs.Common.{arith, slice_index}
+use Rattle.sha2_lanes.proofs.Rotations.{gathered_two}
 use Rattle.sha2_lanes.proofs.word.small_sigma0.Goals as goal
 
 pub returns : goal.returns
 returns c j lt =
     rw (
       c.xor-2.ensures j lt,
-      c.rotate_right-2.ensures.value j lt,
+      c.shift_right-3.ensures j lt,
+      c.shift_left-2.ensures.value j lt,
+      c.xor-right.ensures j lt,
+      c.xor-left.ensures j lt,
       c.xor.ensures j lt,
-      c.rotate_right.ensures.value j lt,
       c.shift_right.ensures j lt,
+      c.shift_right-2.ensures j lt,
+      c.shift_left.ensures.value j lt,
     )
-    (ap (λ (y : ℕ). bit_xor y (slice_index c.args.x j / 2 ^ 3)) (rotated_two 32 (slice_index c.args.x j) 7 11 (omega arith) (c.rotate_right.ensures.fits j lt)))
+    (gathered_two (slice_index c.args.x j) 3 4 15 14 11 (omega arith) (omega arith) (omega arith) (omega arith) (c.shift_left.ensures.fits j lt))
