@@ -2,8 +2,8 @@
 use Rattle.std.proofs.Common.{◌≡◌, ℕ, zero, suc, ◌+◌, ◌-◌, ◌*◌, ◌<◌, ◌≤◌, List, [], ◌∷◌, slice_index, slice_index_or, slice_set, length, ◌≢◌, ◌∙◌, ap, arith, inl, inr, refl, sym}
 use Rattle.std.proofs.lemmas.List.{get_or-set_same, get_or-set_other, length-set}
 use Rattle.std.proofs.lemmas.Bool.{cases_lt}
-use Rattle.sha2.specs.Sha256.{add32, next_word, round, round_constants, rounds, schedule, small_sigma0, small_sigma1, word_at}
-use Rattle.sha2.proofs.Schedule256.{rounds_next, slice_index-schedule_first, slice_index-schedule_next}
+use Rattle.sha2.specs.Sha256.{add32, schedule, small_sigma0, small_sigma1, word_at}
+use Rattle.sha2.proofs.Schedule256.{slice_index-schedule_first, slice_index-schedule_next}
 use Rattle.sha2_lanes.specs.Lanes.{lane_at}
 use Rattle.sha2_lanes.specs.Schedules.{AreAt, AreWords}
 

@@ -1,4 +1,4 @@
-use Rattle.std.proofs.Common.{◌≡◌, ◌<◌, ◌+◌, ◌*◌, ◌∷◌, ◌∙◌, [], List, ℕ, ap, arith, length, slice_index, slice_set}
+use Rattle.std.proofs.Common.{◌+◌, ◌*◌, ◌∷◌, ◌∙◌, [], List, ℕ, ap, arith, slice_index}
 use Rattle.std.proofs.lemmas.List.{length-set}
 use Rattle.sha2.specs.Sha256.{word_at}
 use Rattle.sha2_lanes.proofs.Schedules.{first_words, four_more}
