@@ -23,9 +23,6 @@ use tpcc_rows::row_buf::{ByteBuf, RowBuf};
 /// Runs of each measurement, of which the fastest counts.
 const ROUNDS: u32 = 20;
 
-/// As many leaves as the tree prefetches at once.
-const WINDOW: usize = 128;
-
 /// Appends the hashed bytes of a page's rows.
 pub fn push_page(page: LeafPage<'_>, bytes: &mut Vec<u8>) -> Result<(), AllocError> {
     let mut buffer = RowBuf::new();
@@ -63,22 +60,13 @@ fn encode_page(page: LeafPage<'_>) -> u64 {
     count.wrapping_add(waiting.as_slice().len() as u64)
 }
 
-/// Prefetches the rows of a window of leaves, as the tree does.
-fn prefetch(store: &PointedStore, first: usize) -> u64 {
-    let mut bytes = 0u64;
-    for leaf in first..first.saturating_add(WINDOW).min(LEAVES) {
-        bytes = bytes.wrapping_add(store.page(leaf).estimate() as u64);
-    }
-    bytes
-}
-
+/// Encodes each leaf, prefetching its rows, as the tree does.
 fn encode_all(store: &PointedStore) -> u64 {
     let mut count = 0u64;
     for leaf in 0..LEAVES {
-        if leaf % WINDOW == 0 {
-            count = count.wrapping_add(prefetch(store, leaf));
-        }
-        count = count.wrapping_add(encode_page(store.page(leaf)));
+        let page = store.page(leaf);
+        count = count.wrapping_add(page.estimate() as u64);
+        count = count.wrapping_add(encode_page(page));
     }
     count
 }

@@ -111,6 +111,9 @@ pub(crate) fn encode_leaf(page: LeafPage<'_>, text: &mut ByteBuf<LEAF_BYTES>) ->
     ensures empty { OnFalse result (text.new ≡ []) }
 {
     text.clear();
+    if page.estimate() > LEAF_BYTES {
+        return false;
+    }
     text.push_8(LEAF);
     for slot in 0..page.len() {
         if text.room() < ROW_BYTES {

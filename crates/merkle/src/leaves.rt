@@ -31,8 +31,8 @@ pub(crate) struct Leaves<'a> {
 enum Reading {
     /// Where its rows are.
     Lists,
-    /// Its rows, up to about their size.
-    Rows,
+    /// The ranks of its rows, and of those whose size varies the rows, up to about the size of all.
+    Ranks,
 }
 
 /// Reads this of each leaf, and adds to its measure.
@@ -44,7 +44,7 @@ fn measure(jobs: &mut [Job], store: &PointedStore, reading: Reading)
         let page = store.page(jobs[k].place);
         let read = match reading {
             Reading::Lists => page.prefetch(),
-            Reading::Rows => page.estimate(),
+            Reading::Ranks => page.rough_size(),
         };
         jobs[k].measure = jobs[k].measure.wrapping_add(read);
     }
@@ -72,7 +72,7 @@ impl Places for Leaves<'_> {
 
     fn arrange(&self, jobs: &mut [Job]) {
         measure(jobs, self.store, Reading::Lists);
-        measure(jobs, self.store, Reading::Rows);
+        measure(jobs, self.store, Reading::Ranks);
         sort(jobs);
     }
 

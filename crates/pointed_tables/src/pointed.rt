@@ -120,10 +120,9 @@ impl PointedTables {
         self.store.get(key)
     }
 
-    /// About the size of the rank's row when it is encoded, in bytes: an estimate, on which nothing relies. Computing it reads the
-    /// row, so that the next read needn't wait for memory.
-    pub fn estimate(&self, rank: u64) -> usize {
-        self.store.estimate(rank)
+    /// The row where the rank's is expected, which may be another's: a hint, on which nothing relies. It isn't read yet.
+    pub fn expected(&self, rank: u64) -> Option<RowRef<'_>> {
+        self.store.expected(rank)
     }
 
     pub fn warehouse(&self, warehouse: WarehouseId) -> Option<&WarehouseRow>

@@ -78,17 +78,6 @@ fn list(leaves: &mut Leaves, key: &RowKey) -> Result<(), Memory>
     leaves.put(leaf, rank)
 }
 
-/// Lists the key's rank, if the key has no row.
-fn list_new(leaves: &mut Leaves, tables: &PointedTables, key: &RowKey) -> Result<(), Memory>
-    ensures kept { AreLeaves leaves.old tables.now → AreLeaves leaves.new tables.now }
-    ensures ok { OnOk result (AreLeaves leaves.old tables.now → IsListed leaves.new key.now) }
-{
-    if tables.get(key).is_some() {
-        return Ok(());
-    }
-    list(leaves, key)
-}
-
 /// Whether rows of the key's kind are inserted by requests.
 fn is_often_new(key: &RowKey) -> bool {
     matches!(
@@ -100,15 +89,36 @@ fn is_often_new(key: &RowKey) -> bool {
     )
 }
 
+/// Lists the key's rank, if the key may have no row. Listing it again changes nothing.
+fn list_new(leaves: &mut Leaves, tables: &PointedTables, key: &RowKey) -> Result<(), Memory>
+    ensures kept { AreLeaves leaves.old tables.now → AreLeaves leaves.new tables.now }
+    ensures ok { OnOk result (AreLeaves leaves.old tables.now → IsListed leaves.new key.now) }
+{
+    if !is_often_new(key) && tables.get(key).is_some() {
+        return Ok(());
+    }
+    list(leaves, key)
+}
+
+/// Reads the middle and the end of a list, where a search begins. The result has no meaning.
+fn read_list(ranks: &[(u64, ())]) -> usize {
+    let mut sum = 0usize;
+    if let Some((rank, _)) = ranks.last() {
+        sum = sum.wrapping_add(*rank as usize);
+    }
+    if let Some((rank, _)) = ranks.get(ranks.len() / 2) {
+        sum = sum.wrapping_add(*rank as usize);
+    }
+    sum
+}
+
 /// Reads the lists where the ranks of changed keys may be inserted. The result has no meaning.
 fn read_lists(leaves: &Leaves, changes: &[(RowKey, Option<Row>)]) -> usize {
     let mut sum = 0usize;
     for n in 0..changes.len() {
         let (key, _) = &changes[n];
         if is_often_new(key) {
-            if let Some((rank, _)) = leaves.ranks(leaf(key)).last() {
-                sum = sum.wrapping_add(*rank as usize);
-            }
+            sum = sum.wrapping_add(read_list(leaves.ranks(leaf(key))));
         }
     }
     sum

@@ -21,18 +21,6 @@ use tpcc_rows::row::{
 };
 use tpcc_rows::row_ref::RowRef;
 
-/// The size of a customer's row when it is encoded, in bytes, without its text.
-const CUSTOMER_BYTES: usize = 36;
-
-/// That of an order line, without its text.
-const LINE_BYTES: usize = 30;
-
-/// That of a payment, without its text.
-const HISTORY_BYTES: usize = 29;
-
-/// About the size of a row of another kind.
-const ROW_BYTES: usize = 54;
-
 /// A finite map from ranks to rows, each in its kind's table.
 #[derive(Drop)]
 pub struct KindTables {
@@ -178,43 +166,22 @@ impl KindTables {
         }
     }
 
-    /// About the size of a customer's row.
-    fn estimate_customer(&self, rank: u64) -> usize {
-        match self.customers.get(rank) {
-            Some(row) => CUSTOMER_BYTES.wrapping_add(row.data.as_bytes().len()),
-            None => 0,
+    /// The row where the rank's is expected, which may be another's: a hint, on which nothing relies. It isn't read yet.
+    pub fn expected(&self, rank: u64) -> Option<RowRef<'_>> {
+        match rank / 0x0100_0000_0000_0000 {
+            3 => Some(RowRef::Customer(self.customers.expected(rank)?)),
+            4 => Some(RowRef::Stock(self.stocks.expected(rank)?)),
+            5 => Some(RowRef::Order(self.orders.expected(rank)?)),
+            7 => {
+                let place = self.starts.guess(rank);
+                Some(RowRef::OrderLine(self.lines.row_at(rank, place)?))
+            }
+            8 => {
+                let place = self.payments.guess(rank);
+                Some(RowRef::History(self.history.row_at(place)?))
+            }
+            _ => None,
         }
-    }
-
-    /// About the size of an order line. Its text is at the end of the row, so all of it is read.
-    fn estimate_line(&self, rank: u64) -> usize {
-        match self.lines.get_near(rank, self.starts.guess(rank)) {
-            Some(row) => LINE_BYTES.wrapping_add(row.district_info.as_bytes().len()),
-            None => 0,
-        }
-    }
-
-    /// About the size of a payment.
-    fn estimate_history(&self, rank: u64) -> usize {
-        match self.history.get_near(rank, self.payments.guess(rank)) {
-            Some(row) => HISTORY_BYTES.wrapping_add(row.data.as_bytes().len()),
-            None => 0,
-        }
-    }
-
-    /// About the size of the rank's row when it is encoded, in bytes: an estimate, on which nothing relies. Computing it reads the
-    /// row, so that the next read needn't wait for memory.
-    pub fn estimate(&self, rank: u64) -> usize {
-        let is_at_hand = match rank / 0x0100_0000_0000_0000 {
-            3 => return self.estimate_customer(rank),
-            7 => return self.estimate_line(rank),
-            8 => return self.estimate_history(rank),
-            4 => self.stocks.touch(rank),
-            5 => self.orders.touch(rank),
-            6 => self.new_orders.touch(rank),
-            _ => true,
-        };
-        if is_at_hand { ROW_BYTES } else { 0 }
     }
 
     /// The ranks of the new orders of the rank's district, in ascending order.

@@ -1,5 +1,5 @@
 //! A table for each district of each warehouse: a district's new rows go to the end of its table.
-ghost use Rattle.std.specs.Prelude.{◌≡◌, ◌<◌, IfOk, None, OnErr, OnOk, option_copied};
+ghost use Rattle.std.specs.Prelude.{◌≡◌, ◌<◌, IfOk, None, OnErr, OnOk, option_copied, option_map, slice_get};
 ghost use Rattle.std.specs.FinMap as map;
 ghost use Rattle.tables.specs.Shelves.{place_of, rows_at};
 
@@ -52,9 +52,19 @@ impl<R> Shelf<R> {
         self.tables[place_of(rank)].get_near(rank, place)
     }
 
-    /// Whether the rank's row is found at once. This reads it, so that the next read needn't wait for memory.
-    pub fn touch(&self, rank: u64) -> bool {
-        self.tables[place_of(rank)].touch(rank)
+    /// The row at a place of the rank's table, whatever its rank. It isn't read yet.
+    pub fn row_at(&self, rank: u64, place: usize) -> Option<&R>
+        ensures { option_copied result ≡ option_map (λ entry. entry.1) (slice_get (map.entries (rows_at place_of self.now (place_of rank))) place) }
+    {
+        match self.slice_at(rank).get(place) {
+            Some((_, row)) => Some(row),
+            None => None,
+        }
+    }
+
+    /// The row where the rank's is expected, which may be another's: a hint, on which nothing relies. It isn't read yet.
+    pub fn expected(&self, rank: u64) -> Option<&R> {
+        self.tables[place_of(rank)].expected(rank)
     }
 
     /// The rows of the rank's table with their ranks, in ascending rank.

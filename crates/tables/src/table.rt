@@ -1,5 +1,5 @@
 //! Rows of one kind in a sorted vector, by rank.
-ghost use Rattle.std.specs.Prelude.{◌≡◌, ◌<◌, ◌≤◌, ◌^◌, Err, IfOk, IsTrue, None, Ok, OnErr, OnOk, is_some, length, option_copied, true};
+ghost use Rattle.std.specs.Prelude.{◌≡◌, ◌<◌, ◌≤◌, ◌^◌, Err, IfOk, IsTrue, None, Ok, OnErr, OnOk, is_some, length, option_copied, option_map, slice_get, true};
 ghost use Rattle.std.specs.FinMap as map;
 ghost use Rattle.std.specs.List.{HoldsAt, insert, remove, slice_set};
 ghost use Rattle.std.specs.Ordering.{nat_cmp};
@@ -101,14 +101,13 @@ fn search<R>(entries: &[(u64, R)], rank: u64) -> Result<usize, usize>
     entries.binary_search_by(|entry| entry.0.cmp(&rank))
 }
 
-/// Where the rank is, or where it would be inserted: at the hint, at the end, near the hint, or by binary search.
-fn place_of<R>(entries: &[(u64, R)], rank: u64, guess: usize) -> Result<usize, usize>
+/// Where the rank is, or where it would be inserted, if it isn't at the hint: at the end, near the hint, or by binary search.
+/// Not inlined, so that the look at the hint is.
+#[inline(never)]
+fn place_apart<R>(entries: &[(u64, R)], rank: u64, guess: usize) -> Result<usize, usize>
     requires { are_in_order nat_cmp entries.now ≡ true }
     ensures { IsPlaceOf nat_cmp rank entries.now result }
 {
-    if is_at(entries, rank, guess) {
-        return Ok(guess);
-    }
     if is_behind(entries, rank) {
         return Err(entries.len());
     }
@@ -117,6 +116,17 @@ fn place_of<R>(entries: &[(u64, R)], rank: u64, guess: usize) -> Result<usize, u
         return Ok(near);
     }
     search(entries, rank)
+}
+
+/// Where the rank is, or where it would be inserted: at the hint, or apart from it.
+fn place_of<R>(entries: &[(u64, R)], rank: u64, guess: usize) -> Result<usize, usize>
+    requires { are_in_order nat_cmp entries.now ≡ true }
+    ensures { IsPlaceOf nat_cmp rank entries.now result }
+{
+    if is_at(entries, rank, guess) {
+        return Ok(guess);
+    }
+    place_apart(entries, rank, guess)
 }
 
 /// The row of the rank, if there is one.
@@ -189,10 +199,19 @@ impl<R> Table<R> {
         found(&self.entries, rank, place)
     }
 
-    /// Whether the rank's row is found at once. This reads it, so that the next read needn't wait for memory.
-    pub fn touch(&self, rank: u64) -> bool {
-        let guess = guess(&self.entries, rank);
-        is_at(&self.entries, rank, guess)
+    /// The row at a place, whatever its rank. It isn't read yet.
+    pub fn row_at(&self, place: usize) -> Option<&R>
+        ensures { option_copied result ≡ option_map (λ entry. entry.1) (slice_get (map.entries self.now) place) }
+    {
+        match self.as_slice().get(place) {
+            Some((_, row)) => Some(row),
+            None => None,
+        }
+    }
+
+    /// The row where the rank's is expected, which may be another's: a hint, on which nothing relies. It isn't read yet.
+    pub fn expected(&self, rank: u64) -> Option<&R> {
+        self.row_at(guess(&self.entries, rank))
     }
 
     /// The rows with their ranks, in ascending rank.
