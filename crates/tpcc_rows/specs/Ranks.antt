@@ -1,6 +1,7 @@
 -- The rank of a key, a number below 2^64 that ascends with the keys: the kind in the first byte, then the columns. It is injective
 -- on all keys of their types, where codes are on those of a database.
-use Rattle.std.specs.Prelude.{ℕ, ◌+◌, ◌*◌, ◌^◌}
+use Rattle.std.specs.Prelude.{◌≡◌, ℕ, ◌+◌, ◌*◌, ◌^◌, List}
+use Rattle.std.specs.List.{AllZip}
 use Rattle.tpcc_rows.specs.Limits.{IsBetween}
 use Rattle.tpcc_rows.specs.declared.id.TheConstants.{LAST_REQUEST}
 use Rattle.tpcc_rows.specs.declared.key.RowKey.{RowKey}
@@ -53,3 +54,7 @@ IsNumbered (key.OrderLine w d o n) = IsBetween 1 100 w × IsBetween 1 10 d × Is
 IsNumbered (key.History n) = IsBetween 1 LAST_REQUEST n
 IsNumbered (key.DistrictYtd w d) = IsDistrict w d
 IsNumbered (key.DistrictNext w d) = IsDistrict w d
+
+-- the ranks of the entries' keys, in the same order; and the keys are numbered
+abbrev pub AreRanksOf : {X : Type 0} → List (RowKey × X) → List ℕ → Type 0
+AreRanksOf entries ranks = AllZip (λ entry r. (r ≡ rank entry.0) × IsNumbered entry.0) entries ranks
