@@ -4,6 +4,6 @@ pub mod Filled
 pub mod RecordLimits
 pub mod ImageLaws
 pub mod Sound
-pub mod KindLists
+pub mod PartLists
 pub mod Listing
 pub mod Sorting

@@ -1,6 +1,6 @@
 pub mod Tables
 pub mod Image
-pub mod Kinds
+pub mod Parts
 pub mod Gathered
 pub mod Additions
 pub mod AnyOrder

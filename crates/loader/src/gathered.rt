@@ -5,7 +5,7 @@ ghost use Rattle.loader.specs.Gathered.{gathered};
 ghost use Rattle.tpcc_rows.specs.RowKinds.{fits};
 
 use crate::any_order::AnyOrderRows;
-use crate::kind_lists::KindLists;
+use crate::part_lists::PartLists;
 use std::alloc::Global;
 use std::mem;
 use tpcc_rows::key::RowKey;
@@ -15,8 +15,8 @@ use tpcc_rows::row::Row;
 /// The rows read so far.
 #[derive(Drop)]
 pub(crate) enum Gathered {
-    /// Those of each kind came in key order.
-    InOrder(KindLists),
+    /// Those of each part came in key order.
+    InOrder(PartLists),
     AnyOrder(AnyOrderRows),
 }
 
@@ -25,7 +25,7 @@ impl Gathered {
     pub(crate) fn new(alloc: Global) -> Result<Gathered, Memory>
         ensures { IfOk result (λ rows. gathered rows ≡ map.empty) }
     {
-        Ok(Gathered::InOrder(KindLists::new(alloc)?))
+        Ok(Gathered::InOrder(PartLists::new(alloc)?))
     }
 
     /// The rows, ready for further ones in any order.

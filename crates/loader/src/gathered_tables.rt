@@ -22,8 +22,9 @@ use tpcc_rows::key::RowKey;
 use tpcc_rows::memory::Memory;
 use tpcc_rows::row::{DistrictNextRow, DistrictYtdRow, Row};
 
-/// The cards and rows of the records read so far. While rows come in key order within each kind, as a stored image's do,
-/// they are kept in a list per kind; from the first one out of order on, in one list beside the set of their keys.
+/// The cards and rows of the records read so far. While rows come in key order, but for those of the districts, as a stored
+/// image's do, they are kept in a list for each such part; from the first one out of order on, in one list beside the set of
+/// their keys.
 #[derive(Drop)]
 pub struct GatheredTables {
     cards: CatalogBuilder,

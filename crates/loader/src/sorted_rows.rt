@@ -3,7 +3,7 @@ ghost use Rattle.std.specs.Prelude.{◌≡◌, [], IfOk, true};
 ghost use Rattle.std.specs.FinMap as map;
 ghost use Rattle.std.specs.List.{list_all};
 ghost use Rattle.image_checks.specs.Sorted.{rows_in};
-ghost use Rattle.loader.specs.Kinds.{AreSorted};
+ghost use Rattle.loader.specs.Parts.{AreSorted};
 ghost use Rattle.rollback.specs.Marks.{AreClean};
 ghost use Rattle.tpcc_rows.specs.Changing.{with_each};
 ghost use Rattle.tpcc_rows.specs.Places.{are_in_order};
@@ -25,7 +25,7 @@ pub(crate) struct SortedRows {
 
 impl Model for SortedRows {
     ghost use Rattle.image_checks.specs.Sorted.{rows_in};
-    ghost use Rattle.loader.specs.Kinds.{AreSorted};
+    ghost use Rattle.loader.specs.Parts.{AreSorted};
     ghost use Rattle.tpcc_rows.specs.RowMap.{Rows, rows_code};
 
     ghost Value = { Rows };

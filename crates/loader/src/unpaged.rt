@@ -11,8 +11,8 @@ ghost use Rattle.tpcc_rows.specs.Changing.{with_each};
 ghost use Rattle.tpcc_rows.specs.RowKinds.{fits};
 
 use crate::gathered::Gathered;
-use crate::kind_lists::is_in_order;
 use crate::mapped_rows::into_store;
+use crate::part_lists::is_in_order;
 use crate::sorted_rows::SortedRows;
 use catalog::Catalog;
 use image_checks::{check, check_sorted};

@@ -1,11 +1,12 @@
 -- Ranks that stay listed.
 use Rattle.std.proofs.Common.{◌≡◌, ◌&&◌, ℕ, zero, suc, true, false, is_some, List, [], ◌∷◌, ◌++◌, take, drop, length, Some, Result, Ok, Err, inl, inr, sym, ap, subst, ◌∙◌, arith}
+use Rattle.std.proofs.lemmas.List.{reverse-append}
 use Rattle.std.proofs.lemmas.List.Elements.{All-append, All-cons, All-drop, All-nil, All-take}
 use Rattle.std.specs.FinMap as map
 use Rattle.std.specs.FinMap.{get, get-empty, insert, remove}
 use Rattle.std.specs.List.{list_all, slice_get}
 use Rattle.std.specs.Option.{unwrap_or}
-use Rattle.std.specs.Prelude.{⊤, All}
+use Rattle.std.specs.Prelude.{⊤, All, reverse}
 use Rattle.std.specs.Result.{OnOk, OnErr}
 use Rattle.std.specs.Ordering.{nat_cmp}
 use Rattle.rollback.specs.Pointed.{Pointed}
@@ -148,6 +149,10 @@ module _ (all old left : List (RowKey × Row)) (k : RowKey) (x : Row) (steps : o
     listed = subst (λ (m : ByRank ⊤). AreListed m rows2) (sym listed) (subst (AreListed (insert ranks (rank k) tt)) (sym put)
         (listed-insert (insert ranks (rank k) tt) rows k x (listed-now ranks k numbered) (listed-more ranks k numbered rows h.listed)));
   }
+
+-- the last of a list is the first of the reversed one
+pub last_first : (old new : List (RowKey × Row)) (k : RowKey) (x : Row) → old ≡ new ++ (k, x) ∷ [] → reverse old ≡ (k, x) ∷ reverse new
+last_first old new k x e = ap reverse e ∙ reverse-append new ((k, x) ∷ [])
 
 -- all have been put once nothing is to come
 pub filling-done : (all left : List (RowKey × Row)) (ranks : ByRank ⊤) (rows : Rows) → length left ≡ 0 → IsFilling all left ranks rows → rows ≡ with_each all map.empty

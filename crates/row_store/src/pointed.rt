@@ -34,6 +34,9 @@ use tpcc_rows::row::{
 };
 use tpcc_rows::row_ref::RowRef;
 
+/// After how many rows of a list the memory that they have left is freed.
+const PIECE: usize = 4096;
+
 /// Rows, points to which they can go back, and the set of the leaves on which they have changed since it was last taken.
 #[derive(Drop)]
 pub struct PointedStore {
@@ -150,7 +153,8 @@ impl PointedStore {
         })
     }
 
-    /// The rows of a list, of which a later one replaces an earlier one of its key; there is no point, and no leaf is dirty.
+    /// The rows of a list, of which a later one replaces an earlier one of its key; there is no point, and no leaf is dirty. The
+    /// list is reversed, so that it can shrink from its end while the tables grow.
     pub fn from_rows(alloc: Global, rows: Vec<(RowKey, Row)>) -> Result<PointedStore, Memory>
         requires { list_all (λ row. fits row.0 row.1) rows.items ≡ true }
         ensures rows { IfOk result (λ store. store.rows ≡ with_each rows.items map.empty) }
@@ -159,9 +163,14 @@ impl PointedStore {
     {
         let mut tables = RowTables::new(alloc)?;
         let mut leaves = Leaves::new(alloc)?;
-        for (key, row) in rows {
+        let mut left = rows;
+        left.reverse();
+        while let Some((key, row)) = left.pop() {
             list(&mut leaves, &key)?;
             tables.put(key, row)?;
+            if left.len() % PIECE == 0 {
+                left.shrink_to_fit();
+            }
         }
         let tables = boxed(alloc, PointedTables::new(alloc, tables))?;
         Ok(PointedStore {

@@ -1,5 +1,5 @@
 use Rattle.std.proofs.Common.{ap, sym, ◌∙◌}
-use Rattle.loader.proofs.KindLists.{with_each-sorted}
+use Rattle.loader.proofs.PartLists.{with_each-sorted}
 use Rattle.loader.proofs.unpaged.of_list.Goals as goal
 use Rattle.tpcc_rows.specs.Places.{are_in_order}
 use Rattle.tpcc_rows.specs.RowMap.{row_key_cmp}

@@ -1,5 +1,5 @@
 use Rattle.std.proofs.Common.{◌∙◌}
-use Rattle.loader.proofs.KindLists.{with_each-sorted}
+use Rattle.loader.proofs.PartLists.{with_each-sorted}
 use Rattle.loader.proofs.sorted_rows.SortedRows.into_list.Goals as goal
 
 pub returns-clause-all : goal.returns-clause-all

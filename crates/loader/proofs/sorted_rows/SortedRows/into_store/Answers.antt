@@ -1,5 +1,5 @@
 use Rattle.std.proofs.Common.{◌≡◌, ◌∙◌, IfOk, subst}
-use Rattle.loader.proofs.KindLists.{with_each-sorted}
+use Rattle.loader.proofs.PartLists.{with_each-sorted}
 use Rattle.loader.proofs.sorted_rows.SortedRows.into_store.Goals as goal
 
 pub returns-clause-rows : goal.returns-clause-rows

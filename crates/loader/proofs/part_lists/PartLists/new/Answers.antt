@@ -1,7 +1,7 @@
 use Rattle.std.proofs.Common.{◌++◌, ◌∷◌, ◌∙◌, [], ap, arith, map as each, subst, sym}
 use Rattle.std.proofs.lemmas.List.{map-append}
-use Rattle.loader.proofs.KindLists.{AreEmptyLists, more-empty}
-use Rattle.loader.proofs.kind_lists.KindLists.new.Goals as goal
+use Rattle.loader.proofs.PartLists.{AreEmptyLists, more-empty}
+use Rattle.loader.proofs.part_lists.PartLists.new.Goals as goal
 use Rattle.tpcc_rows.proofs.Keys.{exact_keys, row_key_cmp_total}
 use Rattle.tpcc_rows.proofs.Places.{no-entries}
 

@@ -1,8 +1,8 @@
-//! Rows that come in key order within each kind, as a stored image's do.
-ghost use Rattle.std.specs.Prelude.{◌≡◌, ◌<◌, Err, None, Ok, IfOk, IsTrue, OnErr, Some, is_some, length, true};
+//! Rows that come in key order, but for those of the districts, as a stored image's do.
+ghost use Rattle.std.specs.Prelude.{◌≡◌, ◌<◌, ◌++◌, Err, None, Ok, IfOk, IsTrue, OnErr, Some, is_some, length, true};
 ghost use Rattle.std.specs.FinMap as map;
 ghost use Rattle.image_checks.specs.Sorted.{rows_in};
-ghost use Rattle.loader.specs.Kinds.{kind};
+ghost use Rattle.loader.specs.Parts.{part};
 ghost use Rattle.tpcc_rows.specs.Places.{IsPlaceOf, are_in_order};
 ghost use Rattle.tpcc_rows.specs.RowKinds.{fits};
 ghost use Rattle.tpcc_rows.specs.RowMap.{row_key_cmp};
@@ -14,45 +14,40 @@ use tpcc_rows::key::RowKey;
 use tpcc_rows::memory::Memory;
 use tpcc_rows::row::Row;
 
-/// The number of kinds of rows.
-const KINDS: usize = 9;
+/// The number of lists.
+const PARTS: usize = 3;
 
-/// A finite map from keys to rows, each row of its key's kind, which can append a row after the others of its kind.
+/// A finite map from keys to rows, each row of its key's kind, which can append a row after the others of its part.
 #[derive(Drop)]
-pub(crate) struct KindLists {
+pub(crate) struct PartLists {
     lists: Vec<Vec<(RowKey, Row)>>,
 }
 
-impl Model for KindLists {
+impl Model for PartLists {
     ghost use Rattle.std.specs.Prelude.{map as each};
     ghost use Rattle.image_checks.specs.Sorted.{rows_in};
-    ghost use Rattle.loader.specs.Kinds.{AreKindLists, all_kinds};
+    ghost use Rattle.loader.specs.Parts.{ArePartLists, all_parts};
     ghost use Rattle.tpcc_rows.specs.RowMap.{Rows, rows_code};
 
     ghost Value = { Rows };
 
     ghost coded = { rows_code };
 
-    ghost view = { λ s. rows_in (all_kinds (each (λ list. list.items) s.lists.items)) };
+    ghost view = { λ s. rows_in (all_parts (each (λ list. list.items) s.lists.items)) };
 
-    ghost invariant = { λ s. AreKindLists (each (λ list. list.items) s.lists.items) };
+    ghost invariant = { λ s. ArePartLists (each (λ list. list.items) s.lists.items) };
 }
 
-/// A key's kind, numbered in key order.
-fn kind(key: &RowKey) -> usize
-    ensures value { result ≡ kind key.now }
-    ensures small { result < KINDS }
+/// The part of a key, in key order. A stored image has the districts' rows before most others, though their keys are the
+/// greatest.
+fn part(key: &RowKey) -> usize
+    ensures value { result ≡ part key.now }
+    ensures small { result < PARTS }
 {
     match key {
-        RowKey::Warehouse { .. } => 0,
-        RowKey::Customer { .. } => 1,
-        RowKey::Stock { .. } => 2,
-        RowKey::Order { .. } => 3,
-        RowKey::NewOrder { .. } => 4,
-        RowKey::OrderLine { .. } => 5,
-        RowKey::History { .. } => 6,
-        RowKey::DistrictYtd { .. } => 7,
-        RowKey::DistrictNext { .. } => 8,
+        RowKey::DistrictYtd { .. } => 1,
+        RowKey::DistrictNext { .. } => 2,
+        _ => 0,
     }
 }
 
@@ -95,28 +90,35 @@ fn has(rows: &[(RowKey, Row)], key: &RowKey) -> bool
     place_of(rows, key).is_ok()
 }
 
-/// The number of rows in the lists.
-fn count(lists: &[Vec<(RowKey, Row)>]) -> usize {
-    let mut count = 0usize;
-    for list in lists {
-        count = count.saturating_add(list.len());
+/// The rows of one list and then those of the other, which are few or all.
+fn joined(
+    first: Vec<(RowKey, Row)>,
+    others: Vec<(RowKey, Row)>,
+) -> Result<Vec<(RowKey, Row)>, Memory>
+    ensures { IfOk result (λ rows. rows.items ≡ first.items ++ others.items) }
+{
+    if first.is_empty() {
+        return Ok(others);
     }
-    count
+    let mut rows = first;
+    let mut others = others;
+    rows.append(&mut others)?;
+    Ok(rows)
 }
 
-impl KindLists {
-    /// An empty list for each kind.
-    pub(crate) fn new(alloc: Global) -> Result<KindLists, Memory>
+impl PartLists {
+    /// An empty list for each part.
+    pub(crate) fn new(alloc: Global) -> Result<PartLists, Memory>
         ensures { IfOk result (λ lists. lists ≡ map.empty) }
     {
-        let mut lists = Vec::with_capacity(alloc, KINDS)?;
-        for _ in 0..KINDS {
+        let mut lists = Vec::with_capacity(alloc, PARTS)?;
+        for _ in 0..PARTS {
             lists.push(Vec::new(alloc))?;
         }
-        Ok(KindLists { lists })
+        Ok(PartLists { lists })
     }
 
-    /// Appends a row that comes after the others of its kind, or hands it back.
+    /// Appends a row that comes after the others of its part, or hands it back.
     pub(crate) fn push(&mut self, key: &RowKey, row: Row) -> Result<Option<Row>, Memory>
         requires { fits key.now row ≡ true }
         ensures fresh { result ≡ Ok None → map.get self.old key.now ≡ None }
@@ -124,7 +126,7 @@ impl KindLists {
         ensures back { IfOk result (λ back. is_some back ≡ true → (back ≡ Some row) × (self.new ≡ self.old)) }
         ensures err { OnErr result (self.new ≡ self.old) }
     {
-        let n = kind(key);
+        let n = part(key);
         let list = &mut self.lists[n];
         if !is_behind(list, key) {
             return Ok(Some(row));
@@ -137,16 +139,16 @@ impl KindLists {
     pub(crate) fn has(&self, key: &RowKey) -> bool
         ensures { result ≡ is_some (map.get self.now key.now) }
     {
-        has(&self.lists[kind(key)], key)
+        has(&self.lists[part(key)], key)
     }
 
     /// The rows in key order.
     pub(crate) fn into_rows(self, alloc: Global) -> Result<SortedRows, Memory>
         ensures { IfOk result (λ rows. rows ≡ self) }
     {
-        let mut rows = Vec::with_capacity(alloc, count(&self.lists))?;
-        for mut list in self.lists {
-            rows.append(&mut list)?;
+        let mut rows = Vec::new(alloc);
+        for list in self.lists {
+            rows = joined(rows, list)?;
         }
         Ok(SortedRows::of(rows))
     }

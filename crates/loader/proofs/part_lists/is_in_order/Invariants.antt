@@ -1,5 +1,5 @@
 use Rattle.std.proofs.Common.{◌≡◌, take, true}
-use Rattle.loader.proofs.kind_lists.is_in_order.Given as goal
+use Rattle.loader.proofs.part_lists.is_in_order.Given as goal
 use Rattle.tpcc_rows.specs.Places.{are_in_order}
 use Rattle.tpcc_rows.specs.RowMap.{row_key_cmp}
 

@@ -1,8 +1,8 @@
 use Rattle.std.proofs.Common.{length, ◌-◌, ◌∙◌, ap, sym}
 use Rattle.std.proofs.lemmas.Option.{get_or_from_slice_get}
 use Rattle.std.specs.Prelude.{option_copied}
-use Rattle.loader.proofs.KindLists.{is_less}
-use Rattle.loader.proofs.kind_lists.is_behind.Goals as goal
+use Rattle.loader.proofs.PartLists.{is_less}
+use Rattle.loader.proofs.part_lists.is_behind.Goals as goal
 use Rattle.tpcc_rows.proofs.Keys.{exact_keys, row_key_cmp_total}
 use Rattle.tpcc_rows.proofs.Places.{placed-behind}
 

@@ -1,7 +1,7 @@
 use Rattle.std.proofs.Common.{◌+◌, ◌∙◌, Err, ap, length, refl, subst, sym, take}
-use Rattle.loader.proofs.KindLists.{Entry, order-push}
+use Rattle.loader.proofs.PartLists.{Entry, order-push}
 use Rattle.loader.proofs.Listing.{take-next}
-use Rattle.loader.proofs.kind_lists.is_in_order.Goals as goal
+use Rattle.loader.proofs.part_lists.is_in_order.Goals as goal
 use Rattle.tpcc_rows.specs.Places.{IsPlaceOf, are_in_order}
 use Rattle.tpcc_rows.specs.RowMap.{row_key_cmp}
 
