@@ -1,5 +1,5 @@
 -- Ranks that stay listed.
-use Rattle.std.proofs.Common.{◌≡◌, ◌&&◌, ℕ, zero, suc, true, false, is_some, List, [], ◌∷◌, ◌++◌, take, drop, length, Some, Result, Ok, Err, inl, inr, sym, ap, subst, ◌∙◌, arith}
+use Rattle.std.proofs.Common.{◌≡◌, ◌&&◌, ℕ, zero, suc, true, false, is_some, List, [], ◌∷◌, ◌++◌, take, drop, Some, Result, Ok, Err, inl, inr, sym, ap, subst, ◌∙◌, arith}
 use Rattle.std.proofs.lemmas.List.{reverse-append}
 use Rattle.std.proofs.lemmas.List.Elements.{All-append, All-cons, All-drop, All-nil, All-take}
 use Rattle.std.specs.FinMap as map
@@ -138,9 +138,6 @@ module _ (all old left : List (RowKey × Row)) (k : RowKey) (x : Row) (steps : o
   fit-all : (fits k x && list_all (λ e. fits e.0 e.1) left) ≡ true
   fit-all = ap (list_all (λ e. fits e.0 e.1)) (sym steps) ∙ h.fit
 
-  pub fits-first : fits k x ≡ true
-  fits-first = single.and-left (fits k x) (list_all (λ e. fits e.0 e.1) left) fit-all
-
   pub filling-more : (next : ByRank ⊤) (rows2 : Rows) → IsNumbered k → next ≡ insert ranks (rank k) tt → rows2 ≡ insert rows k x → IsFilling all left next rows2
   filling-more next rows2 numbered listed put = record {
     whole = ap (with_each left) put ∙ ap (λ es. with_each es rows) (sym steps) ∙ h.whole;
@@ -153,11 +150,6 @@ module _ (all old left : List (RowKey × Row)) (k : RowKey) (x : Row) (steps : o
 -- the last of a list is the first of the reversed one
 pub last_first : (old new : List (RowKey × Row)) (k : RowKey) (x : Row) → old ≡ new ++ (k, x) ∷ [] → reverse old ≡ (k, x) ∷ reverse new
 last_first old new k x e = ap reverse e ∙ reverse-append new ((k, x) ∷ [])
-
--- all have been put once nothing is to come
-pub filling-done : (all left : List (RowKey × Row)) (ranks : ByRank ⊤) (rows : Rows) → length left ≡ 0 → IsFilling all left ranks rows → rows ≡ with_each all map.empty
-filling-done all [] ranks rows e h = h.whole
-filling-done all (x ∷ left) ranks rows e h = absurd (omega (arith, e))
 
 pub leaves-none : (ranks : ByRank ⊤) (b : Pointed) → ((r : ℕ) → is_some (get ranks r) ≡ true → IsRank r) → AreListed ranks b.rows → b.points ≡ [] → AreLeaves ranks b
 leaves-none ranks b keys rows points = record { keys = keys; present = rows; before = subst (All (AreListed ranks)) (sym points) (All-nil (AreListed ranks)) }

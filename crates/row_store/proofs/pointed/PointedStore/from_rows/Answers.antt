@@ -1,11 +1,8 @@
-use Rattle.std.proofs.Common.{◌≡◌, ◌∷◌, ◌∙◌, ap, length, subst, sym}
-use Rattle.std.proofs.lemmas.List.{length-reverse, reverse-reverse}
+use Rattle.std.proofs.Common.{◌≡◌, ◌∙◌, ap, subst, sym}
+use Rattle.std.proofs.lemmas.List.{reverse-reverse}
 use Rattle.std.specs.Prelude.{reverse}
-use Rattle.rollback.specs.Pointed.{Pointed}
-use Rattle.row_store.specs.Leaves.{AreListed}
-use Rattle.row_store.proofs.Listing.{IsFilling, filling-done, filling-more, filled-none, fits-first, last_first, leaves-alike, leaves-none}
+use Rattle.row_store.proofs.Listing.{IsFilling, filling-more, filled-none, last_first}
 use Rattle.row_store.proofs.pointed.PointedStore.from_rows.Goals as goal
-use Rattle.tpcc_rows.specs.RowMap.{Rows}
 
 pub loop-key-init : goal.loop-key-init
 loop-key-init c =
