@@ -6,6 +6,7 @@ use pointed_tables::PointedTables;
 use tables::keys::key_at;
 use tpcc_rows::key::RowKey;
 use tpcc_rows::row_ref::RowRef;
+use tpcc_rows::text::Text;
 
 /// The size of a customer's row when it is encoded, in bytes, without its text.
 const CUSTOMER_BYTES: usize = 36;
@@ -25,11 +26,23 @@ const HISTORY_BYTES: usize = 29;
 /// About that of a row of another kind.
 const SMALL_BYTES: usize = 16;
 
-/// About the size of the text of an order line or a payment.
+/// The size of the text of an order line or a payment, if it is full.
 const TEXT_BYTES: usize = 24;
+
+/// About that of a shorter one.
+const SHORT_TEXT_BYTES: usize = 12;
 
 /// The rows that are found before the first of them is read, so that a processor waits for all of them at once.
 const AT_ONCE: usize = 16;
+
+/// About the size of a text of an order line or a payment. Reads its last byte alone.
+fn size_of_text(text: &Text<TEXT_BYTES>) -> usize {
+    if text.is_full() {
+        TEXT_BYTES
+    } else {
+        SHORT_TEXT_BYTES
+    }
+}
 
 /// About the size of a row when it is encoded, in bytes. Reads its first and its last bytes, so all of it.
 fn size_of_row(row: RowRef<'_>) -> usize {
@@ -38,12 +51,12 @@ fn size_of_row(row: RowRef<'_>) -> usize {
         RowRef::Stock(row) => STOCK_BYTES.wrapping_add(row.ytd.value() as usize % 2),
         RowRef::Order(row) => ORDER_BYTES.wrapping_add(row.customer.number() as usize % 2),
         RowRef::OrderLine(row) => {
-            let text = row.district_info.as_bytes().len();
+            let text = size_of_text(&row.district_info);
             let first = row.item.number() as usize % 2;
             LINE_BYTES.wrapping_add(text).wrapping_add(first)
         }
         RowRef::History(row) => {
-            let text = row.data.as_bytes().len();
+            let text = size_of_text(&row.data);
             let first = row.customer.number() as usize % 2;
             HISTORY_BYTES.wrapping_add(text).wrapping_add(first)
         }

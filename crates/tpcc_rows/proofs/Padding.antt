@@ -4,7 +4,7 @@ use Rattle.std.specs.Prelude.{◌==◌, replicate}
 use Rattle.std.specs.List.{prefix_len}
 use Rattle.std.specs.List.Sorted.{IsPartitionPoint, IsPartitionedBy}
 use Rattle.std.proofs.Math.Seq.{take-append_seam, take-append-add, drop-append-add}
-use Rattle.std.proofs.lemmas.List.{drop-replicate, get_or-append_right, get_or-replicate, length-replicate, length-take}
+use Rattle.std.proofs.lemmas.List.{drop-replicate, get_or-append_right, get_or-replicate, length-replicate, length-take, replicate-append-replicate}
 use Rattle.std.proofs.lemmas.List.Elements.{All-head, All-tail, All-append, All-nil, All-take}
 use Rattle.std.proofs.lemmas.List.Folds.{length-prefix_len}
 use Rattle.std.proofs.lemmas.List.Sums.{prefix_len_is, prefix_len_passes}
@@ -127,3 +127,35 @@ all_zeros n = let whole : n - 0 ≡ n = omega arith in subst (λ m. IsPadded n (
 
 pub no_text : (n : ℕ) → before_zeros (replicate n 0) ≡ []
 no_text n = let whole : n - 0 ≡ n = omega arith in subst (λ m. before_zeros (replicate m 0) ≡ []) whole (before_zeros-filled n [] (none n))
+
+-- more zeros behind a text
+longer : (n m : ℕ) (bytes : List ℕ) → IsPadded n bytes → n ≤ m → bytes ++ replicate (m - n) 0 ≡ before_zeros bytes ++ replicate (m - length (before_zeros bytes)) 0
+longer n m bytes h up =
+    let text = before_zeros bytes in
+    let k = n - length text in
+    let count : k + (m - n) ≡ m - length text = omega (arith, h.text.fits) in
+    ap (λ bs. bs ++ replicate (m - n) 0) h.zeros ∙ append_assoc text (replicate k 0) (replicate (m - n) 0)
+    ∙ ap (λ zs. text ++ zs) (replicate-append-replicate k (m - n) 0 ∙ ap (λ j. replicate j 0) count)
+
+-- a text of a limit fits within a greater one
+fits_too : (n m : ℕ) (xs : List ℕ) → IsText n xs → n ≤ m → IsText m xs
+fits_too n m xs h up = record { fits = omega (arith, h.fits); printable = h.printable }
+
+pub record IsWidened (m : ℕ) (text after : List ℕ) : Type 0 where
+  pub still : IsPadded m after
+  pub value : before_zeros after ≡ text
+
+-- to write a text and its zeros at the start of more zeros
+pub widened : (n m : ℕ) (bytes after : List ℕ) → IsPadded n bytes → n ≤ m → after ≡ take 0 (replicate m 0) ++ (bytes ++ drop (0 + length bytes) (replicate m 0))
+    → IsWidened m (before_zeros bytes) after
+widened n m bytes after h up e =
+    let text = before_zeros bytes in
+    let is : IsText m text = fits_too n m text h.text up in
+    let whole : 0 + length bytes ≡ n = omega (arith, length-padded n bytes h) in
+    let rest : drop (0 + length bytes) (replicate m 0) ≡ replicate (m - n) 0 =
+    ap (λ j. drop j (replicate m 0)) whole ∙ drop-replicate n m 0 in
+    let shape : after ≡ text ++ replicate (m - length text) 0 = e ∙ ap (λ zs. bytes ++ zs) rest ∙ longer n m bytes h up in
+    record {
+      still = subst (IsPadded m) (sym shape) (padded m text is);
+      value = ap before_zeros shape ∙ before_zeros-filled m text is;
+    }
