@@ -93,6 +93,17 @@ fn is_behind<R>(entries: &[(u64, R)], rank: u64) -> bool
     }
 }
 
+/// Whether the rank is between those of the place and of the one before, so that it would be inserted there.
+fn is_between<R>(entries: &[(u64, R)], rank: u64, place: usize) -> bool
+    requires { are_in_order nat_cmp entries.now ≡ true }
+    ensures { IsTrue result → IsPlaceOf nat_cmp rank entries.now (Err place) }
+{
+    if place == 0 || entries.len() <= place {
+        return false;
+    }
+    entries[place - 1].0 < rank && rank < entries[place].0
+}
+
 /// Where the rank is, or where it would be inserted.
 fn search<R>(entries: &[(u64, R)], rank: u64) -> Result<usize, usize>
     requires { are_in_order nat_cmp entries.now ≡ true }
@@ -114,6 +125,9 @@ fn place_apart<R>(entries: &[(u64, R)], rank: u64, guess: usize) -> Result<usize
     let near = near(entries, rank, guess);
     if is_at(entries, rank, near) {
         return Ok(near);
+    }
+    if is_between(entries, rank, near) {
+        return Err(near);
     }
     search(entries, rank)
 }
