@@ -2,6 +2,7 @@ pub mod CardCodes
 pub mod CardKeys
 pub mod Counts
 pub mod InOrder
+pub mod Infos
 pub mod Keyed
 pub mod Late
 pub mod Middles

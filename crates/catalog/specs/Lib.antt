@@ -1,5 +1,6 @@
 pub mod CardKinds
 pub mod CardMap
+pub mod Infos
 pub mod LastNames
 pub mod Lookups
 pub mod NameOrder

@@ -1,5 +1,5 @@
 //! The cards and their keys (TPC-C clause 1.3; the split into fixed and moving columns by clause 1.4).
-ghost use Rattle.std.specs.Prelude.{◌≡◌, ◌==◌, ◌-◌, None, Some, if◌then◌else◌, length, option_copied, vec_len};
+ghost use Rattle.std.specs.Prelude.{◌≡◌, ◌==◌, ◌-◌, ◌<◌, ◌≤◌, [], IfSome, None, Some, if◌then◌else◌, length, option_copied, slice_index_or, vec_len};
 ghost use Rattle.catalog.specs.CardKinds.{as_customer, as_district, as_item, as_stock, as_warehouse, card_key};
 ghost use Rattle.catalog.specs.StockCards.{district_info};
 
@@ -71,20 +71,47 @@ pub struct CustomerCard {
     pub discount: Rate,
 }
 
+/// Ten texts, which take a third of the room if all are short.
+#[derive(Drop)]
+enum Infos {
+    Short(Vec<Text<8>>),
+    Long(Vec<Text<24>>),
+}
+
+/// Whether the texts have at most eight bytes each.
+fn are_short(texts: &[Text<24>]) -> bool {
+    texts.iter().all(|text| text.as_bytes().len() <= 8)
+}
+
+/// The same texts with less room each; `None` if one is too long, or memory is refused.
+fn shortened(texts: &Vec<Text<24>>) -> Option<Vec<Text<8>>>
+    ensures { IfSome result (λ short. short.items ≡ texts.now.items) }
+{
+    if !are_short(texts) {
+        return None;
+    }
+    let mut short = Vec::with_capacity(*texts.allocator(), texts.len()).ok()?;
+    for text in texts.iter() {
+        short.push(Text::parse(text.as_bytes())?).ok()?;
+    }
+    Some(short)
+}
+
 /// S_DIST_01 to S_DIST_10, a text for each district of the stock's warehouse.
 #[derive(Drop)]
 pub struct DistrictInfos {
-    infos: Vec<Text<24>>,
+    infos: Infos,
 }
 
 impl Model for DistrictInfos {
     ghost use Rattle.std.specs.Prelude.{◌≡◌, ℕ, List, length};
+    ghost use Rattle.catalog.specs.Infos.{texts};
 
     ghost Value = { List (List ℕ) };
 
-    ghost view = { λ x. x.infos.items };
+    ghost view = { λ x. texts x.infos };
 
-    ghost invariant = { λ x. length x.infos.items ≡ 10 };
+    ghost invariant = { λ x. length (texts x.infos) ≡ 10 };
 }
 
 impl DistrictInfos {
@@ -92,19 +119,48 @@ impl DistrictInfos {
     pub fn new(infos: Vec<Text<24>>) -> Option<DistrictInfos>
         ensures { result ≡ (if vec_len infos == 10 then Some infos.items else None) }
     {
-        if infos.len() == 10 {
-            Some(DistrictInfos { infos })
-        } else {
-            None
+        if infos.len() != 10 {
+            return None;
+        }
+        let infos = match shortened(&infos) {
+            Some(short) => Infos::Short(short),
+            None => Infos::Long(infos),
+        };
+        Some(DistrictInfos { infos })
+    }
+
+    /// The number of texts.
+    pub fn len(&self) -> usize
+        ensures value { result ≡ length self.now }
+        ensures ten { result ≡ 10 }
+    {
+        match &self.infos {
+            Infos::Short(texts) => texts.len(),
+            Infos::Long(texts) => texts.len(),
         }
     }
 
-    /// The texts of the districts from 1 to 10.
-    pub fn as_slice(&self) -> &[Text<24>]
-        ensures value { result.now ≡ self.now }
-        ensures ten { length result.now ≡ 10 }
+    /// The text at a place, of which the first is 0.
+    pub fn bytes_at(&self, place: usize) -> &[u8]
+        requires { place < 10 }
+        ensures value { result.now ≡ slice_index_or self.now place [] }
+        ensures fits { length result.now ≤ 24 }
     {
-        self.infos.as_slice()
+        match &self.infos {
+            Infos::Short(texts) => texts[place].as_bytes(),
+            Infos::Long(texts) => texts[place].as_bytes(),
+        }
+    }
+
+    /// A copy of the text at a place.
+    fn text_at(&self, place: usize) -> Text<24>
+        requires { place < 10 }
+        ensures { result ≡ slice_index_or self.now place [] }
+    {
+        match &self.infos {
+            Infos::Short(texts) => texts[place].widened(),
+            Infos::Long(texts) => texts[place].copied(),
+        }
     }
 }
 
@@ -118,11 +174,12 @@ pub struct StockCard {
 }
 
 impl StockCard {
-    /// S_DIST_nn of the district.
-    pub fn district_info(&self, district: DistrictId) -> &Text<24>
-        ensures { result.now ≡ district_info self.now district }
+    /// A copy of S_DIST_nn of the district.
+    pub fn district_info(&self, district: DistrictId) -> Text<24>
+        ensures { result ≡ district_info self.now district }
     {
-        &self.district_infos.infos[usize::from(district.number()) - 1]
+        self.district_infos
+            .text_at(usize::from(district.number()) - 1)
     }
 }
 

@@ -40,6 +40,15 @@ impl Model for Catalog {
         × AreInOrder (customer_cards (cards_in s.cards.items)) s.names };
 }
 
+/// Reads the first and the last bytes of the card at a place. The result has no meaning.
+fn read(cards: &[(CardKey, Card)], place: usize) -> usize {
+    match cards.get(place) {
+        Some((_, Card::Stock(card))) => usize::from(card.data.is_full()),
+        Some((_, Card::Item(card))) => usize::from(card.data.is_full()),
+        _ => 0,
+    }
+}
+
 impl Catalog {
     /// The catalog of these cards, sorted by key.
     pub(crate) fn from_cards(alloc: Global, cards: Vec<(CardKey, Card)>) -> Result<Catalog, Memory>
@@ -58,6 +67,7 @@ impl Catalog {
     }
 
     /// The card of a key, if there is one.
+    #[inline(always)]
     pub fn get(&self, key: &CardKey) -> Option<&Card>
         ensures { option_copied result ≡ map.get self.now key.now }
     {
@@ -120,6 +130,17 @@ impl Catalog {
         ensures { option_copied result ≡ item_card self.now item }
     {
         self.get(&CardKey::Item { item })?.as_item()
+    }
+
+    /// A number of no meaning. Computing it reads where the cards of an item and of its stock are expected, so that finding them needn't
+    /// wait for memory.
+    pub fn prefetch(&self, warehouse: WarehouseId, item: ItemId) -> usize {
+        let stock = CardKey::Stock { warehouse, item };
+        let item = CardKey::Item { item };
+        read(&self.cards, self.layout.guess(&stock)).wrapping_add(read(
+            &self.cards,
+            self.layout.guess(&item),
+        ))
     }
 
     /// The number of cards.

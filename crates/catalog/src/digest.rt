@@ -76,24 +76,25 @@ fn push_customer(card: &CustomerCard, out: &mut RowBuf)
 }
 
 /// The bytes of the texts, with a length byte each.
+#[tactic(auto, using(crate::proofs::Infos::one_less))]
 fn infos_len(infos: &DistrictInfos) -> u16
     ensures value { result ≡ length (flat_map short_text infos.now) }
     ensures fits { result ≤ 250 }
 {
     let mut len = 0;
-    for info in infos.as_slice().iter() {
-        len += 1 + info.as_bytes().len() as u16;
+    for place in 0..infos.len() {
+        len += 1 + infos.bytes_at(place).len() as u16;
     }
     len
 }
 
-#[tactic(auto, using(tpcc_rows::proofs::Lengths::lengths))]
+#[tactic(auto, using(tpcc_rows::proofs::Lengths::lengths, crate::proofs::Infos::one_less))]
 fn push_infos(infos: &DistrictInfos, out: &mut RowBuf)
     requires { length out.old ≤ 286 }
     ensures { out.new ≡ out.old ++ flat_map short_text infos.now }
 {
-    for info in infos.as_slice().iter() {
-        out.push_short(info.as_bytes());
+    for place in 0..infos.len() {
+        out.push_short(infos.bytes_at(place));
     }
 }
 

@@ -13,13 +13,16 @@ use tpcc_rows::memory::Memory;
 /// The districts of a warehouse.
 const DISTRICTS: usize = 10;
 
-/// Where the cards of each kind begin, in this order after the warehouses.
+/// Where the cards of each kind begin, in this order after the warehouses, and how many stocks a warehouse and how many customers a
+/// district has, if all have the same number.
 #[derive(Clone, Copy)]
 pub(crate) struct Layout {
     districts: usize,
     customers: usize,
     stocks: usize,
     items: usize,
+    customers_of_one: usize,
+    stocks_of_one: usize,
 }
 
 /// The kinds in the order of their cards.
@@ -37,29 +40,33 @@ fn first_of_kind(cards: &[(CardKey, Card)], wanted: usize) -> usize {
     cards.partition_point(|entry| kind(&entry.0) < wanted)
 }
 
+/// The same number of cards for each of the owners, if there is one.
+fn share(cards: usize, owners: usize) -> usize {
+    cards / owners.max(1)
+}
+
 impl Layout {
     pub(crate) fn of(cards: &[(CardKey, Card)]) -> Layout {
+        let districts = first_of_kind(cards, 1);
+        let customers = first_of_kind(cards, 2);
+        let stocks = first_of_kind(cards, 3);
+        let items = first_of_kind(cards, 4);
         Layout {
-            districts: first_of_kind(cards, 1),
-            customers: first_of_kind(cards, 2),
-            stocks: first_of_kind(cards, 3),
-            items: first_of_kind(cards, 4),
+            districts,
+            customers,
+            stocks,
+            items,
+            customers_of_one: share(
+                stocks.saturating_sub(customers),
+                customers.saturating_sub(districts),
+            ),
+            stocks_of_one: share(items.saturating_sub(stocks), districts),
         }
     }
 
-    /// The customers of a district, if all have the same number.
-    fn customers_of_one(&self) -> usize {
-        let districts = self.customers.saturating_sub(self.districts);
-        self.stocks.saturating_sub(self.customers) / districts.max(1)
-    }
-
-    /// The stocks of a warehouse, if all have the same number.
-    fn stocks_of_one(&self) -> usize {
-        self.items.saturating_sub(self.stocks) / self.districts.max(1)
-    }
-
-    /// Where the key's card is, if its kind has no gaps.
-    fn guess(&self, key: &CardKey) -> usize {
+    /// Where the key's card is, if its kind has no gaps. Inlined, since a caller knows the kind.
+    #[inline(always)]
+    pub(crate) fn guess(&self, key: &CardKey) -> usize {
         match *key {
             CardKey::Warehouse { warehouse } => before(usize::from(warehouse.number())),
             CardKey::District {
@@ -77,13 +84,13 @@ impl Layout {
             } => {
                 let earlier = before(usize::from(warehouse.number())).wrapping_mul(DISTRICTS);
                 let districts = earlier.wrapping_add(before(usize::from(district.number())));
-                let others = districts.wrapping_mul(self.customers_of_one());
+                let others = districts.wrapping_mul(self.customers_of_one);
                 let number = before(usize::from(customer.number()));
                 self.customers.wrapping_add(others).wrapping_add(number)
             }
             CardKey::Stock { warehouse, item } => {
                 let warehouses = before(usize::from(warehouse.number()));
-                let others = warehouses.wrapping_mul(self.stocks_of_one());
+                let others = warehouses.wrapping_mul(self.stocks_of_one);
                 let number = before(item.number() as usize);
                 self.stocks.wrapping_add(others).wrapping_add(number)
             }
@@ -108,7 +115,8 @@ fn place_of(cards: &[(CardKey, Card)], key: &CardKey) -> Result<usize, usize>
     cards.binary_search_by(|entry| entry.0.cmp(key))
 }
 
-/// The guessed place of the key, if its card is there.
+/// Whether the key's card is at the guessed place.
+#[inline(always)]
 fn guessed(cards: &[(CardKey, Card)], key: &CardKey, guess: usize) -> bool
     ensures { IsTrue result → IsPlaceOf card_key_cmp key.now cards.now (Ok guess) }
 {
@@ -141,7 +149,20 @@ pub(crate) fn moved(
     Ok(moved)
 }
 
+/// The card of a key by binary search, if there is one. Not inlined, so that the look at the guess is.
+#[inline(never)]
+fn found_apart<'a>(cards: &'a [(CardKey, Card)], key: &CardKey) -> Option<&'a Card>
+    requires { are_in_order card_key_cmp cards.now ≡ true }
+    ensures { option_copied result ≡ map.get (cards_in cards.now) key.now }
+{
+    match place_of(cards, key) {
+        Ok(place) => Some(&cards[place].1),
+        Err(_) => None,
+    }
+}
+
 /// The card of a key, if there is one.
+#[inline(always)]
 pub(crate) fn found<'a>(
     cards: &'a [(CardKey, Card)],
     layout: &Layout,
@@ -154,8 +175,5 @@ pub(crate) fn found<'a>(
     if guessed(cards, key, guess) {
         return Some(&cards[guess].1);
     }
-    match place_of(cards, key) {
-        Ok(place) => Some(&cards[place].1),
-        Err(_) => None,
-    }
+    found_apart(cards, key)
 }

@@ -27,7 +27,7 @@ use tpcc_rows::delta::Delta;
 use tpcc_rows::id::{CustomerId, DistrictId, ItemId, LineNumber, OrderId, WarehouseId};
 use tpcc_rows::key::RowKey;
 use tpcc_rows::memory::Memory;
-use tpcc_rows::ranks::rank;
+use tpcc_rows::ranks::{rank, stock_rank};
 use tpcc_rows::row::{
     CustomerRow, DistrictNextRow, DistrictYtdRow, OrderLineRow, OrderRow, Row, StockRow,
     WarehouseRow,
@@ -228,6 +228,14 @@ impl PointedStore {
         ensures { option_copied result ≡ stock_row self.now.rows warehouse item }
     {
         self.tables.stock(warehouse, item)
+    }
+
+    /// A number of no meaning. Computing it reads where the row of a stock is expected, so that reading it needn't wait for memory.
+    pub fn prefetch_stock(&self, warehouse: WarehouseId, item: ItemId) -> usize {
+        match self.tables.expected(stock_rank(warehouse, item)) {
+            Some(RowRef::Stock(row)) => row.ytd.value() as usize,
+            _ => 0,
+        }
     }
 
     pub fn order(

@@ -2,6 +2,7 @@
 //! lines are done in order, each on the rows as the earlier ones leave them.
 ghost use Rattle.std.specs.Prelude.{◌≡◌, ◌<◌, ◌≤◌, ◌+◌, [], length, map, IfOk, OnOk};
 ghost use Rattle.std.specs.List.{list_all, sum_by};
+ghost use Rattle.catalog.specs.StockCards.{district_info};
 ghost use Rattle.requests.specs.declared.request.RequestKind.TheVariants as kind;
 ghost use Rattle.tpcc_model.specs.NewOrders.{all_local, line_done, lines_done, new_order, opened, order_of, raised_district};
 ghost use Rattle.tpcc_model.specs.Staging.{within};
@@ -17,7 +18,8 @@ ghost use Rattle.worker_rows.specs.Views.{covers};
 use crate::fault::Fault;
 use crate::lent::{self, Lent, Seen};
 use crate::order_line::{
-    LineCards, brand_of, found_lines, line_amount, order_line_of, ordered_stock,
+    LineCards, brand_of, district_infos, found_lines, line_amount, order_line_of, ordered_stock,
+    room_for,
 };
 use catalog::{Catalog, CustomerCard, DistrictCard, WarehouseCard};
 use requests::reply::{LineReplies, LineReply, NewOrderReply, Reply, RequestRefusal};
@@ -31,6 +33,7 @@ use tpcc_rows::key::RowKey;
 use tpcc_rows::memory::Memory;
 use tpcc_rows::number::{Cents, Moment};
 use tpcc_rows::row::{DistrictNextRow, OrderRow, Row, StockRow};
+use tpcc_rows::text::Text;
 use tpcc_rows::total::total_cents;
 use worker_rows::{RowView, district_next_row, stock_row};
 
@@ -100,10 +103,12 @@ fn line_done(
     order: OrderId,
     number: LineNumber,
     line: &LineCards<'_>,
+    info: &Text<24>,
     old: &StockRow,
     so_far: &mut OrderSoFar,
 ) -> Result<(), Fault>
-    requires { length so_far.old.lines < 15 }
+    requires few { length so_far.old.lines < 15 }
+    requires info { info.now ≡ district_info line.now.stock.now p.now.district }
     ensures answer { AnswersBy (λ done. so_far_of so_far.new)
         (line_done p.now order number (line_cards_of line.now) old.now (so_far_of so_far.old)) result }
     ensures one_more { OnOk result (length so_far.new.lines ≡ length so_far.old.lines + 1) }
@@ -126,7 +131,7 @@ fn line_done(
         order,
         number,
     };
-    let line_row = order_line_of(p, line, amount);
+    let line_row = order_line_of(p, line, info, amount);
     so_far.changes.put(line_key, Row::OrderLine(line_row))?;
     so_far.lines.push(reply);
     Ok(())
@@ -145,6 +150,7 @@ fn lines_done<V: RowView>(
     ensures { AnswersBy (λ done. so_far_of so_far.new)
         (lines_done (lent (V.sees view.now)) p.now order 1 (map line_cards_of lines.now) (so_far_of so_far.old)) result }
 {
+    let infos = district_infos(lines, p.district);
     for (index, line) in lines.iter().enumerate() {
         let OrderedLine { item, supply, .. } = *line.ordered;
         let rows = Seen {
@@ -153,7 +159,15 @@ fn lines_done<V: RowView>(
         };
         let row = stock_row(&rows, supply, item);
         let old = *row.ok_or(RequestRefusal::UnknownKey)?;
-        line_done(p, order, line_number(index + 1), line, &old, so_far)?;
+        line_done(
+            p,
+            order,
+            line_number(index + 1),
+            line,
+            &infos[index],
+            &old,
+            so_far,
+        )?;
     }
     Ok(())
 }
@@ -265,7 +279,8 @@ fn new_order<V: RowView>(
     let Some(own) = own_cards(catalog, p) else {
         return Err(Fault::Refused(RequestRefusal::UnknownKey));
     };
-    let lines = found_lines(alloc, catalog, p.lines.as_slice())?;
+    let lines = p.lines.as_slice();
+    let lines = found_lines(alloc, catalog, lines, room_for(catalog, view, lines))?;
     if !may_place(view, p) {
         return Err(Fault::Strayed);
     }

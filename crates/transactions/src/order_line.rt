@@ -1,5 +1,6 @@
 //! One line of a new order (TPC-C clause 2.4.2.2): its cards, its stock after it, its brand and its row.
-ghost use Rattle.std.specs.Prelude.{◌≡◌, length, map, if◌then◌else◌, IfOk};
+ghost use Rattle.std.specs.Prelude.{◌≡◌, ◌≤◌, length, map, if◌then◌else◌, IfOk};
+ghost use Rattle.catalog.specs.StockCards.{district_info};
 ghost use Rattle.tpcc_model.specs.NewOrders.{brand_of, found_item, found_lines, found_stock, is_original, left_quantity, line_amount, order_line_of, ordered_stock, remote_orders};
 ghost use Rattle.tpcc_model.specs.Staging.{for_each, within};
 ghost use Rattle.transactions.specs.Faults.{AnswersBy};
@@ -7,14 +8,17 @@ ghost use Rattle.transactions.specs.NewOrderParts.{line_cards_of, line_item_of};
 ghost use Rattle.transactions.specs.Outcomes.{viewed};
 
 use crate::fault::Fault;
+use arrayvec::ArrayVec;
 use catalog::{Catalog, ItemCard, StockCard};
 use requests::number::OrderedQuantity;
 use requests::reply::{Brand, RequestRefusal};
 use requests::request::{NewOrder, OrderedLine};
 use std::alloc::Global;
-use tpcc_rows::id::WarehouseId;
+use tpcc_rows::id::{DistrictId, WarehouseId};
 use tpcc_rows::number::{Amount, LineQuantity, StockQuantity};
 use tpcc_rows::row::{OrderLineRow, StockRow};
+use tpcc_rows::text::Text;
+use worker_rows::RowView;
 
 /// A line with its item's card.
 #[derive(Drop)]
@@ -64,14 +68,27 @@ fn found_stock<'a>(
     }
 }
 
+/// The number of lines, or one more. Computing it reads where the cards and the stocks of all lines are expected, side by side, so that
+/// finding them needn't wait for memory.
+pub(crate) fn room_for<V: RowView>(catalog: &Catalog, view: &V, lines: &[OrderedLine]) -> usize {
+    let mut read = 0usize;
+    for line in lines {
+        read = read
+            .wrapping_add(catalog.prefetch(line.supply, line.item))
+            .wrapping_add(view.prefetch_stock(line.supply, line.item));
+    }
+    lines.len().wrapping_add(read % 2)
+}
+
 fn found_items<'a>(
     alloc: Global,
     catalog: &'a Catalog,
     lines: &'a [OrderedLine],
+    room: usize,
 ) -> Result<Vec<LineItem<'a>>, Fault>
     ensures { AnswersBy (λ items. map line_item_of items.items) (for_each (found_item catalog.now) lines.now) result }
 {
-    let mut items = Vec::with_capacity(alloc, lines.len())?;
+    let mut items = Vec::with_capacity(alloc, room)?;
     for line in lines {
         items.push(found_item(catalog, line)?)?;
     }
@@ -92,17 +109,18 @@ fn found_stocks<'a>(
     Ok(lines)
 }
 
-/// The lines with their cards. Each item is looked for before any stock.
+/// The lines with their cards. Each item is looked for before any stock. Memory is taken for so many lines at first.
 #[tactic(auto, unfolding(tpcc_model::specs::NewOrders::found_lines))]
 pub(crate) fn found_lines<'a>(
     alloc: Global,
     catalog: &'a Catalog,
     lines: &'a [OrderedLine],
+    room: usize,
 ) -> Result<Vec<LineCards<'a>>, Fault>
     ensures answer { AnswersBy (λ found. map line_cards_of found.items) (found_lines catalog.now lines.now) result }
     ensures len { IfOk result (λ found. length found.items ≡ length lines.now) }
 {
-    let items = found_items(alloc, catalog, lines)?;
+    let items = found_items(alloc, catalog, lines, room)?;
     found_stocks(alloc, catalog, &items)
 }
 
@@ -180,8 +198,30 @@ fn line_quantity(quantity: OrderedQuantity) -> LineQuantity
     LineQuantity::new(quantity.value()).unwrap()
 }
 
+/// S_DIST_nn of each line's stock, for the order's district. They are copied in one short loop, so that they come from memory side
+/// by side.
+pub(crate) fn district_infos(
+    lines: &[LineCards<'_>],
+    district: DistrictId,
+) -> ArrayVec<Text<24>, 15>
+    requires { length lines.now ≤ 15 }
+    ensures { result.items ≡ map (λ line. district_info line.stock.now district) lines.now }
+{
+    let mut infos = ArrayVec::new();
+    for line in lines {
+        infos.push(line.stock.district_info(district));
+    }
+    infos
+}
+
 #[tactic(auto, unfolding(tpcc_model::specs::NewOrders::order_line_of))]
-pub(crate) fn order_line_of(p: &NewOrder, line: &LineCards<'_>, amount: Amount) -> OrderLineRow
+pub(crate) fn order_line_of(
+    p: &NewOrder,
+    line: &LineCards<'_>,
+    info: &Text<24>,
+    amount: Amount,
+) -> OrderLineRow
+    requires { info.now ≡ district_info line.now.stock.now p.now.district }
     ensures { result ≡ order_line_of p.now (line_cards_of line.now) amount }
 {
     OrderLineRow {
@@ -190,6 +230,6 @@ pub(crate) fn order_line_of(p: &NewOrder, line: &LineCards<'_>, amount: Amount) 
         delivery: None,
         quantity: line_quantity(line.ordered.quantity),
         amount,
-        district_info: line.stock.district_info(p.district).copied(),
+        district_info: info.copied(),
     }
 }

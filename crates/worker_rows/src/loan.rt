@@ -8,7 +8,7 @@ use crate::view::{RowView, Strayed};
 use row_store::PointedStore;
 use tpcc_rows::footprint::{Footprint, is_among};
 use tpcc_rows::granule::{Granule, granule_of};
-use tpcc_rows::id::{CustomerId, DistrictId, OrderId, WarehouseId};
+use tpcc_rows::id::{CustomerId, DistrictId, ItemId, OrderId, WarehouseId};
 use tpcc_rows::key::RowKey;
 use tpcc_rows::row_ref::RowRef;
 
@@ -83,6 +83,10 @@ impl RowView for Loan<'_> {
             return Err(Strayed);
         }
         Ok(self.store.last_order(warehouse, district, customer))
+    }
+
+    fn prefetch_stock(&self, warehouse: WarehouseId, item: ItemId) -> usize {
+        self.store.prefetch_stock(warehouse, item)
     }
 
     fn may_write(&self, granule: &Granule) -> bool {

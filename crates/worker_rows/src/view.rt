@@ -7,7 +7,7 @@ ghost use Rattle.worker_rows.specs.Views.{View, may_read, may_write, readable};
 
 use thiserror::Error;
 use tpcc_rows::granule::Granule;
-use tpcc_rows::id::{CustomerId, DistrictId, OrderId, WarehouseId};
+use tpcc_rows::id::{CustomerId, DistrictId, ItemId, OrderId, WarehouseId};
 use tpcc_rows::key::RowKey;
 use tpcc_rows::row_ref::RowRef;
 
@@ -44,6 +44,9 @@ pub trait RowView {
     ) -> Result<Option<OrderId>, Strayed>
         ensures strays { is_ok result ≡ may_read (sees self.now) (Granule.Book warehouse district) }
         ensures order { IfOk result (λ order. order ≡ latest (sees self.now).rows warehouse district customer) };
+
+    /// A number of no meaning. Computing it reads where the row of a stock is expected, so that reading it needn't wait for memory.
+    fn prefetch_stock(&self, warehouse: WarehouseId, item: ItemId) -> usize;
 
     /// Whether the granule may be written.
     fn may_write(&self, granule: &Granule) -> bool

@@ -4,7 +4,7 @@ ghost use Rattle.std.specs.Prelude.{None};
 use crate::view::{RowView, Strayed};
 use row_store::PointedStore;
 use tpcc_rows::granule::Granule;
-use tpcc_rows::id::{CustomerId, DistrictId, OrderId, WarehouseId};
+use tpcc_rows::id::{CustomerId, DistrictId, ItemId, OrderId, WarehouseId};
 use tpcc_rows::key::RowKey;
 use tpcc_rows::row_ref::RowRef;
 
@@ -36,6 +36,10 @@ impl RowView for Whole<'_> {
         customer: CustomerId,
     ) -> Result<Option<OrderId>, Strayed> {
         Ok(self.store.last_order(warehouse, district, customer))
+    }
+
+    fn prefetch_stock(&self, warehouse: WarehouseId, item: ItemId) -> usize {
+        self.store.prefetch_stock(warehouse, item)
     }
 
     fn may_write(&self, _: &Granule) -> bool {
