@@ -1,5 +1,5 @@
 -- Changes taken back.
-use Rattle.std.proofs.Common.{◌≡◌, ℕ, zero, suc, ◌<◌, ◌≤◌, ◌+◌, ◌||◌, eqb, true, false, cond, is_some, List, [], ◌∷◌, ◌++◌, Option, Some, None, Result, Ok, Err, inl, inr, refl, sym, ap, subst, ◌∙◌, arith}
+use Rattle.std.proofs.Common.{◌≡◌, ℕ, zero, suc, ◌<◌, ◌≤◌, ◌+◌, ◌||◌, eqb, true, false, cond, is_none, is_some, List, [], ◌∷◌, ◌++◌, Option, Some, None, Result, Ok, Err, inl, inr, refl, sym, ap, subst, ◌∙◌, arith}
 use Rattle.std.specs.FinMap.{get, insert, remove, same_map}
 use Rattle.std.specs.Result.{OnOk, OnErr}
 use Rattle.std.specs.Ordering.{eq_by_cmp}
@@ -53,27 +53,23 @@ ok_always (Ok x) p = p
 ok_always (Err e) p = tt
 
 -- ---- one change more
-pub wants-replaced : (o : Option Row) (m : Rows) (k : RowKey) (x : Row) → wants k o (insert m k x) ≡ 0
+wants-replaced : (o : Option Row) (m : Rows) (k : RowKey) (x : Row) → wants k o (insert m k x) ≡ 0
 wants-replaced None m k x = refl
 wants-replaced (Some y) m k x = ap (λ (z : Option Row). cond (is_some z) 0 1) (here row_key_cmp_total exact_keys m k x)
 
-pub wants-removed : (o : Option Row) (m : Rows) (k : RowKey) → wants k o (remove m k) ≡ cond (is_some o) 1 0
+wants-removed : (o : Option Row) (m : Rows) (k : RowKey) → wants k o (remove m k) ≡ cond (is_some o) 1 0
 wants-removed None m k = refl
 wants-removed (Some y) m k = ap (λ (z : Option Row). cond (is_some z) 0 1) (gone row_key_cmp_total exact_keys m k)
 
-pub noted-put : (old new : Log) (m : Rows) (k : RowKey) (x : Row) (was : Option Row) → was ≡ get m k → new.olds.items ≡ old.olds.items ++ (k, was) ∷ [] → new.removals ≡ old.removals → new_row_fits k was ≡ true
-    → IsNoted old new m k (Some x)
-noted-put old new m k x was is olds same fit = record {
-  olds = olds ∙ ap (λ o. old.olds.items ++ (k, o) ∷ []) is;
-  removals = (let none = wants-replaced (get m k) m k x in omega (arith, same, none));
-  fit = ap (λ o. new_row_fits k o) (sym is) ∙ fit;
-}
+pub wants-changed : (c o : Option Row) (m : Rows) (k : RowKey) → wants k o (changed m k c) ≡ cond (is_none c) (cond (is_some o) 1 0) 0
+wants-changed None o m k = wants-removed o m k
+wants-changed (Some x) o m k = wants-replaced o m k x
 
-pub noted-removal : (old new : Log) (m : Rows) (k : RowKey) (was : Option Row) → was ≡ get m k → new.olds.items ≡ old.olds.items ++ (k, was) ∷ [] → new.removals ≡ old.removals + cond (is_some was) 1 0 → new_row_fits k was ≡ true
-    → IsNoted old new m k None
-noted-removal old new m k was is olds more fit = record {
+pub noted-change : (old new : Log) (m : Rows) (k : RowKey) (c was : Option Row) → was ≡ get m k → new.olds.items ≡ old.olds.items ++ (k, was) ∷ []
+    → new.removals ≡ old.removals + cond (is_none c) (cond (is_some was) 1 0) 0 → new_row_fits k was ≡ true → IsNoted old new m k c
+noted-change old new m k c was is olds more fit = record {
   olds = olds ∙ ap (λ o. old.olds.items ++ (k, o) ∷ []) is;
-  removals = more ∙ ap (λ n. old.removals + n) (ap (λ o. cond (is_some o) 1 0) is ∙ sym (wants-removed (get m k) m k));
+  removals = more ∙ ap (λ n. old.removals + n) (ap (λ o. cond (is_none c) (cond (is_some o) 1 0) 0) is ∙ sym (wants-changed c (get m k) m k));
   fit = ap (λ o. new_row_fits k o) (sym is) ∙ fit;
 }
 

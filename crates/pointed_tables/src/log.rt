@@ -2,8 +2,8 @@
 ghost use Rattle.std.specs.Prelude.{◌≡◌, ◌<◌, ◌≤◌, ◌+◌, ◌^◌, ◌++◌, ◌∷◌, [], is_some, cond, OnErr, OnOk, vec_capacity, vec_len, true};
 ghost use Rattle.std.specs.FinMap as map;
 ghost use Rattle.serializability.specs.Changes.{changed};
-ghost use Rattle.tpcc_rows.specs.RowKinds.{fits};
-ghost use Rattle.pointed_tables.specs.Logs.{IsLogOf, IsNoted, IsSame, KeepsOthers, undone};
+ghost use Rattle.tpcc_rows.specs.Changing.{new_row_fits};
+ghost use Rattle.pointed_tables.specs.Logs.{IsLogOf, IsNoted, IsSame, KeepsOthers, undone, wants};
 
 use crate::roomy::RoomyTables;
 use rollback::Dirty;
@@ -63,26 +63,17 @@ impl Log {
         Ok(())
     }
 
-    /// Notes what a key had, for which there is room.
-    fn note(&mut self, old: (RowKey, Option<Row>))
-        requires { vec_len self.old.olds < vec_capacity self.old.olds }
-        ensures olds { self.new.olds.items ≡ self.old.olds.items ++ old ∷ [] }
-        ensures removals { self.new.removals ≡ self.old.removals }
-    {
-        let _ = self.olds.push(old);
-    }
-
-    /// Notes the row that was removed, if any.
-    fn note_removal(&mut self, key: RowKey, row: Option<Row>)
+    /// Notes what a key had, for which there is room, and whether it was removed.
+    fn note(&mut self, key: RowKey, was: Option<Row>, is_removed: bool)
         requires room { vec_len self.old.olds < vec_capacity self.old.olds }
         requires few { self.old.removals + 1 < 2 ^ 64 }
-        ensures olds { self.new.olds.items ≡ self.old.olds.items ++ (key, row) ∷ [] }
-        ensures removals { self.new.removals ≡ self.old.removals + cond (is_some row) 1 0 }
+        ensures olds { self.new.olds.items ≡ self.old.olds.items ++ (key, was) ∷ [] }
+        ensures removals { self.new.removals ≡ self.old.removals + cond is_removed (cond (is_some was) 1 0) 0 }
     {
-        if row.is_some() {
+        if is_removed && was.is_some() {
             self.removals += 1;
         }
-        self.note((key, row));
+        let _ = self.olds.push((key, was));
     }
 }
 
@@ -92,41 +83,25 @@ impl MadeWith<Global> for Log {
     }
 }
 
-/// Inserts or replaces the key's row, and notes what it had.
-pub(crate) fn put_noting(
+/// Gives the key this row, or none, and notes what it had.
+pub(crate) fn change_noting(
     store: &mut RoomyTables,
     key: &RowKey,
-    row: Row,
+    new_row: Option<Row>,
     log: &mut Log,
 ) -> Result<(), Memory>
-    requires { fits key.now row ≡ true }
-    ensures noted { OnOk result (IsNoted log.old log.new store.old.rows key.now (Some row)) }
-    ensures ok { OnOk result (store.new.rows ≡ map.insert store.old.rows key.now row) }
-    ensures room { store.new.room ≡ store.old.room }
+    requires { new_row_fits key.now new_row ≡ true }
+    ensures noted { OnOk result (IsNoted log.old log.new store.old.rows key.now new_row) }
+    ensures ok { OnOk result (store.new.rows ≡ changed store.old.rows key.now new_row) }
+    ensures room { OnOk result (store.new.room ≡ store.old.room + wants key.now (map.get store.old.rows key.now) (changed store.old.rows key.now new_row)) }
     ensures err { OnErr result (store.new ≡ store.old) }
     ensures log_err { OnErr result (IsSame log.old log.new) }
 {
     log.prepare()?;
-    let was = store.put(*key, row)?;
-    log.note((*key, was));
-    Ok(())
-}
-
-/// Removes the key's row, if any, and notes it.
-pub(crate) fn remove_noting(
-    store: &mut RoomyTables,
-    key: &RowKey,
-    log: &mut Log,
-) -> Result<(), Memory>
-    ensures noted { OnOk result (IsNoted log.old log.new store.old.rows key.now None) }
-    ensures ok { OnOk result (store.new.rows ≡ map.remove store.old.rows key.now) }
-    ensures room { OnOk result (store.new.room ≡ store.old.room + cond (is_some (map.get store.old.rows key.now)) 1 0) }
-    ensures err { OnErr result (store.new ≡ store.old) }
-    ensures log_err { OnErr result (IsSame log.old log.new) }
-{
-    log.prepare()?;
-    let was = store.remove(key)?;
-    log.note_removal(*key, was);
+    let is_removed = new_row.is_none();
+    let mut row = new_row;
+    store.exchange(key, &mut row)?;
+    log.note(*key, row, is_removed);
     Ok(())
 }
 

@@ -12,7 +12,7 @@ ghost use Rattle.rollback.specs.Marks.{AreClean, HasAlso, HasAlsoThose};
 ghost use Rattle.rollback.specs.Pointed.{KeepsCleanLeaves};
 ghost use Rattle.pointed_tables.specs.Logs.{IsPointed, points_of};
 
-use crate::log::{Log, put_noting, remove_noting, undo_all};
+use crate::log::{Log, change_noting, undo_all};
 use crate::roomy::RoomyTables;
 use arrayvec::ArrayVec;
 use rollback::{Dirty, NoSuchPoint, POINTS, PointsFull};
@@ -57,44 +57,40 @@ impl Model for PointedTables {
     ghost invariant = { λ s. IsPointed s.points.items s.store.rows s.store.room };
 }
 
-/// Inserts or replaces the key's row, and notes what it had in the newest log, if there is one.
-fn put_noting_newest(
-    store: &mut RoomyTables,
-    key: &RowKey,
-    row: Row,
-    points: &mut [Log],
-) -> Result<(), Memory>
-    requires { fits key.now row ≡ true }
-    ensures ok { OnOk result (store.new.rows ≡ map.insert store.old.rows key.now row) }
+/// Gives the key this row, or none.
+fn change(store: &mut RoomyTables, key: &RowKey, new_row: Option<Row>) -> Result<(), Memory>
+    requires { new_row_fits key.now new_row ≡ true }
+    ensures ok { OnOk result (store.new.rows ≡ changed store.old.rows key.now new_row) }
+    ensures room { store.new.room ≡ store.old.room }
     ensures err { OnErr result (store.new ≡ store.old) }
-    ensures points { points_of points.new store.new.rows ≡ points_of points.old store.old.rows }
-    ensures pointed { IsPointed points.old store.old.rows store.old.room → IsPointed points.new store.new.rows store.new.room }
 {
-    let len = points.len();
-    if len == 0 {
-        store.put(*key, row)?;
-        return Ok(());
+    match new_row {
+        Some(row) => {
+            store.put(*key, row)?;
+        }
+        None => drop(store.take(key)),
     }
-    put_noting(store, key, row, &mut points[len - 1])
+    Ok(())
 }
 
-/// Removes the key's row, and notes it in the newest log, if there is one.
-fn remove_noting_newest(
+/// Gives the key this row, or none, and notes what it had in the newest log, if there is one.
+fn change_noting_newest(
     store: &mut RoomyTables,
     key: &RowKey,
+    new_row: Option<Row>,
     points: &mut [Log],
 ) -> Result<(), Memory>
-    ensures ok { OnOk result (store.new.rows ≡ map.remove store.old.rows key.now) }
+    requires { new_row_fits key.now new_row ≡ true }
+    ensures ok { OnOk result (store.new.rows ≡ changed store.old.rows key.now new_row) }
     ensures err { OnErr result (store.new ≡ store.old) }
     ensures points { points_of points.new store.new.rows ≡ points_of points.old store.old.rows }
     ensures pointed { IsPointed points.old store.old.rows store.old.room → IsPointed points.new store.new.rows store.new.room }
 {
     let len = points.len();
     if len == 0 {
-        store.take(key);
-        return Ok(());
+        return change(store, key, new_row);
     }
-    remove_noting(store, key, &mut points[len - 1])
+    change_noting(store, key, new_row, &mut points[len - 1])
 }
 
 impl PointedTables {
@@ -217,31 +213,17 @@ impl PointedTables {
         self.store.len()
     }
 
-    /// Inserts or replaces the key's row; its leaf is dirty from now on.
-    pub fn put(&mut self, key: RowKey, row: Row) -> Result<(), Memory>
-        requires { fits key row ≡ true }
-        ensures rows { OnOk result (self.new.rows ≡ map.insert self.old.rows key row) }
+    /// Gives the key this row, or none; its leaf is dirty from now on.
+    pub fn change(&mut self, key: RowKey, new_row: Option<Row>) -> Result<(), Memory>
+        requires { new_row_fits key new_row ≡ true }
+        ensures rows { OnOk result (self.new.rows ≡ changed self.old.rows key new_row) }
         ensures dirty { OnOk result (HasAlso self.old.dirty (leaf key) self.new.dirty) }
         ensures points { self.new.points ≡ self.old.points }
         ensures err { OnErr result (self.new ≡ self.old) }
         ensures clean { KeepsCleanLeaves self.old self.new }
     {
-        let leaf = leaf(&key);
-        put_noting_newest(&mut self.store, &key, row, self.points.as_mut_slice())?;
-        self.dirty.add(leaf);
-        Ok(())
-    }
-
-    /// Removes the key's row, if any; its leaf is dirty from now on.
-    fn take_out(&mut self, key: &RowKey) -> Result<(), Memory>
-        ensures rows { OnOk result (self.new.rows ≡ map.remove self.old.rows key.now) }
-        ensures dirty { OnOk result (HasAlso self.old.dirty (leaf key.now) self.new.dirty) }
-        ensures points { self.new.points ≡ self.old.points }
-        ensures err { OnErr result (self.new ≡ self.old) }
-        ensures clean { KeepsCleanLeaves self.old self.new }
-    {
-        remove_noting_newest(&mut self.store, key, self.points.as_mut_slice())?;
-        self.dirty.add(leaf(key));
+        change_noting_newest(&mut self.store, &key, new_row, self.points.as_mut_slice())?;
+        self.dirty.add(leaf(&key));
         Ok(())
     }
 
@@ -265,22 +247,8 @@ impl PointedTables {
         ensures clean { KeepsCleanLeaves self.old self.new }
     {
         let was = self.copied(key)?;
-        self.take_out(key)?;
+        self.change(*key, None)?;
         Ok(was)
-    }
-
-    fn change(&mut self, key: RowKey, new_row: Option<Row>) -> Result<(), Memory>
-        requires { new_row_fits key new_row ≡ true }
-        ensures rows { OnOk result (self.new.rows ≡ changed self.old.rows key new_row) }
-        ensures dirty { OnOk result (HasAlso self.old.dirty (leaf key) self.new.dirty) }
-        ensures points { self.new.points ≡ self.old.points }
-        ensures err { OnErr result (self.new ≡ self.old) }
-        ensures clean { KeepsCleanLeaves self.old self.new }
-    {
-        match new_row {
-            Some(row) => self.put(key, row),
-            None => self.take_out(&key),
-        }
     }
 
     /// Makes the changes, whose rows are moved. After a refusal a prefix of them, in key order, is made.

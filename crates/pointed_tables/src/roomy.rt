@@ -1,5 +1,5 @@
 //! Rows in tables, to which removed rows can come back without memory.
-ghost use Rattle.std.specs.Prelude.{◌≡◌, ◌<◌, ◌≤◌, ◌+◌, ◌-◌, cond, IfOk, IfSome, OnErr, OnOk, None, Some, is_some, length, option_copied, option_map, false, true};
+ghost use Rattle.std.specs.Prelude.{◌≡◌, ◌<◌, ◌≤◌, ◌+◌, ◌-◌, cond, IfOk, IfSome, OnErr, OnOk, None, Some, is_none, is_some, length, option_copied, option_map, false, true};
 ghost use Rattle.std.specs.FinMap as map;
 ghost use Rattle.serializability.specs.Changes.{changed};
 ghost use Rattle.tpcc_rows.specs.References.{row_of};
@@ -14,6 +14,7 @@ use crate::picks::{greatest_order, least_new};
 use row_tables::store::RowTables;
 use std::alloc::Global;
 use std::marker::Model;
+use std::mem;
 use tpcc_rows::id::{CustomerId, DistrictId, ItemId, LineNumber, OrderId, WarehouseId};
 use tpcc_rows::key::RowKey;
 use tpcc_rows::memory::Memory;
@@ -268,6 +269,41 @@ impl RoomyTables {
             self.aside.hold()?;
         }
         Ok(self.take(key))
+    }
+
+    /// Inserts or replaces the key's row, in exchange for the old one.
+    fn exchange_row(&mut self, key: &RowKey, row: &mut Option<Row>) -> Result<(), Memory>
+        requires fit { new_row_fits key.now row.old ≡ true }
+        requires some { is_some row.old ≡ true }
+        ensures value { OnOk result (row.new ≡ map.get self.old.rows key.now) }
+        ensures kind { OnOk result (new_row_fits key.now row.new ≡ true) }
+        ensures ok { OnOk result (self.new.rows ≡ changed self.old.rows key.now row.old) }
+        ensures room { self.new.room ≡ self.old.room }
+        ensures err { OnErr result (self.new ≡ self.old) }
+    {
+        if !self.aside.has(key) {
+            return self.tables.exchange(key, row);
+        }
+        if let Some(new) = mem::replace(row, None) {
+            *row = self.put(*key, new)?;
+        }
+        Ok(())
+    }
+
+    /// Gives the key this row, or none, in exchange for what it had. Room is held for a row that is removed.
+    pub fn exchange(&mut self, key: &RowKey, row: &mut Option<Row>) -> Result<(), Memory>
+        requires { new_row_fits key.now row.old ≡ true }
+        ensures value { OnOk result (row.new ≡ map.get self.old.rows key.now) }
+        ensures kind { OnOk result (new_row_fits key.now row.new ≡ true) }
+        ensures ok { OnOk result (self.new.rows ≡ changed self.old.rows key.now row.old) }
+        ensures room { OnOk result (self.new.room ≡ self.old.room + cond (is_none row.old) (cond (is_some row.new) 1 0) 0) }
+        ensures err { OnErr result (self.new ≡ self.old) }
+    {
+        if row.is_some() {
+            return self.exchange_row(key, row);
+        }
+        *row = self.remove(key)?;
+        Ok(())
     }
 
     /// Replaces the key's row, which exists, and returns the old one, without allocating.

@@ -1,5 +1,5 @@
 -- Ranks that stay listed.
-use Rattle.std.proofs.Common.{◌≡◌, ◌&&◌, ℕ, zero, suc, true, false, is_some, List, [], ◌∷◌, ◌++◌, take, drop, Some, Result, Ok, Err, inl, inr, sym, ap, subst, ◌∙◌, arith}
+use Rattle.std.proofs.Common.{◌≡◌, ◌&&◌, ℕ, zero, suc, true, false, is_some, List, [], ◌∷◌, ◌++◌, take, drop, Option, Some, None, Result, refl, Ok, Err, inl, inr, sym, ap, subst, ◌∙◌, arith}
 use Rattle.std.proofs.lemmas.List.{reverse-append}
 use Rattle.std.proofs.lemmas.List.Elements.{All-append, All-cons, All-drop, All-nil, All-take}
 use Rattle.std.specs.FinMap as map
@@ -8,6 +8,7 @@ use Rattle.std.specs.List.{list_all, slice_get}
 use Rattle.std.specs.Option.{unwrap_or}
 use Rattle.std.specs.Prelude.{⊤, All, reverse}
 use Rattle.std.specs.Result.{OnOk, OnErr}
+use Rattle.serializability.specs.Changes.{changed}
 use Rattle.std.specs.Ordering.{nat_cmp}
 use Rattle.rollback.specs.Pointed.{Pointed}
 use Rattle.row_store.specs.Leaves.{AreLeaves, AreListed, IsListed}
@@ -100,6 +101,10 @@ module _ (ranks : ByRank ⊤) (a b : Pointed) (h : AreLeaves ranks a) where
     pub leaves-removed : (r : Result A E) (k : RowKey) → OnOk r (b.rows ≡ remove a.rows k) → b.points ≡ a.points → OnErr r (b ≡ a) → AreLeaves ranks b
     leaves-removed (Ok u) k rows points err = leaves-with (subst (AreListed ranks) (sym rows) (listed-remove ranks a.rows k h.present)) (same-points points)
     leaves-removed (Err e) k rows points err = leaves-is err
+
+    pub leaves-changed : (r : Result A E) (k : RowKey) (c : Option Row) → (is_some c ≡ true → IsListed ranks k) → OnOk r (b.rows ≡ changed a.rows k c) → b.points ≡ a.points → OnErr r (b ≡ a) → AreLeaves ranks b
+    leaves-changed r k (Some x) here rows points err = leaves-put r k x (here refl) rows points err
+    leaves-changed r k None here rows points err = leaves-removed r k rows points err
 
     pub leaves-marked : (r : Result A E) → OnOk r (b.points ≡ a.points ++ a.rows ∷ []) → b.rows ≡ a.rows → OnErr r (b ≡ a) → AreLeaves ranks b
     leaves-marked (Ok u) points rows err = leaves-with (same-rows rows) (subst (All (AreListed ranks)) (sym points) (All-append (AreListed ranks) a.points (a.rows ∷ []) h.before (All-cons (AreListed ranks) a.rows [] h.present (All-nil (AreListed ranks)))))

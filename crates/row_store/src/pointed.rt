@@ -1,5 +1,5 @@
 //! Rows in tables and by leaf, the points to which they can go back, and the leaves on which they have changed.
-ghost use Rattle.std.specs.Prelude.{◌≡◌, ◌<◌, ◌≤◌, ◌+◌, ◌↔◌, [], ◌∷◌, ◌++◌, take, drop, IfOk, IfSome, IsErr, None, Some, OnOk, OnErr, length, option_copied, option_map, slice_get, true};
+ghost use Rattle.std.specs.Prelude.{◌≡◌, ◌<◌, ◌≤◌, ◌+◌, ◌↔◌, [], ◌∷◌, ◌++◌, take, drop, IfOk, IfSome, IsErr, None, Some, OnOk, OnErr, is_some, length, option_copied, option_map, slice_get, true};
 ghost use Rattle.std.specs.FinMap as map;
 ghost use Rattle.std.specs.List.{list_all};
 ghost use Rattle.serializability.specs.Changes.{changed};
@@ -92,11 +92,19 @@ fn is_often_new(key: &RowKey) -> bool {
     )
 }
 
-/// Lists the key's rank, if the key may have no row. Listing it again changes nothing.
-fn list_new(leaves: &mut Leaves, tables: &PointedTables, key: &RowKey) -> Result<(), Memory>
+/// Lists the key's rank, if the key gets a row and may have none. Listing it again changes nothing.
+fn list_new(
+    leaves: &mut Leaves,
+    tables: &PointedTables,
+    key: &RowKey,
+    new_row: &Option<Row>,
+) -> Result<(), Memory>
     ensures kept { AreLeaves leaves.old tables.now → AreLeaves leaves.new tables.now }
-    ensures ok { OnOk result (AreLeaves leaves.old tables.now → IsListed leaves.new key.now) }
+    ensures ok { OnOk result (AreLeaves leaves.old tables.now → is_some new_row.now ≡ true → IsListed leaves.new key.now) }
 {
+    if new_row.is_none() {
+        return Ok(());
+    }
     if !is_often_new(key) && tables.get(key).is_some() {
         return Ok(());
     }
@@ -307,8 +315,7 @@ impl PointedStore {
         ensures err { OnErr result (self.new ≡ self.old) }
         ensures clean { KeepsCleanLeaves self.old self.new }
     {
-        list_new(&mut self.leaves, &self.tables, &key)?;
-        self.tables.put(key, row)
+        self.change(key, Some(row))
     }
 
     /// Removes the key's row, and returns it; its leaf is dirty from now on.
@@ -339,13 +346,8 @@ impl PointedStore {
         ensures err { OnErr result (self.new ≡ self.old) }
         ensures clean { KeepsCleanLeaves self.old self.new }
     {
-        match new_row {
-            Some(row) => self.put(key, row),
-            None => {
-                self.remove(&key)?;
-                Ok(())
-            }
-        }
+        list_new(&mut self.leaves, &self.tables, &key, &new_row)?;
+        self.tables.change(key, new_row)
     }
 
     /// Makes the changes, whose rows are moved. After a refusal a prefix of them, in key order, is made.

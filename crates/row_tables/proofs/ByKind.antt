@@ -1,5 +1,5 @@
 -- The maps of all kinds as one, and what a change of one of them does to it.
-use Rattle.std.proofs.Common.{◌≡◌, ◌<◌, ℕ, zero, suc, Bool, true, false, cond, eqb, ◌&&◌, T, map as each, List, [], ◌∷◌, length, get_or, set, Option, Some, None, Result, refl, sym, ap, subst, ◌∙◌}
+use Rattle.std.proofs.Common.{◌≡◌, ◌<◌, ℕ, zero, suc, Bool, true, false, cond, eqb, ◌&&◌, T, map as each, List, [], ◌∷◌, length, get_or, set, Option, Some, None, is_some, unwrap_or, Result, refl, sym, ap, subst, ◌∙◌}
 use Rattle.std.specs.Prelude.{⊤, option_map}
 use Rattle.std.specs.FinMap as map
 use Rattle.std.specs.FinMap.{entries, entries_sorted, find, get, get-empty, get-entries, get-from_entries, insert, is_sorted, same_map}
@@ -80,6 +80,14 @@ module _ {X : Type 0} (make : X → Row) where
       get-typed (rows_at place t n) q ∙ ap (option_map make) (get-rows_at place t n q) ∙ map-cond (eqb (place q) n) (get t q) None
       ∙ ap (λ o. cond (eqb (place q) n) o None) (sym (get-typed t q)) ∙ sym (get-rows_at place (typed make t) n q))
 
+  some-mapped : (o : Option X) → is_some (option_map make o) ≡ is_some o
+  some-mapped None = refl
+  some-mapped (Some x) = refl
+
+  row-mapped : (o : Option X) (x : X) → unwrap_or (option_map make o) (make x) ≡ make (unwrap_or o x)
+  row-mapped None x = refl
+  row-mapped (Some y) x = refl
+
   -- the rows of kind n at a place, with their ranks
   pub entries-at : (maps : List RankRows) → AreByKind maps → (n : ℕ) → n < length maps → (t : ByRank X) → typed make t ≡ get_or maps n (typed make t) → (place : ℕ → ℕ) (p : ℕ)
       → each (λ e. (e.0, make e.1)) (entries (rows_at place t p)) ≡ entries (rows_at place (rows_at table_of (union maps) n) p)
@@ -121,6 +129,28 @@ module _ {X : Type 0} (make : X → Row) where
 
       pub union-refused : (m : RankRows) → union maps ≡ m → OnErr done (union (set maps n (typed make after)) ≡ m)
       union-refused m is_m = on_err_weaker done (λ e. ap (λ ms. union ms) (kept after e) ∙ is_m) err
+
+    -- a row exchanged there, if the rank has one
+    module _ (after : ByRank X) (x : X) (b : Bool) where
+      pub kinds-swapped : after ≡ cond b (insert t k x) t → AreByKind (set maps n (typed make after))
+      kinds-swapped e = by b e
+        where
+          by : (d : Bool) → after ≡ cond d (insert t k x) t → AreByKind (set maps n (typed make after))
+          by true f = kinds-changed after (Some x) f
+          by false f = subst (λ ms. AreByKind ms) (sym (kept after f)) h
+
+      pub union-swapped : after ≡ cond b (insert t k x) t → union (set maps n (typed make after)) ≡ cond b (insert (union maps) k (make x)) (union maps)
+      union-swapped e = by b e
+        where
+          by : (d : Bool) → after ≡ cond d (insert t k x) t → union (set maps n (typed make after)) ≡ cond d (insert (union maps) k (make x)) (union maps)
+          by true f = union-changed after (Some x) f
+          by false f = ap (λ ms. union ms) (kept after f)
+
+    pub found-kind : is_some (get t k) ≡ is_some (get (union maps) k)
+    found-kind = sym (some-mapped (get t k)) ∙ ap is_some get-kind
+
+    pub row-kind : (x : X) → make (unwrap_or (get t k) x) ≡ unwrap_or (get (union maps) k) (make x)
+    row-kind x = sym (row-mapped (get t k) x) ∙ ap (λ o. unwrap_or o (make x)) get-kind
 
 -- ---- no rows
 module _ (warehouses : ByRank WarehouseRow) (customers : ByRank CustomerRow) (stocks : ByRank StockRow) (orders : ByRank OrderRow) (new_orders : ByRank ⊤) (lines : ByRank OrderLineRow)

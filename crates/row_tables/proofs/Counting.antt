@@ -1,5 +1,5 @@
 -- How many rows there are.
-use Rattle.std.proofs.Common.{◌≡◌, ◌≤◌, ◌<◌, ◌+◌, ◌-◌, ◌^◌, ◌&&◌, ℕ, cond, T, List, [], ◌∷◌, length, Option, Some, None, is_some, inl, inr, refl, sym, ap, subst, ◌∙◌, arith}
+use Rattle.std.proofs.Common.{◌≡◌, ◌≤◌, ◌<◌, ◌+◌, ◌-◌, ◌^◌, ◌&&◌, ℕ, Bool, true, false, cond, T, List, [], ◌∷◌, length, Option, Some, None, is_some, inl, inr, refl, sym, ap, subst, ◌∙◌, arith}
 use Rattle.std.proofs.lemmas.Cmp.{ranked}
 use Rattle.std.proofs.lemmas.List.{length-map}
 use Rattle.std.specs.FinMap.{entries, entries_sorted, find, get, get-entries, get-from_entries, insert, is_sorted, len, len-entries, len-insert, len-remove, remove}
@@ -112,3 +112,7 @@ module _ (m : RankRows) (n : ℕ) (h : IsCounted m n) where
   counted-fewer r after was k is e c =
       c ∙ ap (λ o. cond (is_some o) (n - 1) n) is ∙ ap (λ z. cond (is_some (get m r)) (z - 1) z) h.counted
       ∙ sym (ap (λ (a : RankRows). len a) e ∙ len-remove rank_total m r)
+
+  pub counted-swapped : (r : ℕ) (x : Row) (after : RankRows) (b : Bool) → b ≡ is_some (get m r) → after ≡ cond b (insert m r x) m → n ≡ len after
+  counted-swapped r x after true is e = counted-more r x after (get m r) n refl e (ap (λ c. cond c n (n + 1)) is)
+  counted-swapped r x after false is e = h.counted ∙ ap (λ (a : RankRows). len a) (sym e)

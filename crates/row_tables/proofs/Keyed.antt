@@ -202,6 +202,16 @@ module _ (m : RankRows) (h : AreKept m) (k : RowKey) (numbered : IsNumbered k) (
     pub keyed-put : keyed after ≡ insert (keyed m) k x
     keyed-put = ap (λ a. keyed a) one_more ∙ keyed-changed m h k numbered (Some x) (kept-insert m k x h numbered fit)
 
+  -- a row exchanged at the rank, if it has one
+  module _ (after : RankRows) (x : Row) (fit : fits k x ≡ true) where
+    pub kept-swapped : (b : Bool) → after ≡ cond b (insert m r x) m → AreKept after
+    kept-swapped true e = kept-put after x fit e
+    kept-swapped false e = subst AreKept (sym e) h
+
+    pub keyed-swapped : (b : Bool) → after ≡ cond b (insert m r x) m → keyed after ≡ cond b (insert (keyed m) k x) (keyed m)
+    keyed-swapped true e = keyed-put after x fit e
+    keyed-swapped false e = ap (λ a. keyed a) e
+
 -- the map of a row of the key's kind
 pub fits-table : (k : RowKey) (x : Row) → fits k x ≡ true → table_of_row x ≡ table_of_kind (kind k)
 fits-table (key.Warehouse w) (row.Warehouse r) h = refl

@@ -1,5 +1,5 @@
 //! A table for each kind of row.
-ghost use Rattle.std.specs.Prelude.{◌≡◌, IfOk, None, OnErr, OnOk, option_copied, option_map};
+ghost use Rattle.std.specs.Prelude.{◌≡◌, IfOk, None, OnErr, OnOk, cond, is_some, option_copied, option_map, unwrap_or};
 ghost use Rattle.std.specs.FinMap as map;
 ghost use Rattle.row_tables.specs.Kinds.{table_of, table_of_row};
 ghost use Rattle.row_tables.specs.LastOrders.{as_orders, order_rows};
@@ -321,6 +321,118 @@ impl KindTables {
         ensures new { OnErr result (map.get self.old rank ≡ None) }
     {
         self.nexts.put(rank, row)
+    }
+
+    /// Exchanges the rank's row for this one, and returns true; or returns false if it has none.
+    fn swap_warehouse(&mut self, rank: u64, row: &mut WarehouseRow) -> bool
+        requires { table_of rank ≡ 0 }
+        ensures found { result ≡ is_some (map.get self.old rank) }
+        ensures row { Warehouse row.new ≡ unwrap_or (map.get self.old rank) (Warehouse row.old) }
+        ensures after { self.new ≡ cond result (map.insert self.old rank (Warehouse row.old)) self.old }
+    {
+        self.warehouses.swap(rank, row)
+    }
+
+    /// Exchanges the rank's row for this one, and returns true; or returns false if it has none.
+    fn swap_customer(&mut self, rank: u64, row: &mut CustomerRow) -> bool
+        requires { table_of rank ≡ 1 }
+        ensures found { result ≡ is_some (map.get self.old rank) }
+        ensures row { Customer row.new ≡ unwrap_or (map.get self.old rank) (Customer row.old) }
+        ensures after { self.new ≡ cond result (map.insert self.old rank (Customer row.old)) self.old }
+    {
+        self.customers.swap(rank, row)
+    }
+
+    /// Exchanges the rank's row for this one, and returns true; or returns false if it has none.
+    fn swap_stock(&mut self, rank: u64, row: &mut StockRow) -> bool
+        requires { table_of rank ≡ 2 }
+        ensures found { result ≡ is_some (map.get self.old rank) }
+        ensures row { Stock row.new ≡ unwrap_or (map.get self.old rank) (Stock row.old) }
+        ensures after { self.new ≡ cond result (map.insert self.old rank (Stock row.old)) self.old }
+    {
+        self.stocks.swap(rank, row)
+    }
+
+    /// Exchanges the rank's row for this one, and returns true; or returns false if it has none.
+    fn swap_order(&mut self, rank: u64, row: &mut OrderRow) -> bool
+        requires { table_of rank ≡ 3 }
+        ensures found { result ≡ is_some (map.get self.old rank) }
+        ensures row { Order row.new ≡ unwrap_or (map.get self.old rank) (Order row.old) }
+        ensures after { self.new ≡ cond result (map.insert self.old rank (Order row.old)) self.old }
+    {
+        self.orders.swap(rank, row)
+    }
+
+    /// Whether the rank has a row, which is as any other new order's.
+    fn swap_new_order(&mut self, rank: u64) -> bool
+        requires { table_of rank ≡ 4 }
+        ensures found { result ≡ is_some (map.get self.old rank) }
+        ensures row { NewOrder ≡ unwrap_or (map.get self.old rank) NewOrder }
+        ensures after { self.new ≡ cond result (map.insert self.old rank NewOrder) self.old }
+    {
+        self.new_orders.swap(rank, &mut ())
+    }
+
+    /// Exchanges the rank's row for this one, and returns true; or returns false if it has none.
+    fn swap_order_line(&mut self, rank: u64, row: &mut OrderLineRow) -> bool
+        requires { table_of rank ≡ 5 }
+        ensures found { result ≡ is_some (map.get self.old rank) }
+        ensures row { OrderLine row.new ≡ unwrap_or (map.get self.old rank) (OrderLine row.old) }
+        ensures after { self.new ≡ cond result (map.insert self.old rank (OrderLine row.old)) self.old }
+    {
+        let expected = self.starts.guess(rank);
+        self.lines.swap_near(rank, row, expected)
+    }
+
+    /// Exchanges the rank's row for this one, and returns true; or returns false if it has none.
+    fn swap_history(&mut self, rank: u64, row: &mut HistoryRow) -> bool
+        requires { table_of rank ≡ 6 }
+        ensures found { result ≡ is_some (map.get self.old rank) }
+        ensures row { History row.new ≡ unwrap_or (map.get self.old rank) (History row.old) }
+        ensures after { self.new ≡ cond result (map.insert self.old rank (History row.old)) self.old }
+    {
+        let expected = self.payments.guess(rank);
+        self.history.swap_near(rank, row, expected)
+    }
+
+    /// Exchanges the rank's row for this one, and returns true; or returns false if it has none.
+    fn swap_district_ytd(&mut self, rank: u64, row: &mut DistrictYtdRow) -> bool
+        requires { table_of rank ≡ 7 }
+        ensures found { result ≡ is_some (map.get self.old rank) }
+        ensures row { DistrictYtd row.new ≡ unwrap_or (map.get self.old rank) (DistrictYtd row.old) }
+        ensures after { self.new ≡ cond result (map.insert self.old rank (DistrictYtd row.old)) self.old }
+    {
+        self.ytds.swap(rank, row)
+    }
+
+    /// Exchanges the rank's row for this one, and returns true; or returns false if it has none.
+    fn swap_district_next(&mut self, rank: u64, row: &mut DistrictNextRow) -> bool
+        requires { table_of rank ≡ 8 }
+        ensures found { result ≡ is_some (map.get self.old rank) }
+        ensures row { DistrictNext row.new ≡ unwrap_or (map.get self.old rank) (DistrictNext row.old) }
+        ensures after { self.new ≡ cond result (map.insert self.old rank (DistrictNext row.old)) self.old }
+    {
+        self.nexts.swap(rank, row)
+    }
+
+    /// Exchanges the rank's row for this one, and returns true; or returns false if it has none.
+    pub fn swap(&mut self, rank: u64, row: &mut Row) -> bool
+        requires { table_of_row row.old ≡ table_of rank }
+        ensures found { result ≡ is_some (map.get self.old rank) }
+        ensures row { row.new ≡ unwrap_or (map.get self.old rank) row.old }
+        ensures after { self.new ≡ cond result (map.insert self.old rank row.old) self.old }
+    {
+        match row {
+            Row::Warehouse(row) => self.swap_warehouse(rank, row),
+            Row::Customer(row) => self.swap_customer(rank, row),
+            Row::Stock(row) => self.swap_stock(rank, row),
+            Row::Order(row) => self.swap_order(rank, row),
+            Row::NewOrder => self.swap_new_order(rank),
+            Row::OrderLine(row) => self.swap_order_line(rank, row),
+            Row::History(row) => self.swap_history(rank, row),
+            Row::DistrictYtd(row) => self.swap_district_ytd(rank, row),
+            Row::DistrictNext(row) => self.swap_district_next(rank, row),
+        }
     }
 
     /// Removes the rank's row, and returns it.

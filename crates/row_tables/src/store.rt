@@ -1,6 +1,7 @@
 //! The rows of a database by key.
-ghost use Rattle.std.specs.Prelude.{◌≡◌, ◌+◌, ◌-◌, ◌<◌, ◌^◌, cond, IfOk, IfSome, None, OnErr, OnOk, is_some, length, option_and_then, option_copied, option_map, slice_get, true};
+ghost use Rattle.std.specs.Prelude.{◌≡◌, ◌+◌, ◌-◌, ◌<◌, ◌^◌, cond, IfOk, IfSome, None, OnErr, OnOk, is_some, length, option_and_then, option_copied, option_map, slice_get, true, unwrap_or};
 ghost use Rattle.std.specs.FinMap as map;
+ghost use Rattle.serializability.specs.Changes.{changed};
 ghost use Rattle.row_tables.specs.LastOrders.{last_of};
 ghost use Rattle.tables.specs.Keys.{order_of};
 ghost use Rattle.tpcc_rows.specs.Changing.{new_row_fits};
@@ -12,6 +13,7 @@ ghost use Rattle.tpcc_rows.specs.Rows.{customer_row, district_next_row, district
 use crate::kinds::KindTables;
 use std::alloc::Global;
 use std::marker::Model;
+use std::mem;
 use tables::keys::order_of;
 use tpcc_rows::id::{CustomerId, DistrictId, ItemId, LineNumber, OrderId, WarehouseId};
 use tpcc_rows::key::RowKey;
@@ -233,6 +235,38 @@ impl RowTables {
         let was = self.tables.put(rank(&key), row)?;
         self.len = more(self.len, &was);
         Ok(was)
+    }
+
+    /// Exchanges the key's row for this one, and returns true; or returns false if it has none.
+    fn swap(&mut self, key: &RowKey, row: &mut Row) -> bool
+        requires { fits key.now row.old ≡ true }
+        ensures found { result ≡ is_some (map.get self.old key.now) }
+        ensures row { row.new ≡ unwrap_or (map.get self.old key.now) row.old }
+        ensures kind { fits key.now row.new ≡ true }
+        ensures after { self.new ≡ cond result (map.insert self.old key.now row.old) self.old }
+    {
+        self.tables.swap(rank(key), row)
+    }
+
+    /// Gives the key this row, or none, in exchange for what it had. Only an insertion can be refused memory.
+    pub fn exchange(&mut self, key: &RowKey, row: &mut Option<Row>) -> Result<(), Memory>
+        requires { new_row_fits key.now row.old ≡ true }
+        ensures value { OnOk result (row.new ≡ map.get self.old key.now) }
+        ensures kind { OnOk result (new_row_fits key.now row.new ≡ true) }
+        ensures ok { OnOk result (self.new ≡ changed self.old key.now row.old) }
+        ensures err { OnErr result (self.new ≡ self.old) }
+        ensures new { OnErr result (map.get self.old key.now ≡ None) }
+    {
+        if let Some(new) = row {
+            if self.swap(key, new) {
+                return Ok(());
+            }
+        }
+        *row = match mem::replace(row, None) {
+            Some(new) => self.put(*key, new)?,
+            None => self.remove(key),
+        };
+        Ok(())
     }
 
     /// Replaces the key's row, which exists, and returns the old one, without allocating.

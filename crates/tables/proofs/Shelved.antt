@@ -158,3 +158,16 @@ module _ {X : Type 0} (place : ℕ → ℕ) where
   table-at ts count shelf n q t at small here =
       here ∙ get_or_default ts n t map.empty (subst (λ m. n < m) (sym shelf.full) small)
       ∙ ap (λ m. table_at ts m) at ∙ table-union ts shelf.fits (place q)
+
+  -- a table in which the rank's row is replaced, or that is as it was
+  module _ (ts : List (ByRank X)) (count : ℕ) (shelf : IsShelf count place ts) (n : ℕ) (old new : ByRank X) (k : ℕ) (x : X) (at : n ≡ place k) (small : n < count) (here : old ≡ get_or ts n old) where
+    replaced : new ≡ map.insert old k x → IsChange place ts n old new k (Some x)
+    replaced e = record { at = at; small = subst (λ m. n < m) (sym shelf.full) small; here = here; change = e }
+
+    pub shelf-swapped : (b : Bool) → new ≡ cond b (map.insert old k x) old → IsShelf count place (set ts n new)
+    shelf-swapped true e = shelf-change count ts shelf n old new k (Some x) (replaced e)
+    shelf-swapped false e = subst (λ us. IsShelf count place us) (sym (set-same ts n old new here e)) shelf
+
+    pub union-swapped : (b : Bool) → new ≡ cond b (map.insert old k x) old → union (set ts n new) ≡ cond b (map.insert (union ts) k x) (union ts)
+    union-swapped true e = union-change ts shelf.fits n old new k (Some x) (replaced e)
+    union-swapped false e = ap (λ us. union us) (set-same ts n old new here e)

@@ -1,5 +1,5 @@
 //! A table for each district of each warehouse: a district's new rows go to the end of its table.
-ghost use Rattle.std.specs.Prelude.{◌≡◌, ◌<◌, IfOk, None, OnErr, OnOk, option_copied, option_map, slice_get};
+ghost use Rattle.std.specs.Prelude.{◌≡◌, ◌<◌, IfOk, None, OnErr, OnOk, cond, is_some, option_copied, option_map, slice_get, unwrap_or};
 ghost use Rattle.std.specs.FinMap as map;
 ghost use Rattle.tables.specs.Shelves.{place_of, rows_at};
 
@@ -50,6 +50,26 @@ impl<R> Shelf<R> {
         ensures { option_copied result ≡ map.get self.now rank }
     {
         self.tables[place_of(rank)].get_near(rank, place)
+    }
+
+    /// Exchanges the rank's row for this one, and returns true; or returns false if it has none.
+    pub fn swap(&mut self, rank: u64, row: &mut R) -> bool
+        ensures found { result ≡ is_some (map.get self.old rank) }
+        ensures row { row.new ≡ unwrap_or (map.get self.old rank) row.old }
+        ensures after { self.new ≡ cond result (map.insert self.old rank row.old) self.old }
+    {
+        let n = place_of(rank);
+        self.tables[n].swap(rank, row)
+    }
+
+    /// The same, with a hint at the rank's place in its table.
+    pub fn swap_near(&mut self, rank: u64, row: &mut R, expected: usize) -> bool
+        ensures found { result ≡ is_some (map.get self.old rank) }
+        ensures row { row.new ≡ unwrap_or (map.get self.old rank) row.old }
+        ensures after { self.new ≡ cond result (map.insert self.old rank row.old) self.old }
+    {
+        let n = place_of(rank);
+        self.tables[n].swap_near(rank, row, expected)
     }
 
     /// The row at a place of the rank's table, whatever its rank. It isn't read yet.

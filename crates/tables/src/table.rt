@@ -1,5 +1,5 @@
 //! Rows of one kind in a sorted vector, by rank.
-ghost use Rattle.std.specs.Prelude.{◌≡◌, ◌<◌, ◌≤◌, ◌^◌, Err, IfOk, IsTrue, None, Ok, OnErr, OnOk, is_some, length, option_copied, option_map, slice_get, true};
+ghost use Rattle.std.specs.Prelude.{◌≡◌, ◌<◌, ◌≤◌, ◌^◌, Err, IfOk, IsTrue, None, Ok, OnErr, OnOk, cond, is_some, length, option_copied, option_map, slice_get, true, unwrap_or};
 ghost use Rattle.std.specs.FinMap as map;
 ghost use Rattle.std.specs.List.{HoldsAt, insert, remove, slice_set};
 ghost use Rattle.std.specs.Ordering.{nat_cmp};
@@ -179,6 +179,15 @@ fn insert<R: Drop>(
     Ok(None)
 }
 
+/// Exchanges the row of the rank's entry, which is at the place, for this one.
+fn swap<R>(entries: &mut Vec<(u64, R)>, place: usize, rank: u64, row: &mut R)
+    requires { (place < length entries.old.items) × HoldsAt (λ entry. entry.0 ≡ rank) entries.old.items place }
+    ensures value { HoldsAt (λ entry. entry.1 ≡ row.new) entries.old.items place }
+    ensures after { entries.new.items ≡ slice_set entries.old.items place (rank, row.old) }
+{
+    mem::swap(&mut entries[place].1, row);
+}
+
 /// Removes the entry at the place, and returns its row.
 fn remove<R>(entries: &mut Vec<(u64, R)>, place: usize) -> R
     requires { place < length entries.old.items }
@@ -211,6 +220,31 @@ impl<R> Table<R> {
         ensures { option_copied result ≡ map.get self.now rank }
     {
         found(&self.entries, rank, place)
+    }
+
+    /// Exchanges the rank's row for this one, and returns true; or returns false if it has none.
+    pub fn swap(&mut self, rank: u64, row: &mut R) -> bool
+        ensures found { result ≡ is_some (map.get self.old rank) }
+        ensures row { row.new ≡ unwrap_or (map.get self.old rank) row.old }
+        ensures after { self.new ≡ cond result (map.insert self.old rank row.old) self.old }
+    {
+        let guess = guess(&self.entries, rank);
+        self.swap_near(rank, row, guess)
+    }
+
+    /// The same, with a hint at the rank's place.
+    pub fn swap_near(&mut self, rank: u64, row: &mut R, expected: usize) -> bool
+        ensures found { result ≡ is_some (map.get self.old rank) }
+        ensures row { row.new ≡ unwrap_or (map.get self.old rank) row.old }
+        ensures after { self.new ≡ cond result (map.insert self.old rank row.old) self.old }
+    {
+        match place_of(&self.entries, rank, expected) {
+            Ok(place) => {
+                swap(&mut self.entries, place, rank, row);
+                true
+            }
+            Err(_) => false,
+        }
     }
 
     /// The row at a place, whatever its rank. It isn't read yet.

@@ -6,4 +6,4 @@ pub returns-clause-kept : goal.returns-clause-kept
 returns-clause-kept c h = leaves-listed c.args.leaves.now c.list.new.leaves c.args.key.now c.list.ensures.limits c.args.tables.now h c.list.result c.list.ensures.ok c.list.ensures.err
 
 pub returns-clause-ok : goal.returns-clause-ok
-returns-clause-ok c = on_ok_weaker c.list.result (λ is h. is) (now-listed c.args.leaves.now c.list.new.leaves c.args.key.now c.list.ensures.limits c.list.result c.list.ensures.ok)
+returns-clause-ok c = on_ok_weaker c.list.result (λ is h some. is) (now-listed c.args.leaves.now c.list.new.leaves c.args.key.now c.list.ensures.limits c.list.result c.list.ensures.ok)

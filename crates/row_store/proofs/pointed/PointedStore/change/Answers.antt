@@ -1,6 +1,6 @@
 use Rattle.std.proofs.Common.{sym, ◌∙◌}
-use Rattle.row_store.proofs.Listing.{leaves-put, leaves-alike}
-use Rattle.row_store.proofs.pointed.PointedStore.put.Goals as goal
+use Rattle.row_store.proofs.Listing.{leaves-changed, leaves-alike}
+use Rattle.row_store.proofs.pointed.PointedStore.change.Goals as goal
 
 pub invariant_of-self : goal.invariant_of-self
 invariant_of-self c =
@@ -8,7 +8,7 @@ invariant_of-self c =
 
 pub invariant_of-self-2 : goal.invariant_of-self-2
 invariant_of-self-2 c =
-    let e = c.put.ensures in
+    let e = c.change.ensures in
     let leaves = leaves-alike _ _ _ c.deref.ensures c.self.invariant in
     let now = leaves-alike _ _ _ (c.deref_mut.ensures.value ∙ sym c.deref.ensures) (c.list_new.ensures.kept leaves) in
-    leaves-put c.list_new.new.leaves c.deref_mut.result.now c.put.new.self now c.put.result c.args.key c.args.row (c.in_ok-list_new.ensures.ok leaves) e.rows e.points e.err
+    leaves-changed c.list_new.new.leaves c.deref_mut.result.now c.change.new.self now c.change.result c.args.key c.args.new_row (c.in_ok-list_new.ensures.ok leaves) e.rows e.points e.err
