@@ -9,3 +9,4 @@ pub mod LowItemFacts
 pub mod DeliverySteps
 pub mod Within
 pub mod DeliveredOrders
+pub mod PlacedOrders

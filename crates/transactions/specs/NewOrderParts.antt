@@ -1,15 +1,23 @@
 -- What the code's parts of a new order stand for.
-use Rattle.std.specs.Prelude.{◌≡◌, ℤ, pos, List, Option, Some, None, Err}
+use Rattle.std.specs.Prelude.{◌≡◌, ℕ, ◌+◌, ◌*◌, ℤ, pos, List, [], ◌∷◌, ◌++◌, Option, Some, None, Result, Ok, Err}
+use Rattle.std.specs.FinMap.{insert}
 use Rattle.std.specs.List.{sum_by}
 use Rattle.catalog.specs.CardMap.{Cards}
 use Rattle.catalog.specs.Lookups.{customer_card, district_card, warehouse_card}
 use Rattle.requests.specs.declared.request.NewOrder.{NewOrder}
 use Rattle.requests.specs.declared.reply.LineReply.{LineReply}
 use Rattle.requests.specs.declared.reply.NewOrderReply.{NewOrderReply}
+use Rattle.requests.specs.declared.reply.RequestRefusal.{RequestRefusal}
 use Rattle.requests.specs.declared.reply.RequestRefusal.TheVariants.{UnknownKey}
 use Rattle.tpcc_model.specs.NewOrders as model
+use Rattle.tpcc_model.specs.Staging.{◌>>=◌, known}
+use Rattle.tpcc_rows.specs.Changing.{after}
 use Rattle.tpcc_rows.specs.Prices.{total_cents}
-use Rattle.tpcc_rows.specs.RowMap.{Changes}
+use Rattle.tpcc_rows.specs.RowMap.{Changes, Rows}
+use Rattle.tpcc_rows.specs.Rows.{stock_row}
+use Rattle.tpcc_rows.specs.declared.key.RowKey.TheVariants as key
+use Rattle.tpcc_rows.specs.declared.row.Row.TheVariants as row
+use Rattle.tpcc_rows.specs.declared.row.StockRow.{StockRow}
 use Rattle.transactions.specs.declared.new_order.OrderSoFar.{OrderSoFar}
 use Rattle.transactions.specs.declared.new_order.OwnCards.{OwnCards}
 use Rattle.transactions.specs.declared.order_line.LineCards.{LineCards}
@@ -37,3 +45,38 @@ AreOwnCards cards p None = model.found_cards cards p ≡ Err UnknownKey
 -- the sum of the lines' amounts, less the discount, with the taxes
 abbrev pub total_of : OwnCards → List LineReply → ℤ
 total_of own lines = pos (total_cents (sum_by (λ line. line.amount) lines) own.customer.now.discount own.warehouse.now.tax own.district.now.tax)
+
+-- ---- the order's changes, put in the order of their keys: the stocks, the order, the new order, and the lines
+-- a line's stock, which has this row, and what is answered for the line
+unfoldable pub stock_done : NewOrder → model.LineCards → StockRow → model.OrderSoFar → Result model.OrderSoFar RequestRefusal
+stock_done p line old order = do
+  stock ← model.ordered_stock p.warehouse line.ordered old
+  amount ← model.line_amount line
+  Ok (record {
+    changes = insert order.changes (key.Stock line.ordered.supply line.ordered.item) (Some (row.Stock stock));
+    lines = order.lines ++ (record { stock = stock.quantity; brand = model.brand_of line; amount = amount }) ∷ [];
+  })
+
+-- the lines' stocks, each on the rows that the earlier ones leave
+abbrev pub stocks_done : Rows → NewOrder → List model.LineCards → model.OrderSoFar → Result model.OrderSoFar RequestRefusal
+stocks_done rows p [] order = Ok order
+stocks_done rows p (line ∷ lines) order = do
+  old ← known (stock_row (after rows order.changes) line.ordered.supply line.ordered.item)
+  more ← stock_done p line old order
+  stocks_done rows p lines more
+
+-- the rows of the order and the new order
+abbrev pub with_order : NewOrder → ℕ → ℕ → Changes → Changes
+with_order p moment o changes =
+    insert (insert changes (key.Order p.warehouse p.district o) (Some (row.Order (model.order_of p moment))))
+    (key.NewOrder p.warehouse p.district o) (Some row.NewOrder)
+
+-- OL_AMOUNT of a line that isn't refused
+abbrev pub amount_of : model.LineCards → ℕ
+amount_of line = line.ordered.quantity * line.item.price
+
+-- the rows of the lines from n on
+abbrev pub with_lines : NewOrder → ℕ → ℕ → List model.LineCards → Changes → Changes
+with_lines p o n [] changes = changes
+with_lines p o n (line ∷ lines) changes =
+    with_lines p o (n + 1) lines (insert changes (key.OrderLine p.warehouse p.district o n) (Some (row.OrderLine (model.order_line_of p line (amount_of line)))))

@@ -1,16 +1,18 @@
 //! New-Order (TPC-C clause 2.4): the cards of its keys are found, then the number that its district has next, then its
-//! lines are done in order, each on the rows as the earlier ones leave them.
+//! lines are done in order, each on the rows as the earlier ones leave them. A delta keeps its changes in key order, and
+//! appends faster than it inserts. So the rows are put kind by kind, in that order: the stocks, the order, the new order,
+//! its lines, and last the district's next number.
 ghost use Rattle.std.specs.Prelude.{◌≡◌, ◌<◌, ◌≤◌, ◌+◌, [], length, map, IfOk, OnOk};
+ghost use Rattle.std.specs.FinMap.{empty};
 ghost use Rattle.std.specs.List.{list_all, sum_by};
-ghost use Rattle.catalog.specs.StockCards.{district_info};
 ghost use Rattle.requests.specs.declared.request.RequestKind.TheVariants as kind;
-ghost use Rattle.tpcc_model.specs.NewOrders.{all_local, line_done, lines_done, new_order, opened, order_of, raised_district};
+ghost use Rattle.tpcc_model.specs.NewOrders.{all_local, lines_done, new_order, opened, order_of, raised_district};
 ghost use Rattle.tpcc_model.specs.Staging.{within};
 ghost use Rattle.tpcc_model.specs.Steps.{new_order_outcome};
 ghost use Rattle.tpcc_model.specs.Touches.{new_order_touch, ordered_touch, placed_touch};
 ghost use Rattle.transactions.specs.Faults.{AnswersBy};
 ghost use Rattle.transactions.specs.Lending.{lent};
-ghost use Rattle.transactions.specs.NewOrderParts.{AreOwnCards, line_cards_of, placed_order_of, so_far_of, total_of};
+ghost use Rattle.transactions.specs.NewOrderParts.{AreOwnCards, amount_of, line_cards_of, placed_order_of, so_far_of, stock_done, stocks_done, total_of, with_lines, with_order};
 ghost use Rattle.transactions.specs.OnViews.{AnswersOn, ExecutesOn};
 ghost use Rattle.transactions.specs.Outcomes.{concluded};
 ghost use Rattle.worker_rows.specs.Views.{covers};
@@ -28,12 +30,11 @@ use std::alloc::Global;
 use tpcc_model::number::line_number;
 use tpcc_rows::delta::Delta;
 use tpcc_rows::granule::Granule;
-use tpcc_rows::id::{LineNumber, OrderId, WarehouseId};
+use tpcc_rows::id::{OrderId, WarehouseId};
 use tpcc_rows::key::RowKey;
 use tpcc_rows::memory::Memory;
 use tpcc_rows::number::{Cents, Moment};
 use tpcc_rows::row::{DistrictNextRow, OrderRow, Row, StockRow};
-use tpcc_rows::text::Text;
 use tpcc_rows::total::total_cents;
 use worker_rows::{RowView, district_next_row, stock_row};
 
@@ -96,21 +97,28 @@ struct OrderSoFar {
     lines: LineReplies,
 }
 
-/// Line `number` of the order, where its stock has this row.
-#[tactic(auto, unfolding(tpcc_model::specs::NewOrders::line_done))]
-fn line_done(
+/// No changes and no replies yet. There is room for three rows and for two of each line.
+fn begun(alloc: Global, p: &NewOrder) -> Result<OrderSoFar, Memory>
+    ensures changes { IfOk result (λ so_far. so_far.changes ≡ empty) }
+    ensures lines { IfOk result (λ so_far. so_far.lines ≡ []) }
+{
+    let room = 3 + 2 * p.lines.as_slice().len();
+    Ok(OrderSoFar {
+        changes: Delta::with_room(alloc, room)?,
+        lines: LineReplies::new(),
+    })
+}
+
+/// The stock of a line, where it has this row, and what is answered for the line.
+#[tactic(auto, unfolding(crate::specs::NewOrderParts::stock_done))]
+fn stock_done(
     p: &NewOrder,
-    order: OrderId,
-    number: LineNumber,
     line: &LineCards<'_>,
-    info: &Text<24>,
     old: &StockRow,
     so_far: &mut OrderSoFar,
 ) -> Result<(), Fault>
     requires few { length so_far.old.lines < 15 }
-    requires info { info.now ≡ district_info line.now.stock.now p.now.district }
-    ensures answer { AnswersBy (λ done. so_far_of so_far.new)
-        (line_done p.now order number (line_cards_of line.now) old.now (so_far_of so_far.old)) result }
+    ensures answer { AnswersBy (λ done. so_far_of so_far.new) (stock_done p.now (line_cards_of line.now) old.now (so_far_of so_far.old)) result }
     ensures one_more { OnOk result (length so_far.new.lines ≡ length so_far.old.lines + 1) }
 {
     let stock = ordered_stock(p.warehouse, line.ordered, old).ok_or(RequestRefusal::LimitReached)?;
@@ -125,33 +133,23 @@ fn line_done(
         item: line.ordered.item,
     };
     so_far.changes.put(stock_key, Row::Stock(stock))?;
-    let line_key = RowKey::OrderLine {
-        warehouse: p.warehouse,
-        district: p.district,
-        order,
-        number,
-    };
-    let line_row = order_line_of(p, line, info, amount);
-    so_far.changes.put(line_key, Row::OrderLine(line_row))?;
     so_far.lines.push(reply);
     Ok(())
 }
 
-/// All lines, each on the rows as the earlier ones leave them.
-fn lines_done<V: RowView>(
+/// The stocks of all lines, each on the rows as the earlier ones leave them.
+fn stocks_done<V: RowView>(
     view: &V,
     p: &NewOrder,
-    order: OrderId,
     lines: &[LineCards<'_>],
     so_far: &mut OrderSoFar,
 ) -> Result<(), Fault>
     requires few { length lines.now ≤ 15 }
     requires none { so_far.old.lines ≡ [] }
     ensures { AnswersBy (λ done. so_far_of so_far.new)
-        (lines_done (lent (V.sees view.now)) p.now order 1 (map line_cards_of lines.now) (so_far_of so_far.old)) result }
+        (stocks_done (lent (V.sees view.now)) p.now (map line_cards_of lines.now) (so_far_of so_far.old)) result }
 {
-    let infos = district_infos(lines, p.district);
-    for (index, line) in lines.iter().enumerate() {
+    for line in lines {
         let OrderedLine { item, supply, .. } = *line.ordered;
         let rows = Seen {
             lent: Lent { view },
@@ -159,38 +157,21 @@ fn lines_done<V: RowView>(
         };
         let row = stock_row(&rows, supply, item);
         let old = *row.ok_or(RequestRefusal::UnknownKey)?;
-        line_done(
-            p,
-            order,
-            line_number(index + 1),
-            line,
-            &infos[index],
-            &old,
-            so_far,
-        )?;
+        stock_done(p, line, &old, so_far)?;
     }
     Ok(())
 }
 
-/// What is made before the lines: the rows of the district's next number, the order and the new order.
-#[tactic(auto, unfolding(tpcc_model::specs::NewOrders::opened))]
-fn opened(
-    alloc: Global,
+/// Puts the rows of the order and the new order.
+fn put_order(
     p: &NewOrder,
     moment: Moment,
     order: OrderId,
-    next_row: DistrictNextRow,
-) -> Result<OrderSoFar, Memory>
-    ensures value { IfOk result (λ so_far. so_far_of so_far ≡ opened p.now moment order next_row) }
-    ensures none { IfOk result (λ so_far. so_far.lines ≡ []) }
+    changes: &mut Delta,
+) -> Result<(), Memory>
+    ensures { OnOk result (changes.new ≡ with_order p.now moment order changes.old) }
 {
     let (warehouse, district) = (p.warehouse, p.district);
-    let mut changes = Delta::with_room(alloc, 3 + 2 * p.lines.as_slice().len())?;
-    let next_key = RowKey::DistrictNext {
-        warehouse,
-        district,
-    };
-    changes.put(next_key, Row::DistrictNext(next_row))?;
     let order_key = RowKey::Order {
         warehouse,
         district,
@@ -202,11 +183,65 @@ fn opened(
         district,
         order,
     };
-    changes.put(new_order_key, Row::NewOrder)?;
-    Ok(OrderSoFar {
-        changes,
-        lines: LineReplies::new(),
-    })
+    changes.put(new_order_key, Row::NewOrder)
+}
+
+/// Puts the rows of all lines, with the amounts that the replies to them have.
+fn put_lines(
+    p: &NewOrder,
+    order: OrderId,
+    lines: &[LineCards<'_>],
+    replies: &[LineReply],
+    changes: &mut Delta,
+) -> Result<(), Memory>
+    requires few { length lines.now ≤ 15 }
+    requires amounts { map (λ reply. reply.amount) replies.now ≡ map amount_of (map line_cards_of lines.now) }
+    ensures { OnOk result (changes.new ≡ with_lines p.now order 1 (map line_cards_of lines.now) changes.old) }
+{
+    let infos = district_infos(lines, p.district);
+    for (index, line) in lines.iter().enumerate() {
+        let line_key = RowKey::OrderLine {
+            warehouse: p.warehouse,
+            district: p.district,
+            order,
+            number: line_number(index + 1),
+        };
+        let line_row = order_line_of(p, line, &infos[index], replies[index].amount);
+        changes.put(line_key, Row::OrderLine(line_row))?;
+    }
+    Ok(())
+}
+
+/// The changes and the replies to all lines.
+fn placed<V: RowView>(
+    alloc: Global,
+    p: &NewOrder,
+    moment: Moment,
+    view: &V,
+    order: OrderId,
+    next_row: DistrictNextRow,
+    lines: &[LineCards<'_>],
+) -> Result<OrderSoFar, Fault>
+    requires few { length lines.now ≤ 15 }
+    ensures { AnswersBy so_far_of
+        (lines_done (lent (V.sees view.now)) p.now order 1 (map line_cards_of lines.now) (opened p.now moment order next_row)) result }
+{
+    let mut so_far = begun(alloc, p)?;
+    stocks_done(view, p, lines, &mut so_far)?;
+    put_order(p, moment, order, &mut so_far.changes)?;
+    put_lines(
+        p,
+        order,
+        lines,
+        so_far.lines.as_slice(),
+        &mut so_far.changes,
+    )?;
+    let next_key = RowKey::DistrictNext {
+        warehouse: p.warehouse,
+        district: p.district,
+    };
+    so_far.changes.put(next_key, Row::DistrictNext(next_row))?;
+    Ok(so_far)
 }
 
 /// The sum of OL_AMOUNT.
@@ -292,10 +327,8 @@ fn new_order<V: RowView>(
         return Err(Fault::Refused(RequestRefusal::LimitReached));
     };
     let order = old.next_order;
-    let mut so_far = opened(alloc, p, moment, order, raised)?;
-    lines_done(view, p, order, &lines, &mut so_far)?;
-    let total = total_of(&own, so_far.lines.as_slice());
-    let OrderSoFar { changes, lines } = so_far;
+    let OrderSoFar { changes, lines } = placed(alloc, p, moment, view, order, raised, &lines)?;
+    let total = total_of(&own, lines.as_slice());
     Ok((
         NewOrderReply {
             order,
