@@ -2,4 +2,5 @@ mod Besides
 mod Picking
 mod Placing
 mod Undoing
+mod Exchanging
 mod Pointing

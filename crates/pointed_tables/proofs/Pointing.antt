@@ -5,8 +5,7 @@ use Rattle.std.specs.List.{refill, slice_get}
 use Rattle.tpcc_rows.specs.RowMap.{Rows}
 use Rattle.rollback.specs.Pointed.{first_or}
 use Rattle.pointed_tables.specs.declared.log.Log.{Log}
-use Rattle.pointed_tables.specs.Logs.{AreLogs, AreOlds, IsLogOf, IsPointed, Olds, held, needed, points_of, undone}
-use Rattle.pointed_tables.proofs.Undoing.{IsStep}
+use Rattle.pointed_tables.specs.Logs.{AreLogs, AreOlds, IsLogOf, IsPointed, IsStep, Olds, held, needed, points_of, undone}
 
 -- ---- the newest log replaced
 pub points-set : (ls : List Log) (l d : Log) (m m2 : Rows) (n : ℕ) → n + 1 ≡ length ls → IsStep (get_or ls n d) l m m2 → points_of (set ls n l) m2 ≡ points_of ls m

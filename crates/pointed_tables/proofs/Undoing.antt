@@ -17,7 +17,7 @@ use Rattle.rollback.specs.Marks.{HasAlso, is_dirty}
 use Rattle.rollback.proofs.Marking.{or-left, or-right, page-changed}
 use Rattle.pointed_tables.specs.declared.log.Log.{Log}
 use Rattle.pointed_tables.specs.Aside.{Roomy}
-use Rattle.pointed_tables.specs.Logs.{AreOlds, IsLogOf, IsNoted, IsSame, KeepsOthers, Olds, needed, undone, wants}
+use Rattle.pointed_tables.specs.Logs.{AreOlds, IsLogOf, KeepsOthers, Olds, needed, undone, wants}
 
 pub undone-more : (os : Olds) (o : RowKey × Option Row) (m : Rows) → undone (os ++ o ∷ []) m ≡ undone os (changed m o.0 o.1)
 undone-more [] o m = refl
@@ -47,11 +47,6 @@ changed-back m k c = same_map row_key_cmp_total exact_keys _ _ (λ q. get-change
       ∙ get-changed row_key_cmp_total exact_keys m k c q ∙ ap (λ b. cond b c (get m q)) f
 ])
 
--- what holds anyway holds after a success
-pub ok_always : {A E P : Type 0} (r : Result A E) → P → OnOk r P
-ok_always (Ok x) p = p
-ok_always (Err e) p = tt
-
 -- ---- one change more
 wants-replaced : (o : Option Row) (m : Rows) (k : RowKey) (x : Row) → wants k o (insert m k x) ≡ 0
 wants-replaced None m k x = refl
@@ -64,65 +59,6 @@ wants-removed (Some y) m k = ap (λ (z : Option Row). cond (is_some z) 0 1) (gon
 pub wants-changed : (c o : Option Row) (m : Rows) (k : RowKey) → wants k o (changed m k c) ≡ cond (is_none c) (cond (is_some o) 1 0) 0
 wants-changed None o m k = wants-removed o m k
 wants-changed (Some x) o m k = wants-replaced o m k x
-
-pub noted-change : (old new : Log) (m : Rows) (k : RowKey) (c was : Option Row) → was ≡ get m k → new.olds.items ≡ old.olds.items ++ (k, was) ∷ []
-    → new.removals ≡ old.removals + cond (is_none c) (cond (is_some was) 1 0) 0 → new_row_fits k was ≡ true → IsNoted old new m k c
-noted-change old new m k c was is olds more fit = record {
-  olds = olds ∙ ap (λ o. old.olds.items ++ (k, o) ∷ []) is;
-  removals = more ∙ ap (λ n. old.removals + n) (ap (λ o. cond (is_none c) (cond (is_some o) 1 0) 0) is ∙ sym (wants-changed c (get m k) m k));
-  fit = ap (λ o. new_row_fits k o) (sym is) ∙ fit;
-}
-
--- one log in place of another, with the rows after a change in place of those before
-pub record IsStep (old new : Log) (m m2 : Rows) : Type 0 where
-  pub back : undone new.olds.items m2 ≡ undone old.olds.items m
-  pub log : IsLogOf old m → IsLogOf new m2
-
-pub step-noted : (old new : Log) (m m2 : Rows) (k : RowKey) (c : Option Row) → m2 ≡ changed m k c → IsNoted old new m k c → IsStep old new m m2
-step-noted old new m m2 k c e n = record { back = back; log = log }
-  where
-    was : changed m2 k (get m k) ≡ m
-    was = ap (λ (z : Rows). changed z k (get m k)) e ∙ changed-back m k c
-
-    back : undone new.olds.items m2 ≡ undone old.olds.items m
-    back = ap (λ (os : Olds). undone os m2) n.olds ∙ undone-more old.olds.items (k, get m k) m2 ∙ ap (λ (z : Rows). undone old.olds.items z) was
-
-    log : IsLogOf old m → IsLogOf new m2
-    log h = record {
-      fit = subst AreOlds (sym n.olds) (olds-more old.olds.items (k, get m k) h.fit n.fit);
-      counted =
-          ap (λ (os : Olds). needed os m2) n.olds ∙ needed-more old.olds.items (k, get m k) m2
-          ∙ ap (λ (z : Rows). needed old.olds.items z + wants k (get m k) m2) was
-          ∙ ap (λ j. j + wants k (get m k) m2) h.counted
-          ∙ ap (λ (z : Rows). old.removals + wants k (get m k) z) e
-          ∙ sym n.removals;
-    }
-
-pub step-same : (old new : Log) (m m2 : Rows) → m2 ≡ m → IsSame old new → IsStep old new m m2
-step-same old new m m2 e s = record {
-  back = ap (λ (os : Olds). undone os m2) s.olds ∙ ap (λ (z : Rows). undone old.olds.items z) e;
-  log = λ h. record {
-    fit = subst AreOlds (sym s.olds) h.fit;
-    counted = ap (λ (os : Olds). needed os m2) s.olds ∙ ap (λ (z : Rows). needed old.olds.items z) e ∙ h.counted ∙ sym s.removals;
-  };
-}
-
--- ---- a change that memory may be refused to
-module _ {A E : Type 0} (r : Result A E) (old new : Log) (s s2 : Roomy) (k : RowKey) (c : Option Row) (noted : OnOk r (IsNoted old new s.rows k c)) (same : OnErr r (IsSame old new)) (err : OnErr r (s2 ≡ s)) where
-  pub step-tried : OnOk r (s2.rows ≡ changed s.rows k c) → IsStep old new s.rows s2.rows
-  step-tried ok = by r noted same err ok
-    where
-      by : (q : Result A E) → OnOk q (IsNoted old new s.rows k c) → OnErr q (IsSame old new) → OnErr q (s2 ≡ s) → OnOk q (s2.rows ≡ changed s.rows k c) → IsStep old new s.rows s2.rows
-      by (Ok x) n i e o = step-noted old new s.rows s2.rows k c o n
-      by (Err x) n i e o = step-same old new s.rows s2.rows (ap (λ (z : Roomy). z.rows) e) i
-
-  -- the log counts what the room is held for
-  pub room-tried : OnOk r (s2.room ≡ s.room + wants k (get s.rows k) (changed s.rows k c)) → new.removals + s.room ≡ old.removals + s2.room
-  room-tried ok = by r noted same err ok
-    where
-      by : (q : Result A E) → OnOk q (IsNoted old new s.rows k c) → OnErr q (IsSame old new) → OnErr q (s2 ≡ s) → OnOk q (s2.room ≡ s.room + wants k (get s.rows k) (changed s.rows k c)) → new.removals + s.room ≡ old.removals + s2.room
-      by (Ok x) n i e o = let count = n.removals in omega (arith, count, o)
-      by (Err x) n i e o = let count = i.removals in let room : s2.room ≡ s.room = ap (λ (z : Roomy). z.room) e in omega (arith, count, room)
 
 -- ---- taking back
 -- what is left of a log leads back to the same rows

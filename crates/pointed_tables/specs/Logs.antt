@@ -1,11 +1,12 @@
 -- Rows as they were before the changes of logs.
-use Rattle.std.specs.Prelude.{◌≡◌, ◌+◌, ℕ, ⊤, true, false, cond, is_some, List, [], ◌∷◌, ◌++◌, Option, Some, None}
+use Rattle.std.specs.Prelude.{◌≡◌, ◌≤◌, ◌+◌, ◌||◌, ℕ, ⊤, true, false, cond, eqb, is_some, length, take, List, [], ◌∷◌, ◌++◌, Option, Some, None}
 use Rattle.std.specs.FinMap as map
-use Rattle.serializability.specs.Changes.{changed}
+use Rattle.std.specs.List.{list_any}
+use Rattle.serializability.specs.Changes.{apply, changed}
 use Rattle.tpcc_rows.specs.declared.key.RowKey.{RowKey}
 use Rattle.tpcc_rows.specs.declared.row.Row.{Row}
 use Rattle.tpcc_rows.specs.Changing.{new_row_fits}
-use Rattle.tpcc_rows.specs.Leaves.{page_rows}
+use Rattle.tpcc_rows.specs.Leaves.{leaf, page_rows}
 use Rattle.tpcc_rows.specs.RowMap.{Rows}
 use Rattle.rollback.specs.Marks.{is_dirty}
 use Rattle.rollback.specs.Pointed.{first_or}
@@ -40,12 +41,6 @@ pub record IsLogOf (log : Log) (rows : Rows) : Type 0 where
   pub fit : AreOlds log.olds.items
   pub counted : needed log.olds.items rows ≡ log.removals
 
--- a log with one change more: of the key of these rows to this row, or to none
-pub record IsNoted (old new : Log) (rows : Rows) (key : RowKey) (row : Option Row) : Type 0 where
-  pub olds : new.olds.items ≡ old.olds.items ++ (key, map.get rows key) ∷ []
-  pub removals : new.removals ≡ old.removals + wants key (map.get rows key) (changed rows key row)
-  pub fit : new_row_fits key (map.get rows key) ≡ true
-
 -- a log with the same changes
 pub record IsSame (old new : Log) : Type 0 where
   pub olds : new.olds.items ≡ old.olds.items
@@ -54,6 +49,34 @@ pub record IsSame (old new : Log) : Type 0 where
 -- a leaf that isn't marked afterwards wasn't before, and has the rows that it had
 abbrev pub KeepsOthers : List ℕ → List ℕ → Rows → Rows → Type 0
 KeepsOthers before after old new = (n : ℕ) → is_dirty after n ≡ false → (is_dirty before n ≡ false) × (page_rows new n ≡ page_rows old n)
+
+-- ---- changes in exchange for what the keys had
+-- a change and what its key had have changed places, and so many rows were removed
+pub record IsExchanged (change old : RowKey × Option Row) (before after : Rows) (removed : ℕ) : Type 0 where
+  pub key : old.0 ≡ change.0
+  pub was : old.1 ≡ map.get before change.0
+  pub fit : new_row_fits old.0 old.1 ≡ true
+  pub made : after ≡ changed before change.0 change.1
+  pub counted : removed ≡ wants change.0 old.1 after
+
+-- the first n of these changes have been made, and the marked leaves are those that were and theirs
+pub record AreMade (changes : Olds) (n : ℕ) (old new : Rows) (before after : List ℕ) : Type 0 where
+  pub few : n ≤ length changes
+  pub rows : new ≡ apply (take n changes) old
+  pub none : n ≡ 0 → after ≡ before
+  pub marks : (m : ℕ) → is_dirty after m ≡ (list_any (λ change. eqb m (leaf change.0)) (take n changes) || is_dirty before m)
+  pub clean : KeepsOthers before after old new
+
+-- these lead back from the new rows to the old ones, with so many rows that come back to keys without one
+pub record LeadBack (olds : Olds) (removals : ℕ) (old new : Rows) : Type 0 where
+  pub back : undone olds new ≡ old
+  pub fit : AreOlds olds
+  pub counted : needed olds new ≡ removals
+
+-- one log in place of another, with the rows after a change in place of those before
+pub record IsStep (old new : Log) (before after : Rows) : Type 0 where
+  pub back : undone new.olds.items after ≡ undone old.olds.items before
+  pub log : IsLogOf old before → IsLogOf new after
 
 -- ---- points as logs
 -- the logs stand for these rows, the oldest first: each against the point that follows, the newest against the present rows

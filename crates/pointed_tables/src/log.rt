@@ -1,9 +1,10 @@
 //! A log of what keys had, by which changes are taken back.
-ghost use Rattle.std.specs.Prelude.{◌≡◌, ◌<◌, ◌≤◌, ◌+◌, ◌^◌, ◌++◌, ◌∷◌, [], is_some, cond, OnErr, OnOk, vec_capacity, vec_len, true};
-ghost use Rattle.std.specs.FinMap as map;
-ghost use Rattle.serializability.specs.Changes.{changed};
-ghost use Rattle.tpcc_rows.specs.Changing.{new_row_fits};
-ghost use Rattle.pointed_tables.specs.Logs.{IsLogOf, IsNoted, IsSame, KeepsOthers, undone, wants};
+ghost use Rattle.std.specs.Prelude.{◌≡◌, ◌<◌, ◌≤◌, ◌+◌, ◌^◌, ◌++◌, [], IfOk, OnErr, OnOk, cond, is_some, length, vec_capacity, vec_len, true};
+ghost use Rattle.std.specs.List.{list_all};
+ghost use Rattle.tpcc_rows.specs.Changing.{change_fits};
+ghost use Rattle.tpcc_rows.specs.Leaves.{leaf};
+ghost use Rattle.rollback.specs.Marks.{HasAlso};
+ghost use Rattle.pointed_tables.specs.Logs.{AreMade, IsExchanged, IsLogOf, IsSame, IsStep, KeepsOthers, LeadBack, undone};
 
 use crate::roomy::RoomyTables;
 use rollback::Dirty;
@@ -50,30 +51,36 @@ impl Log {
         self.removals
     }
 
-    /// Makes room for one change more.
-    fn prepare(&mut self) -> Result<(), Memory>
-        ensures room { OnOk result (vec_len self.new.olds < vec_capacity self.new.olds) }
-        ensures few { OnOk result (self.new.removals + 1 < 2 ^ 64) }
+    /// The number of changes.
+    pub(crate) fn len(&self) -> usize
+        ensures { result ≡ length self.now.olds.items }
+    {
+        self.olds.len()
+    }
+
+    /// Makes room for so many changes more.
+    fn prepare(&mut self, count: usize) -> Result<(), Memory>
+        ensures room { OnOk result (vec_len self.new.olds + count ≤ vec_capacity self.new.olds) }
+        ensures few { OnOk result (self.new.removals + count < 2 ^ 64) }
         ensures same { IsSame self.old self.new }
     {
-        if self.removals == usize::MAX {
+        if self.removals.checked_add(count).is_none() {
             return Err(Memory);
         }
-        self.olds.reserve(1)?;
+        self.olds.reserve(count)?;
         Ok(())
     }
 
-    /// Notes what a key had, for which there is room, and whether it was removed.
-    fn note(&mut self, key: RowKey, was: Option<Row>, is_removed: bool)
-        requires room { vec_len self.old.olds < vec_capacity self.old.olds }
-        requires few { self.old.removals + 1 < 2 ^ 64 }
-        ensures olds { self.new.olds.items ≡ self.old.olds.items ++ (key, was) ∷ [] }
-        ensures removals { self.new.removals ≡ self.old.removals + cond is_removed (cond (is_some was) 1 0) 0 }
+    /// Adds the changes of a later log, for which there is room.
+    fn append(&mut self, later: Log)
+        requires room { vec_len self.old.olds + vec_len later.olds ≤ vec_capacity self.old.olds }
+        requires few { self.old.removals + later.removals < 2 ^ 64 }
+        ensures olds { self.new.olds.items ≡ self.old.olds.items ++ later.olds.items }
+        ensures removals { self.new.removals ≡ self.old.removals + later.removals }
     {
-        if is_removed && was.is_some() {
-            self.removals += 1;
-        }
-        let _ = self.olds.push((key, was));
+        let Log { mut olds, removals } = later;
+        let _ = self.olds.append(&mut olds);
+        self.removals += removals;
     }
 }
 
@@ -83,26 +90,79 @@ impl MadeWith<Global> for Log {
     }
 }
 
-/// Gives the key this row, or none, and notes what it had.
-pub(crate) fn change_noting(
-    store: &mut RoomyTables,
-    key: &RowKey,
-    new_row: Option<Row>,
-    log: &mut Log,
-) -> Result<(), Memory>
-    requires { new_row_fits key.now new_row ≡ true }
-    ensures noted { OnOk result (IsNoted log.old log.new store.old.rows key.now new_row) }
-    ensures ok { OnOk result (store.new.rows ≡ changed store.old.rows key.now new_row) }
-    ensures room { OnOk result (store.new.room ≡ store.old.room + wants key.now (map.get store.old.rows key.now) (changed store.old.rows key.now new_row)) }
-    ensures err { OnErr result (store.new ≡ store.old) }
-    ensures log_err { OnErr result (IsSame log.old log.new) }
+/// How many rows a change removed, whose key had this row.
+fn rows_removed(is_removal: bool, was: &Option<Row>) -> usize
+    ensures { result ≡ cond is_removal (cond (is_some was.now) 1 0) 0 }
 {
-    log.prepare()?;
-    let is_removed = new_row.is_none();
-    let mut row = new_row;
-    store.exchange(key, &mut row)?;
-    log.note(*key, row, is_removed);
-    Ok(())
+    usize::from(is_removal && was.is_some())
+}
+
+/// Gives the key its row, or none, in exchange for what it had; its leaf is dirty from now on. Returns how many rows were removed.
+fn exchange(
+    store: &mut RoomyTables,
+    dirty: &mut Dirty,
+    change: &mut (RowKey, Option<Row>),
+) -> Result<usize, Memory>
+    requires { change_fits change.old ≡ true }
+    ensures made { IfOk result (λ removed. IsExchanged change.old change.new store.old.rows store.new.rows removed) }
+    ensures room { IfOk result (λ removed. (store.new.room ≡ store.old.room + removed) × (removed ≤ 1)) }
+    ensures dirty { OnOk result (HasAlso dirty.old (leaf change.old.0) dirty.new) }
+    ensures err { OnErr result (store.new ≡ store.old) }
+    ensures same { OnErr result (dirty.new ≡ dirty.old) }
+{
+    let (key, row) = change;
+    let is_removal = row.is_none();
+    store.exchange(key, row)?;
+    dirty.add(leaf(key));
+    Ok(rows_removed(is_removal, row))
+}
+
+/// Makes the changes, or the first of them if memory is refused. Returns a log of what the keys had. Their leaves are dirty from now
+/// on.
+pub(crate) fn exchange_all(
+    store: &mut RoomyTables,
+    dirty: &mut Dirty,
+    changes: Vec<(RowKey, Option<Row>)>,
+) -> Log
+    requires { list_all change_fits changes.items ≡ true }
+    ensures made { AreMade changes.items (length result.olds.items) store.old.rows store.new.rows dirty.old dirty.new }
+    ensures back { LeadBack result.olds.items result.removals store.old.rows store.new.rows }
+    ensures room { store.new.room ≡ store.old.room + result.removals }
+    ensures few { result.removals ≤ length result.olds.items }
+{
+    let mut olds = changes;
+    let mut removals = 0;
+    for n in 0..olds.len() {
+        match exchange(store, dirty, &mut olds[n]) {
+            Ok(removed) => removals += removed,
+            Err(Memory) => {
+                olds.truncate(n);
+                return Log { olds, removals };
+            }
+        }
+    }
+    Log { olds, removals }
+}
+
+/// Makes the changes, or the first of them if memory is refused, and notes what the keys had. Returns how many were made.
+pub(crate) fn exchange_noting(
+    store: &mut RoomyTables,
+    dirty: &mut Dirty,
+    changes: Vec<(RowKey, Option<Row>)>,
+    log: &mut Log,
+) -> usize
+    requires { list_all change_fits changes.items ≡ true }
+    ensures made { AreMade changes.items result store.old.rows store.new.rows dirty.old dirty.new }
+    ensures step { IsStep log.old log.new store.old.rows store.new.rows }
+    ensures room { log.new.removals + store.old.room ≡ log.old.removals + store.new.room }
+{
+    if log.prepare(changes.len()).is_err() {
+        return 0;
+    }
+    let later = exchange_all(store, dirty, changes);
+    let made = later.len();
+    log.append(later);
+    made
 }
 
 /// Takes the changes of the log back, the newest first, without allocating. Their leaves are dirty from now on.

@@ -1,18 +1,19 @@
 //! Rows in tables, the points to which they can go back, and the leaves on which they have changed.
 ghost use Rattle.std.specs.Prelude.{◌≡◌, ◌<◌, ◌≤◌, ◌+◌, ◌↔◌, [], ◌∷◌, ◌++◌, take, drop, IfOk, IfSome, IsErr, None, Some, OnOk, OnErr, length, option_copied, option_map, slice_get, true};
 ghost use Rattle.std.specs.FinMap as map;
+ghost use Rattle.std.specs.List.{list_all};
 ghost use Rattle.serializability.specs.Changes.{changed};
 ghost use Rattle.tpcc_rows.specs.References.{row_of};
-ghost use Rattle.tpcc_rows.specs.Changing.{IsMadeInPart, after, new_row_fits};
+ghost use Rattle.tpcc_rows.specs.Changing.{IsMadeInPart, after, change_fits, new_row_fits};
 ghost use Rattle.tpcc_rows.specs.Leaves.{leaf};
 ghost use Rattle.tpcc_rows.specs.Picks.{latest, oldest};
 ghost use Rattle.tpcc_rows.specs.RowKinds.{fits};
 ghost use Rattle.tpcc_rows.specs.Rows.{customer_row, district_next_row, district_ytd_row, order_line_row, order_row, stock_row, warehouse_row};
 ghost use Rattle.rollback.specs.Marks.{AreClean, HasAlso, HasAlsoThose};
 ghost use Rattle.rollback.specs.Pointed.{KeepsCleanLeaves};
-ghost use Rattle.pointed_tables.specs.Logs.{IsPointed, points_of};
+ghost use Rattle.pointed_tables.specs.Logs.{AreMade, IsPointed, points_of};
 
-use crate::log::{Log, change_noting, undo_all};
+use crate::log::{Log, exchange_all, exchange_noting, undo_all};
 use crate::roomy::RoomyTables;
 use arrayvec::ArrayVec;
 use rollback::{Dirty, NoSuchPoint, POINTS, PointsFull};
@@ -57,40 +58,26 @@ impl Model for PointedTables {
     ghost invariant = { λ s. IsPointed s.points.items s.store.rows s.store.room };
 }
 
-/// Gives the key this row, or none.
-fn change(store: &mut RoomyTables, key: &RowKey, new_row: Option<Row>) -> Result<(), Memory>
-    requires { new_row_fits key.now new_row ≡ true }
-    ensures ok { OnOk result (store.new.rows ≡ changed store.old.rows key.now new_row) }
-    ensures room { store.new.room ≡ store.old.room }
-    ensures err { OnErr result (store.new ≡ store.old) }
-{
-    match new_row {
-        Some(row) => {
-            store.put(*key, row)?;
-        }
-        None => drop(store.take(key)),
-    }
-    Ok(())
-}
-
-/// Gives the key this row, or none, and notes what it had in the newest log, if there is one.
-fn change_noting_newest(
+/// Makes the changes, or the first of them if memory is refused, and notes what the keys had in the newest log, if there is one.
+/// Returns how many were made.
+fn exchange_noting_newest(
     store: &mut RoomyTables,
-    key: &RowKey,
-    new_row: Option<Row>,
+    dirty: &mut Dirty,
+    changes: Vec<(RowKey, Option<Row>)>,
     points: &mut [Log],
-) -> Result<(), Memory>
-    requires { new_row_fits key.now new_row ≡ true }
-    ensures ok { OnOk result (store.new.rows ≡ changed store.old.rows key.now new_row) }
-    ensures err { OnErr result (store.new ≡ store.old) }
+) -> usize
+    requires { list_all change_fits changes.items ≡ true }
+    ensures made { AreMade changes.items result store.old.rows store.new.rows dirty.old dirty.new }
     ensures points { points_of points.new store.new.rows ≡ points_of points.old store.old.rows }
     ensures pointed { IsPointed points.old store.old.rows store.old.room → IsPointed points.new store.new.rows store.new.room }
 {
     let len = points.len();
-    if len == 0 {
-        return change(store, key, new_row);
+    if len > 0 {
+        return exchange_noting(store, dirty, changes, &mut points[len - 1]);
     }
-    change_noting(store, key, new_row, &mut points[len - 1])
+    let log = exchange_all(store, dirty, changes);
+    store.release(log.removals());
+    log.len()
 }
 
 impl PointedTables {
@@ -213,6 +200,16 @@ impl PointedTables {
         self.store.len()
     }
 
+    /// Makes the changes, or the first of them if memory is refused. Returns how many were made. Their leaves are dirty from now on.
+    fn make(&mut self, changes: Vec<(RowKey, Option<Row>)>) -> usize
+        requires { list_all change_fits changes.items ≡ true }
+        ensures made { AreMade changes.items result self.old.rows self.new.rows self.old.dirty self.new.dirty }
+        ensures points { self.new.points ≡ self.old.points }
+    {
+        let points = self.points.as_mut_slice();
+        exchange_noting_newest(&mut self.store, &mut self.dirty, changes, points)
+    }
+
     /// Gives the key this row, or none; its leaf is dirty from now on.
     pub fn change(&mut self, key: RowKey, new_row: Option<Row>) -> Result<(), Memory>
         requires { new_row_fits key new_row ≡ true }
@@ -222,8 +219,11 @@ impl PointedTables {
         ensures err { OnErr result (self.new ≡ self.old) }
         ensures clean { KeepsCleanLeaves self.old self.new }
     {
-        change_noting_newest(&mut self.store, &key, new_row, self.points.as_mut_slice())?;
-        self.dirty.add(leaf(&key));
+        let mut changes = Vec::with_capacity(self.alloc, 1)?;
+        changes.push((key, new_row))?;
+        if self.make(changes) == 0 {
+            return Err(Memory);
+        }
         Ok(())
     }
 
@@ -260,8 +260,10 @@ impl PointedTables {
         ensures points { self.new.points ≡ self.old.points }
         ensures clean { KeepsCleanLeaves self.old self.new }
     {
-        for (key, new_row) in delta.into_changes() {
-            self.change(key, new_row)?;
+        let changes = delta.into_changes();
+        let count = changes.len();
+        if self.make(changes) < count {
+            return Err(Memory);
         }
         Ok(())
     }

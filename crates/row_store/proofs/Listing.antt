@@ -8,17 +8,17 @@ use Rattle.std.specs.List.{list_all, slice_get}
 use Rattle.std.specs.Option.{unwrap_or}
 use Rattle.std.specs.Prelude.{⊤, All, reverse}
 use Rattle.std.specs.Result.{OnOk, OnErr}
-use Rattle.serializability.specs.Changes.{changed}
+use Rattle.serializability.specs.Changes.{apply, changed}
 use Rattle.std.specs.Ordering.{nat_cmp}
 use Rattle.rollback.specs.Pointed.{Pointed}
-use Rattle.row_store.specs.Leaves.{AreLeaves, AreListed, IsListed}
+use Rattle.row_store.specs.Leaves.{AreLeaves, AreListed, AreNewListed, IsListed}
 use Rattle.row_tables.specs.Stored.{IsRank}
 use Rattle.tables.specs.ByRank.{ByRank}
 use Rattle.tables.proofs.Tables.{rank_total, exact_ranks}
-use Rattle.tpcc_rows.specs.Changing.{with_each}
+use Rattle.tpcc_rows.specs.Changing.{IsMadeInPart, after, with_each}
 use Rattle.tpcc_rows.specs.Ranks.{IsNumbered, rank}
 use Rattle.tpcc_rows.specs.RowKinds.{fits}
-use Rattle.tpcc_rows.specs.RowMap.{Rows, row_key_cmp}
+use Rattle.tpcc_rows.specs.RowMap.{Changes, Rows, row_key_cmp}
 use Rattle.tpcc_rows.specs.declared.key.RowKey.{RowKey}
 use Rattle.tpcc_rows.specs.declared.row.Row.{Row}
 use Rattle.tpcc_rows.proofs.Keys.{row_key_cmp_total, exact_keys}
@@ -50,6 +50,24 @@ module _ (ranks : ByRank ⊤) (k : RowKey) (numbered : IsNumbered k) where
   pub listed-now : IsListed more k
   listed-now = record { numbered = numbered; there = ap is_some (single.here rank_total exact_ranks ranks (rank k) tt) }
 
+-- what was listed is, whether or not memory was refused
+pub others-listed : {A E : Type 0} (r : Result A E) (ranks new : ByRank ⊤) (k : RowKey) → IsNumbered k → OnOk r (new ≡ insert ranks (rank k) tt) → OnErr r (new ≡ ranks) → (q : RowKey) → IsListed ranks q → IsListed new q
+others-listed (Ok x) ranks new k numbered ok err q h = subst (λ m. IsListed m q) (sym ok) (still-listed ranks k numbered q h)
+others-listed (Err e) ranks new k numbered ok err q h = subst (λ m. IsListed m q) (sym err) h
+
+-- ---- the keys that get a row
+pub new-listed-more : (ranks : ByRank ⊤) (cs : List (RowKey × Option Row)) (c : RowKey × Option Row) → AreNewListed ranks cs → (is_some c.1 ≡ true → IsListed ranks c.0) → AreNewListed ranks (cs ++ c ∷ [])
+new-listed-more ranks [] c h here = (here, tt)
+new-listed-more ranks (d ∷ cs) c h here = (h.0, new-listed-more ranks cs c h.1 here)
+
+pub new-listed-still : (ranks new : ByRank ⊤) (cs : List (RowKey × Option Row)) → ((q : RowKey) → IsListed ranks q → IsListed new q) → AreNewListed ranks cs → AreNewListed new cs
+new-listed-still ranks new [] others h = tt
+new-listed-still ranks new (c ∷ cs) others h = ((λ some. others c.0 (h.0 some)), new-listed-still ranks new cs others h.1)
+
+new-listed-first : (ranks : ByRank ⊤) (made left : List (RowKey × Option Row)) → AreNewListed ranks (made ++ left) → AreNewListed ranks made
+new-listed-first ranks [] left h = tt
+new-listed-first ranks (c ∷ made) left h = (h.0, new-listed-first ranks made left h.1)
+
 -- ---- rows after a change
 pub listed-insert : (ranks : ByRank ⊤) (rows : Rows) (k : RowKey) (x : Row) → IsListed ranks k → AreListed ranks rows → AreListed ranks (insert rows k x)
 listed-insert ranks rows k x here h = record {
@@ -66,6 +84,14 @@ listed-remove ranks rows k h = record {
     | inr apart ↦ h.listed q (ap is_some (sym (single.left row_key_cmp_total exact_keys rows k q apart)) ∙ there)
   ];
 }
+
+listed-changed : (ranks : ByRank ⊤) (rows : Rows) (k : RowKey) (c : Option Row) → (is_some c ≡ true → IsListed ranks k) → AreListed ranks rows → AreListed ranks (changed rows k c)
+listed-changed ranks rows k None here h = listed-remove ranks rows k h
+listed-changed ranks rows k (Some x) here h = listed-insert ranks rows k x (here refl) h
+
+listed-applied : (ranks : ByRank ⊤) (rows : Rows) (cs : List (RowKey × Option Row)) → AreNewListed ranks cs → AreListed ranks rows → AreListed ranks (apply cs rows)
+listed-applied ranks rows [] here h = h
+listed-applied ranks rows (c ∷ cs) here h = listed-applied ranks (changed rows c.0 c.1) cs here.1 (listed-changed ranks rows c.0 c.1 here.0 h)
 
 pub listed-empty : (ranks : ByRank ⊤) (rows : Rows) → rows ≡ map.empty → AreListed ranks rows
 listed-empty ranks rows e = record { listed = λ q there. (let wrong : false ≡ true = ap is_some (sym (ap (λ (r : Rows). get r q) e ∙ get-empty row_key_cmp q)) ∙ there in cc) }
@@ -105,6 +131,13 @@ module _ (ranks : ByRank ⊤) (a b : Pointed) (h : AreLeaves ranks a) where
     pub leaves-changed : (r : Result A E) (k : RowKey) (c : Option Row) → (is_some c ≡ true → IsListed ranks k) → OnOk r (b.rows ≡ changed a.rows k c) → b.points ≡ a.points → OnErr r (b ≡ a) → AreLeaves ranks b
     leaves-changed r k (Some x) here rows points err = leaves-put r k x (here refl) rows points err
     leaves-changed r k None here rows points err = leaves-removed r k rows points err
+
+    pub leaves-applied : (r : Result A E) (delta : Changes) → AreNewListed ranks (map.entries delta) → OnOk r (b.rows ≡ after a.rows delta) → OnErr r (IsMadeInPart a.rows b.rows delta) → b.points ≡ a.points → AreLeaves ranks b
+    unfolding after
+    leaves-applied (Ok u) delta here ok err points = leaves-with (subst (AreListed ranks) (sym ok) (listed-applied ranks a.rows (map.entries delta) here h.present)) (same-points points)
+    leaves-applied (Err e) delta here ok err points =
+        let (made, left, split, rows) = err in
+        leaves-with (subst (AreListed ranks) (sym rows) (listed-applied ranks a.rows made (new-listed-first ranks made left (subst (AreNewListed ranks) split here)) h.present)) (same-points points)
 
     pub leaves-marked : (r : Result A E) → OnOk r (b.points ≡ a.points ++ a.rows ∷ []) → b.rows ≡ a.rows → OnErr r (b ≡ a) → AreLeaves ranks b
     leaves-marked (Ok u) points rows err = leaves-with (same-rows rows) (subst (All (AreListed ranks)) (sym points) (All-append (AreListed ranks) a.points (a.rows ∷ []) h.before (All-cons (AreListed ranks) a.rows [] h.present (All-nil (AreListed ranks)))))

@@ -1,5 +1,5 @@
 -- The ranks of rows, by leaf.
-use Rattle.std.specs.Prelude.{◌≡◌, ℕ, ⊤, true, is_some, All}
+use Rattle.std.specs.Prelude.{◌≡◌, ℕ, ⊤, true, is_some, All, List, [], ◌∷◌, Option}
 use Rattle.std.specs.FinMap as map
 use Rattle.row_tables.specs.Stored.{IsRank}
 use Rattle.rollback.specs.Pointed.{Pointed}
@@ -7,11 +7,17 @@ use Rattle.tables.specs.ByRank.{ByRank}
 use Rattle.tpcc_rows.specs.Ranks.{IsNumbered, rank}
 use Rattle.tpcc_rows.specs.RowMap.{Rows}
 use Rattle.tpcc_rows.specs.declared.key.RowKey.{RowKey}
+use Rattle.tpcc_rows.specs.declared.row.Row.{Row}
 
 -- the key's rank is among these
 pub record IsListed (ranks : ByRank ⊤) (key : RowKey) : Type 0 where
   pub numbered : IsNumbered key
   pub there : is_some (map.get ranks (rank key)) ≡ true
+
+-- the rank of each key that gets a row is among these
+abbrev pub AreNewListed : ByRank ⊤ → List (RowKey × Option Row) → Type 0
+AreNewListed ranks [] = ⊤
+AreNewListed ranks (change ∷ changes) = (is_some change.1 ≡ true → IsListed ranks change.0) × AreNewListed ranks changes
 
 -- the rank of each key with a row is among these
 pub record AreListed (ranks : ByRank ⊤) (rows : Rows) : Type 0 where

@@ -5,7 +5,7 @@ ghost use Rattle.std.specs.List.{list_all};
 ghost use Rattle.serializability.specs.Changes.{changed};
 ghost use Rattle.rollback.specs.Marks.{AreClean, HasAlso, HasAlsoThose};
 ghost use Rattle.rollback.specs.Pointed.{KeepsCleanLeaves};
-ghost use Rattle.row_store.specs.Leaves.{AreLeaves, IsListed};
+ghost use Rattle.row_store.specs.Leaves.{AreLeaves, AreNewListed, IsListed};
 ghost use Rattle.row_store.specs.Slots.{filled, slots};
 ghost use Rattle.tpcc_rows.specs.Changing.{IsMadeInPart, after, new_row_fits, with_each};
 ghost use Rattle.tpcc_rows.specs.Leaves.{leaf, page_rows};
@@ -13,6 +13,7 @@ ghost use Rattle.tpcc_rows.specs.Picks.{latest, oldest};
 ghost use Rattle.tpcc_rows.specs.Ranks.{IsNumbered, rank};
 ghost use Rattle.tpcc_rows.specs.References.{row_of};
 ghost use Rattle.tpcc_rows.specs.RowKinds.{fits};
+ghost use Rattle.tpcc_rows.specs.declared.key.RowKey.{RowKey};
 ghost use Rattle.tpcc_rows.specs.Rows.{customer_row, district_next_row, district_ytd_row, order_line_row, order_row, stock_row, warehouse_row};
 
 use crate::leaf_page::LeafPage;
@@ -101,6 +102,7 @@ fn list_new(
 ) -> Result<(), Memory>
     ensures kept { AreLeaves leaves.old tables.now → AreLeaves leaves.new tables.now }
     ensures ok { OnOk result (AreLeaves leaves.old tables.now → is_some new_row.now ≡ true → IsListed leaves.new key.now) }
+    ensures others { (k : RowKey) → IsListed leaves.old k → IsListed leaves.new k }
 {
     if new_row.is_none() {
         return Ok(());
@@ -109,6 +111,22 @@ fn list_new(
         return Ok(());
     }
     list(leaves, key)
+}
+
+/// Lists the ranks of the keys that get a row and may have none.
+fn list_all_new(
+    leaves: &mut Leaves,
+    tables: &PointedTables,
+    changes: &[(RowKey, Option<Row>)],
+) -> Result<(), Memory>
+    ensures kept { AreLeaves leaves.old tables.now → AreLeaves leaves.new tables.now }
+    ensures ok { OnOk result (AreLeaves leaves.old tables.now → AreNewListed leaves.new changes.now) }
+{
+    for n in 0..changes.len() {
+        let (key, new_row) = &changes[n];
+        list_new(leaves, tables, key, new_row)?;
+    }
+    Ok(())
 }
 
 /// Reads the middle and the end of a list, where a search begins. The result has no meaning.
@@ -360,10 +378,8 @@ impl PointedStore {
         ensures clean { KeepsCleanLeaves self.old self.new }
     {
         self.prefetch(&delta);
-        for (key, new_row) in delta.into_changes() {
-            self.change(key, new_row)?;
-        }
-        Ok(())
+        list_all_new(&mut self.leaves, &self.tables, delta.as_slice())?;
+        self.tables.apply(delta)
     }
 
     /// The dirty leaves, of which there are none from now on.

@@ -1,31 +1,8 @@
-use Rattle.std.proofs.Common.{rules, ◌≡◌, eqb, ◌∷◌, ◌++◌, [], Option, refl, ap, sym, ◌∙◌}
-use Rattle.std.specs.FinMap as map
-use Rattle.std.specs.List.{list_all}
-use Rattle.tpcc_rows.specs.declared.key.RowKey.{RowKey}
-use Rattle.tpcc_rows.specs.declared.row.Row.{Row}
-use Rattle.tpcc_rows.specs.Changing.{change_fits}
-use Rattle.tpcc_rows.specs.Leaves.{leaf}
-use Rattle.tpcc_rows.proofs.Changes.{made-more, rest-fits}
-use Rattle.rollback.proofs.Marking.{keeps-more, marks-more}
+use Rattle.std.proofs.Common.{take, drop, sym, ◌∙◌}
+use Rattle.std.proofs.lemmas.List.{take-append-drop}
 use Rattle.pointed_tables.proofs.pointed.PointedTables.apply.Goals as goal
 
-pub loop-key-init : goal.loop-key-init
-loop-key-init c =
-    let given : c.into_iter-key-iterator.result.rest.items ≡ map.entries c.args.delta = search rules in
-    ([], sym given, refl, ap (list_all change_fits) given ∙ c.into_changes-key-items.ensures.kinds, (λ n. refl), refl, (λ n clean. (clean, refl)))
-
-pub loop-key-preserved : goal.loop-key-preserved
-loop-key-preserved c =
-    let (made, whole, so_far, fits, marks, points, clean) = c.loop-key.invariant in
-    let change : RowKey × Option Row = (c.in-Some.key, c.in-Some.new_row) in
-    let left = c.next.new.self.rest.items in
-    let steps = c.in-Some.ensures.steps.0 in
-    let more = made-more _ made _ left change _ _ c.change.new.self.rows whole steps so_far c.in_ok-change.ensures.rows in (
-      made ++ change ∷ [],
-      more.0,
-      more.1,
-      rest-fits _ change left steps fits,
-      (λ n. marks-more (λ e. eqb n (leaf e.0)) made change _ _ _ (marks n) (c.in_ok-change.ensures.dirty n)),
-      c.change.ensures.points ∙ points,
-      keeps-more c.args.self.now c.loop-key.self c.change.new.self clean c.change.ensures.clean,
-    )
+pub returns-then-make-count-clause-err : goal.returns-then-make-count-clause-err
+returns-then-make-count-clause-err c =
+    let changes = c.into_changes-changes.result.items in
+    (take c.make.result changes, drop c.make.result changes, sym c.into_changes-changes.ensures.all ∙ sym (take-append-drop c.make.result changes), c.make.ensures.made.rows)

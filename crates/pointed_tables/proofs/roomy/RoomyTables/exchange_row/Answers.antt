@@ -14,5 +14,5 @@ returns-then-not-has-clause-value c = on_ok_weaker c.exchange.result (λ e. e �
 pub returns-then-not-has-clause-ok : goal.returns-then-not-has-clause-ok
 returns-then-not-has-clause-ok c =
     on_ok_weaker c.exchange.result (λ e.
-        ap (λ (m : Rows). both c.self.inside.aside.rows m) e ∙ both-tables _ _ c.args.key.now c.args.row.now (none_of _ (sym c.has.ensures ∙ c.if-not-has.true))
-        ∙ seen-changed _ _ _ c.args.self.now c.self.view_is c.args.key.now c.args.row.now) c.exchange.ensures.ok
+    ap (λ (m : Rows). both c.self.inside.aside.rows m) e ∙ both-tables _ _ c.args.key.now c.args.row.now (none_of _ (sym c.has.ensures ∙ c.if-not-has.true))
+    ∙ seen-changed _ _ _ c.args.self.now c.self.view_is c.args.key.now c.args.row.now) c.exchange.ensures.ok
