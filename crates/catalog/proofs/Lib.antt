@@ -8,4 +8,5 @@ pub mod Late
 pub mod Middles
 pub mod NameOrders
 pub mod Naming
+pub mod Packing
 pub mod Tables

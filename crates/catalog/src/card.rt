@@ -1,10 +1,13 @@
 //! The cards and their keys (TPC-C clause 1.3; the split into fixed and moving columns by clause 1.4).
-ghost use Rattle.std.specs.Prelude.{◌≡◌, ◌==◌, ◌-◌, ◌<◌, ◌≤◌, [], IfSome, None, Some, if◌then◌else◌, length, option_copied, slice_index_or, vec_len};
+ghost use Rattle.std.specs.Prelude.{◌≡◌, ◌==◌, ◌+◌, ◌^◌, ◌<◌, ◌≤◌, ◌++◌, [], All, IfOk, None, OnErr, OnOk, Some, if◌then◌else◌, length, option_copied, slice_index_or, vec_len};
 ghost use Rattle.catalog.specs.CardKinds.{as_customer, as_district, as_item, as_stock, as_warehouse, card_key};
+ghost use Rattle.catalog.specs.Infos.{ArePacked, padded};
 ghost use Rattle.catalog.specs.StockCards.{district_info};
+ghost use Rattle.tpcc_rows.specs.Texts.{ArePrintable, IsPadded, IsText, before_zeros};
 
 use std::marker::Model;
 use tpcc_rows::id::{CustomerId, DistrictId, ItemId, WarehouseId};
+use tpcc_rows::memory::Memory;
 use tpcc_rows::number::{Price, Rate};
 use tpcc_rows::text::Text;
 
@@ -71,62 +74,87 @@ pub struct CustomerCard {
     pub discount: Rate,
 }
 
-/// Ten texts, which take a third of the room if all are short.
-#[derive(Drop)]
-enum Infos {
-    Short(Vec<Text<8>>),
-    Long(Vec<Text<24>>),
-}
+/// The number of a warehouse's districts.
+const DISTRICTS: usize = 10;
 
-/// Whether the texts have at most eight bytes each.
-fn are_short(texts: &[Text<24>]) -> bool {
-    texts.iter().all(|text| text.as_bytes().len() <= 8)
-}
+/// The least width of the ten texts.
+const SHORT: usize = 8;
 
-/// The same texts with less room each; `None` if one is too long, or memory is refused.
-fn shortened(texts: &Vec<Text<24>>) -> Option<Vec<Text<8>>>
-    ensures { IfSome result (λ short. short.items ≡ texts.now.items) }
+/// The width for these texts: the length of the longest, unless all are short.
+fn width_for(texts: &[Text<24>]) -> usize
+    ensures bound { All (IsText result) texts.now }
+    ensures fits { result ≤ 24 }
 {
-    if !are_short(texts) {
-        return None;
+    let mut width = SHORT;
+    for text in texts {
+        width = width.max(text.as_bytes().len());
     }
-    let mut short = Vec::with_capacity(*texts.allocator(), texts.len()).ok()?;
+    width
+}
+
+/// Appends the text, and zeros up to the width.
+fn push_padded(texts: &mut Vec<u8>, text: &Text<24>, width: usize) -> Result<(), Memory>
+    requires fits { length text.now ≤ width }
+    requires most { width ≤ 24 }
+    ensures { OnOk result (texts.new.items ≡ texts.old.items ++ padded width text.now) }
+{
+    texts.extend_from_slice(&text.as_padded()[..width])?;
+    Ok(())
+}
+
+/// The texts, padded to one width.
+fn packed(texts: &Vec<Text<24>>) -> Result<Vec<u8>, Memory>
+    requires { vec_len texts.now ≡ 10 }
+    ensures { IfOk result (λ packed. ArePacked texts.now.items packed.items) }
+{
+    let width = width_for(texts.as_slice());
+    let mut packed = Vec::with_capacity(*texts.allocator(), DISTRICTS * width)?;
     for text in texts.iter() {
-        short.push(Text::parse(text.as_bytes())?).ok()?;
+        push_padded(&mut packed, text, width)?;
     }
-    Some(short)
+    Ok(packed)
+}
+
+/// The bytes of a text before the zeros that pad it. A text that nothing pads is known by its last byte.
+fn unpadded(padded: &[u8]) -> &[u8]
+    requires { IsPadded (length padded.now) padded.now }
+    ensures { result.now ≡ before_zeros padded.now }
+{
+    match padded.last() {
+        Some(0) => &padded[..padded.partition_point(|byte| *byte != 0)],
+        _ => padded,
+    }
 }
 
 /// S_DIST_01 to S_DIST_10, a text for each district of the stock's warehouse.
 #[derive(Drop)]
 pub struct DistrictInfos {
-    infos: Infos,
+    /// The texts one after another, each with zeros up to their width.
+    texts: Vec<u8>,
 }
 
 impl Model for DistrictInfos {
-    ghost use Rattle.std.specs.Prelude.{◌≡◌, ℕ, List, length};
-    ghost use Rattle.catalog.specs.Infos.{texts};
+    ghost use Rattle.std.specs.Prelude.{ℕ, List};
+    ghost use Rattle.catalog.specs.Infos.{AreTexts, texts_of};
 
     ghost Value = { List (List ℕ) };
 
-    ghost view = { λ x. texts x.infos };
+    ghost view = { λ infos. texts_of infos.texts.items };
 
-    ghost invariant = { λ x. length (texts x.infos) ≡ 10 };
+    ghost invariant = { λ infos. AreTexts infos.texts.items };
 }
 
 impl DistrictInfos {
     /// The texts of the ten districts in order; `None` if they aren't ten.
-    pub fn new(infos: Vec<Text<24>>) -> Option<DistrictInfos>
-        ensures { result ≡ (if vec_len infos == 10 then Some infos.items else None) }
+    pub fn new(infos: Vec<Text<24>>) -> Result<Option<DistrictInfos>, Memory>
+        ensures value { IfOk result (λ new. new ≡ (if vec_len infos == 10 then Some infos.items else None)) }
+        ensures memory { OnErr result (vec_len infos ≡ 10) }
     {
-        if infos.len() != 10 {
-            return None;
+        if infos.len() != DISTRICTS {
+            return Ok(None);
         }
-        let infos = match shortened(&infos) {
-            Some(short) => Infos::Short(short),
-            None => Infos::Long(infos),
-        };
-        Some(DistrictInfos { infos })
+        let texts = packed(&infos)?;
+        Ok(Some(DistrictInfos { texts }))
     }
 
     /// The number of texts.
@@ -134,10 +162,20 @@ impl DistrictInfos {
         ensures value { result ≡ length self.now }
         ensures ten { result ≡ 10 }
     {
-        match &self.infos {
-            Infos::Short(texts) => texts.len(),
-            Infos::Long(texts) => texts.len(),
-        }
+        let _ = &self.texts;
+        DISTRICTS
+    }
+
+    /// The text at a place, of which the first is 0, with its zeros.
+    fn padded_at(&self, place: usize) -> &[u8]
+        requires { place < 10 }
+        ensures value { before_zeros result.now ≡ slice_index_or self.now place [] }
+        ensures padded { IsPadded (length result.now) result.now }
+        ensures fits { length result.now ≤ 24 }
+    {
+        let width = self.texts.len() / DISTRICTS;
+        let start = place * width;
+        &self.texts[start..start + width]
     }
 
     /// The text at a place, of which the first is 0.
@@ -145,21 +183,23 @@ impl DistrictInfos {
         requires { place < 10 }
         ensures value { result.now ≡ slice_index_or self.now place [] }
         ensures fits { length result.now ≤ 24 }
+        ensures printable { ArePrintable result.now }
     {
-        match &self.infos {
-            Infos::Short(texts) => texts[place].as_bytes(),
-            Infos::Long(texts) => texts[place].as_bytes(),
-        }
+        unpadded(self.padded_at(place))
     }
 
-    /// A copy of the text at a place.
+    /// A copy of the text at a place. Texts of the least and the greatest width are copied as arrays, which is fastest.
     fn text_at(&self, place: usize) -> Text<24>
         requires { place < 10 }
         ensures { result ≡ slice_index_or self.now place [] }
     {
-        match &self.infos {
-            Infos::Short(texts) => texts[place].widened(),
-            Infos::Long(texts) => texts[place].copied(),
+        let padded = self.padded_at(place);
+        if let Some(short) = padded.as_array::<SHORT>() {
+            return Text::from_padded(short).widened();
+        }
+        match padded.as_array() {
+            Some(long) => Text::from_padded(long),
+            None => Text::from_start(unpadded(padded)),
         }
     }
 }

@@ -37,5 +37,5 @@ pub(crate) fn district_infos(
     for i in first..first + 10 {
         infos.push(text(fields, i)?)?;
     }
-    Ok(DistrictInfos::new(infos).unwrap())
+    Ok(DistrictInfos::new(infos)?.unwrap())
 }

@@ -169,7 +169,7 @@ fn made_infos(alloc: Global) -> Result<DistrictInfos, Memory>
     for district in DistrictId::all() {
         infos.push(made_info(district))?;
     }
-    Ok(DistrictInfos::new(infos).unwrap())
+    Ok(DistrictInfos::new(infos)?.unwrap())
 }
 
 /// `S,w,i,quantity,ytd,order_cnt,remote_cnt,data,dist01,..,dist10`

@@ -61,7 +61,7 @@ fn push_infos(infos: &mut Vec<Text<24>>) -> Option<()> {
 fn infos(alloc: Global) -> Option<DistrictInfos> {
     let mut infos = Vec::new(alloc);
     push_infos(&mut infos)?;
-    DistrictInfos::new(infos)
+    DistrictInfos::new(infos).ok()?
 }
 
 fn stock(alloc: Global, warehouse: u8, item: u32) -> Option<Card> {

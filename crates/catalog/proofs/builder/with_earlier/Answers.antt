@@ -27,18 +27,3 @@ loop-key-preserved c =
     let there = ap is_some (sym (looked-up all c.in-Some.key)) ∙ sym c.contains_key.ensures ∙ c.if-not-contains_key.false in
     sym (left-out all c.next.new.self.rest.items c.in-Some.key c.in-Some.card there)
     ∙ ap (λ (es : Entries). firsts (all ++ es)) (sym c.in-Some.ensures.steps.0) ∙ c.loop-key.invariant
-
-pub loop-key-preserved-in_ok-insert-4 : goal.loop-key-preserved-in_ok-insert-4
-loop-key-preserved-in_ok-insert-4 c =
-    let all = c.loop-key.all.entries in
-    let none = is-none _ (ap is_some (sym (looked-up all c.in-Some.key)) ∙ sym c.contains_key.ensures ∙ c.if-not-contains_key.true) in
-    brought all c.insert.new.self.entries c.next.new.self.rest.items c.in-Some.key c.in-Some.card none
-    (one_put card_key_cmp_total exact_cards all c.insert.new.self.entries c.in-Some.key c.in-Some.card c.in_ok-insert.ensures.updates.0)
-    ∙ ap (λ (es : Entries). firsts (all ++ es)) (sym c.in-Some.ensures.steps.0) ∙ c.loop-key.invariant
-
-pub loop-key-preserved-else-not-contains_key-2 : goal.loop-key-preserved-else-not-contains_key-2
-loop-key-preserved-else-not-contains_key-2 c =
-    let all = c.loop-key.all.entries in
-    let there = ap is_some (sym (looked-up all c.in-Some.key)) ∙ sym c.contains_key.ensures ∙ c.if-not-contains_key.false in
-    sym (left-out all c.next.new.self.rest.items c.in-Some.key c.in-Some.card there)
-    ∙ ap (λ (es : Entries). firsts (all ++ es)) (sym c.in-Some.ensures.steps.0) ∙ c.loop-key.invariant

@@ -21,4 +21,4 @@ pub returns : goal.returns
 returns c =
     let (bound, count, all) = c.loop-i.invariant in
     let over = c.loop-i-test.false in
-    all ∙ texts_end _ _ _ _ (omega (arith, over)) ∙ ap Ok (some-of _ _ _ _ c.new.ensures c.unwrap.ensures)
+    all ∙ texts_end _ _ _ _ (omega (arith, over)) ∙ ap Ok (some-of _ _ _ _ c.in_ok-new.ensures.value c.unwrap.ensures)
