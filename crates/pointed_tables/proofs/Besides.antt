@@ -1,7 +1,7 @@
 -- The rows of tables and those aside, after a change of either.
-use Rattle.std.proofs.Common.{◌≡◌, ◌<◌, ◌≤◌, ◌+◌, ◌-◌, ℕ, Bool, true, false, cond, is_some, List, [], ◌∷◌, ◌++◌, length, Option, Some, None, Result, Ok, Err, inl, inr, ◌⊎◌, refl, sym, ap, ap₂, subst, ◌∙◌, arith}
+use Rattle.std.proofs.Common.{◌≡◌, ◌<◌, ◌+◌, ◌-◌, ℕ, Bool, true, false, cond, is_some, List, [], ◌∷◌, ◌++◌, length, Option, Some, None, Result, Ok, Err, inl, inr, refl, sym, ap, ap₂, subst, ◌∙◌, arith}
 use Rattle.std.specs.FinMap as map
-use Rattle.std.specs.FinMap.{entries, find, get, get-empty, get-entries, get-from_entries, insert, len, len-empty, len-entries, len-insert, len-remove, remove, same_map}
+use Rattle.std.specs.FinMap.{entries, find, get, get-empty, get-entries, get-from_entries, len, len-empty, len-entries, len-insert, len-remove, remove, same_map}
 use Rattle.std.specs.Option.{option_or}
 use Rattle.std.specs.Result.{OnOk, OnErr}
 use Rattle.std.specs.Ordering.{eq_by_cmp}
@@ -11,12 +11,9 @@ use Rattle.serializability.proofs.Changes.{get-changed}
 use Rattle.tpcc_rows.specs.declared.key.RowKey.{RowKey}
 use Rattle.tpcc_rows.specs.declared.row.Row.{Row}
 use Rattle.tpcc_rows.specs.Changing.{AreRows, new_row_fits}
-use Rattle.tpcc_rows.specs.Places.{IsPlaceOf, are_in_order}
-use Rattle.tpcc_rows.specs.RowKinds.{fits}
 use Rattle.tpcc_rows.specs.RowMap.{Rows, row_key_cmp}
 use Rattle.tpcc_rows.proofs.Fitting.{rows-empty, rows-insert, rows-remove}
 use Rattle.tpcc_rows.proofs.Keys.{row_key_cmp_total, exact_keys}
-use Rattle.tpcc_rows.proofs.Places.{entries-map_of, got-none, map_of}
 use Rattle.tpcc_rows.proofs.Singles.{gone, tied}
 use Rattle.pointed_tables.specs.Aside.{IsBeside, Roomy, both}
 

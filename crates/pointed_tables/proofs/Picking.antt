@@ -1,5 +1,5 @@
 -- What is picked among the rows of tables and those aside.
-use Rattle.std.proofs.Common.{◌≡◌, ◌⊎◌, ◌≤◌, ℕ, min, max, is_some, true, false, List, [], ◌∷◌, Option, Some, None, inl, inr, refl, sym, ap, ◌∙◌, arith}
+use Rattle.std.proofs.Common.{◌≡◌, ◌⊎◌, ℕ, min, max, is_some, List, [], ◌∷◌, Option, Some, None, inl, inr, refl, sym, ap, ◌∙◌, arith}
 use Rattle.std.specs.FinMap.{get}
 use Rattle.tpcc_rows.specs.declared.key.RowKey.{RowKey}
 use Rattle.tpcc_rows.specs.declared.row.Row.{Row}
@@ -7,7 +7,7 @@ use Rattle.tpcc_rows.specs.Picks.{greatest, larger, larger_of, least, lesser, le
 use Rattle.tpcc_rows.specs.RowMap.{Rows}
 use Rattle.tpcc_rows.proofs.Picks.{Has, greatest-is, least-is, picked-row, row-picked}
 use Rattle.pointed_tables.specs.Aside.{IsBeside, both}
-use Rattle.pointed_tables.proofs.Besides.{get-both, got-first, got-tables}
+use Rattle.pointed_tables.proofs.Besides.{got-first, got-tables}
 
 -- ---- one list of numbers for two
 module _ (xs ys zs : List ℕ) (split : (n : ℕ) → Has zs n → Has xs n ⊎ Has ys n) (left : (n : ℕ) → Has xs n → Has zs n) (right : (n : ℕ) → Has ys n → Has zs n) where

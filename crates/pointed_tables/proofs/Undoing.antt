@@ -1,7 +1,6 @@
 -- Changes taken back.
-use Rattle.std.proofs.Common.{◌≡◌, ℕ, zero, suc, ◌<◌, ◌≤◌, ◌+◌, ◌||◌, eqb, true, false, cond, is_none, is_some, List, [], ◌∷◌, ◌++◌, Option, Some, None, Result, Ok, Err, inl, inr, refl, sym, ap, subst, ◌∙◌, arith}
+use Rattle.std.proofs.Common.{◌≡◌, ℕ, ◌≤◌, ◌+◌, ◌||◌, eqb, true, false, cond, is_none, is_some, List, [], ◌∷◌, ◌++◌, Option, Some, None, inl, inr, refl, sym, ap, subst, ◌∙◌, arith}
 use Rattle.std.specs.FinMap.{get, insert, remove, same_map}
-use Rattle.std.specs.Result.{OnOk, OnErr}
 use Rattle.std.specs.Ordering.{eq_by_cmp}
 use Rattle.std.proofs.lemmas.Bool.{cases_Bool}
 use Rattle.serializability.specs.Changes.{changed}
@@ -15,9 +14,7 @@ use Rattle.tpcc_rows.proofs.Keys.{row_key_cmp_total, exact_keys}
 use Rattle.tpcc_rows.proofs.Singles.{gone, here, tied}
 use Rattle.rollback.specs.Marks.{HasAlso, is_dirty}
 use Rattle.rollback.proofs.Marking.{or-left, or-right, page-changed}
-use Rattle.pointed_tables.specs.declared.log.Log.{Log}
-use Rattle.pointed_tables.specs.Aside.{Roomy}
-use Rattle.pointed_tables.specs.Logs.{AreOlds, IsLogOf, KeepsOthers, Olds, needed, undone, wants}
+use Rattle.pointed_tables.specs.Logs.{AreOlds, KeepsOthers, Olds, needed, undone, wants}
 
 pub undone-more : (os : Olds) (o : RowKey × Option Row) (m : Rows) → undone (os ++ o ∷ []) m ≡ undone os (changed m o.0 o.1)
 undone-more [] o m = refl

@@ -1,5 +1,5 @@
 -- Rows as they were before the changes of logs.
-use Rattle.std.specs.Prelude.{◌≡◌, ◌≤◌, ◌+◌, ◌||◌, ℕ, ⊤, true, false, cond, eqb, is_some, length, take, List, [], ◌∷◌, ◌++◌, Option, Some, None}
+use Rattle.std.specs.Prelude.{◌≡◌, ◌≤◌, ◌+◌, ◌||◌, ℕ, ⊤, true, false, cond, eqb, is_some, length, take, List, [], ◌∷◌, Option, Some, None}
 use Rattle.std.specs.FinMap as map
 use Rattle.std.specs.List.{list_any}
 use Rattle.serializability.specs.Changes.{apply, changed}

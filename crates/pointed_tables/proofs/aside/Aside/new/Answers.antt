@@ -1,4 +1,3 @@
-use Rattle.tpcc_rows.specs.RowMap.{row_key_cmp}
 use Rattle.tpcc_rows.proofs.Keys.{row_key_cmp_total, exact_keys}
 use Rattle.tpcc_rows.proofs.Places.{no-entries}
 use Rattle.pointed_tables.proofs.aside.Aside.new.Goals as goal

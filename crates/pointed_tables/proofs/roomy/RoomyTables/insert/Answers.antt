@@ -1,5 +1,5 @@
-use Rattle.std.proofs.Common.{◌≡◌, ◌-◌, None, Some, cond, is_some, sym, ap, subst, ◌∙◌, arith}
-use Rattle.std.specs.FinMap.{get, insert}
+use Rattle.std.proofs.Common.{◌≡◌, ◌-◌, Some, cond, is_some, sym, ap, subst, ◌∙◌, arith}
+use Rattle.std.specs.FinMap.{insert}
 use Rattle.tpcc_rows.specs.RowMap.{Rows}
 use Rattle.pointed_tables.specs.Aside.{IsBeside, Roomy, both}
 use Rattle.pointed_tables.proofs.Besides.{beside-aside, beside-tables, both-aside, both-tables, nowhere, seen-changed}

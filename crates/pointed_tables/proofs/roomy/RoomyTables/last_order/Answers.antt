@@ -1,5 +1,4 @@
-use Rattle.std.proofs.Common.{sym, ap, ap₂, ◌∙◌}
-use Rattle.std.specs.FinMap.{entries}
+use Rattle.std.proofs.Common.{ap, ap₂, ◌∙◌}
 use Rattle.std.specs.List.{filter_map}
 use Rattle.tpcc_rows.specs.Picks.{greatest, larger_of, latest, order_pick, picked}
 use Rattle.pointed_tables.specs.Aside.{Roomy}

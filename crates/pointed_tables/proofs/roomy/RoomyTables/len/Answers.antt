@@ -1,6 +1,4 @@
-use Rattle.std.proofs.Common.{◌≡◌, ◌+◌, length, sym, ap, ap₂, ◌∙◌, arith}
-use Rattle.std.specs.FinMap.{entries, len, len-entries}
-use Rattle.pointed_tables.specs.Aside.{Roomy, both}
+use Rattle.std.proofs.Common.{arith}
 use Rattle.pointed_tables.proofs.Besides.{count-both}
 use Rattle.pointed_tables.proofs.roomy.RoomyTables.len.Goals as goal
 

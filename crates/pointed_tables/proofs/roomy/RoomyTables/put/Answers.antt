@@ -1,11 +1,8 @@
-use Rattle.std.proofs.Common.{◌≡◌, None, Some, is_some, true, false, sym, ap, subst, ◌∙◌, arith}
-use Rattle.std.specs.FinMap as map
-use Rattle.std.specs.FinMap.{get}
-use Rattle.std.proofs.lemmas.Result.{IfOk-weaker, on_ok_weaker, on_err_weaker}
-use Rattle.serializability.specs.Changes.{changed}
+use Rattle.std.proofs.Common.{Some, sym, ap, subst, ◌∙◌}
+use Rattle.std.proofs.lemmas.Result.{IfOk-weaker, on_ok_weaker}
 use Rattle.tpcc_rows.specs.RowMap.{Rows}
 use Rattle.pointed_tables.specs.Aside.{IsBeside, both}
-use Rattle.pointed_tables.proofs.Besides.{beside-aside, beside-tables, beside-tried, both-aside, both-tables, fits-aside, got-aside, got-tables, none_of, nowhere, seen, seen-changed}
+use Rattle.pointed_tables.proofs.Besides.{beside-aside, beside-tried, both-aside, both-tables, fits-aside, got-aside, got-tables, none_of, seen, seen-changed}
 use Rattle.pointed_tables.proofs.roomy.RoomyTables.put.Goals as goal
 
 pub invariant_of-self : goal.invariant_of-self

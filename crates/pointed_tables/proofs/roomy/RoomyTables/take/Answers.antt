@@ -1,11 +1,7 @@
-use Rattle.std.proofs.Common.{◌≡◌, None, Some, is_some, true, false, sym, ap, subst, ◌∙◌, arith}
-use Rattle.std.specs.FinMap as map
-use Rattle.std.specs.FinMap.{get}
-use Rattle.std.proofs.lemmas.Result.{IfOk-weaker, on_ok_weaker, on_err_weaker}
-use Rattle.serializability.specs.Changes.{changed}
+use Rattle.std.proofs.Common.{None, sym, ap, subst, ◌∙◌}
 use Rattle.tpcc_rows.specs.RowMap.{Rows}
 use Rattle.pointed_tables.specs.Aside.{IsBeside, both}
-use Rattle.pointed_tables.proofs.Besides.{beside-aside, beside-tables, beside-tried, both-aside, both-tables, fits-aside, got-aside, got-tables, none_of, nowhere, seen, seen-changed}
+use Rattle.pointed_tables.proofs.Besides.{beside-aside, beside-tables, both-aside, both-tables, fits-aside, got-aside, got-tables, none_of, seen, seen-changed}
 use Rattle.std.proofs.Common.{refl}
 use Rattle.pointed_tables.proofs.roomy.RoomyTables.take.Goals as goal
 

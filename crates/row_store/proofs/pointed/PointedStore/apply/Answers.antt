@@ -1,5 +1,4 @@
-use Rattle.std.proofs.Common.{sym, ap, subst, ◌∙◌}
-use Rattle.std.specs.FinMap as map
+use Rattle.std.proofs.Common.{sym, subst, ◌∙◌}
 use Rattle.row_store.specs.Leaves.{AreNewListed}
 use Rattle.row_store.proofs.Listing.{leaves-alike, leaves-applied}
 use Rattle.row_store.proofs.pointed.PointedStore.apply.Goals as goal
