@@ -3,8 +3,8 @@
 
 mod checks;
 mod districts;
-mod sorted;
+mod parents;
+mod searching;
 mod totals;
 
 pub use checks::check;
-pub use sorted::check_sorted;

@@ -1,17 +1,18 @@
 //! Totals of each district's orders, new orders and order lines, accumulated row by row.
-ghost use Rattle.std.specs.Prelude.{◌≡◌, ◌<◌, ◌+◌, ◌*◌, ◌^◌, ◌+ℤ◌, max, min, pos, ℕ, length, replicate, IfNone, IfOk, IfSome, Some};
+ghost use Rattle.std.specs.Prelude.{◌≡◌, ◌<◌, ◌+◌, ◌*◌, ◌^◌, ◌+ℤ◌, max, min, pos, ℕ, length, replicate, IfNone, IfOk, IfSome, Some, true};
 ghost use Rattle.std.specs.Ordering.{int_eq};
 ghost use Rattle.records.specs.Fields.{IsWithin};
-ghost use Rattle.tpcc_rows.specs.RowMap.{Rows};
+ghost use Rattle.tpcc_rows.specs.Places.{are_in_order};
+ghost use Rattle.tpcc_rows.specs.RowMap.{Rows, row_key_cmp};
 ghost use Rattle.image_checks.specs.Totals.{AreOfRows, AreTotals, AreTotalsOf, IsAdded, IsOfRows, both, district_totals, empty_totals, one_of, row_totals};
 ghost use Rattle.image_checks.specs.Districts.{are_without_gap, follows_on};
 ghost use Rattle.image_checks.specs.declared.totals.TheConstants.{INDEXES};
+ghost use Rattle.image_checks.specs.Sorted.{rows_in};
 
 use std::alloc::Global;
 use tpcc_rows::id::{DistrictId, LineNumber, OrderId, WarehouseId};
 use tpcc_rows::key::RowKey;
 use tpcc_rows::memory::Memory;
-use tpcc_rows::plain::RowMap;
 use tpcc_rows::row::Row;
 
 /// Totals of a district's orders, new orders and order lines.
@@ -219,7 +220,7 @@ fn row_totals(key: &RowKey, row: &Row) -> Option<(WarehouseId, DistrictId, Total
 }
 
 /// Adds a row to the totals of its district.
-pub(crate) fn add_row(totals: &mut DistrictTotals, key: &RowKey, row: &Row)
+fn add_row(totals: &mut DistrictTotals, key: &RowKey, row: &Row)
     requires { AreOfRows (2 ^ 63) totals.old.districts.items }
     ensures totals { IsAdded totals.old.districts.items (key.now, row.now) totals.new.districts.items }
     ensures small { (w d : ℕ) → IsOfRows 1 (row_totals w d (key.now, row.now)) }
@@ -231,12 +232,12 @@ pub(crate) fn add_row(totals: &mut DistrictTotals, key: &RowKey, row: &Row)
 }
 
 /// The totals of all districts.
-pub(crate) fn totals_of(alloc: Global, rows: &RowMap) -> Result<DistrictTotals, Memory>
-    ensures { IfOk result (λ totals. AreTotals totals.districts.items rows.now) }
+pub(crate) fn totals_of(alloc: Global, rows: &[(RowKey, Row)]) -> Result<DistrictTotals, Memory>
+    requires { are_in_order row_key_cmp rows.now ≡ true }
+    ensures { IfOk result (λ totals. AreTotals totals.districts.items (rows_in rows.now)) }
 {
     let mut totals = DistrictTotals::new(alloc)?;
-    let _count = rows.len();
-    for (key, row) in rows.iter() {
+    for (key, row) in rows {
         add_row(&mut totals, key, row);
     }
     Ok(totals)

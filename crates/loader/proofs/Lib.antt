@@ -7,3 +7,4 @@ pub mod Sound
 pub mod PartLists
 pub mod Listing
 pub mod Sorting
+pub mod Putting

@@ -4,8 +4,6 @@ use Rattle.tpcc_rows.specs.RowMap.{Rows}
 use Rattle.loader.specs.declared.gathered.Gathered.{Gathered}
 use Rattle.loader.specs.declared.gathered.Gathered.TheVariants as variant
 use Rattle.loader.specs.declared.gathered_tables.GatheredTables.{GatheredTables}
-use Rattle.loader.specs.declared.unpaged.Unpaged.{Unpaged}
-use Rattle.loader.specs.declared.unpaged.Unpaged.TheVariants as way
 
 -- the rows so far
 abbrev pub gathered : Gathered → Rows
@@ -14,8 +12,3 @@ gathered (variant.AnyOrder rows) = rows
 
 abbrev pub gathered_database : GatheredTables → Database
 gathered_database tables = database tables.cards (gathered tables.rows)
-
--- the rows not yet in a store
-abbrev pub unpaged : Unpaged → Rows
-unpaged (way.Sorted rows) = rows
-unpaged (way.Mapped store) = store

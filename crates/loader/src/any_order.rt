@@ -6,6 +6,7 @@ ghost use Rattle.loader.specs.AnyOrder.{listed};
 ghost use Rattle.tpcc_rows.specs.Changing.{with_each};
 ghost use Rattle.tpcc_rows.specs.RowKinds.{fits};
 
+use crate::unpaged::UnpagedRows;
 use std::alloc::Global;
 use std::collections::BTreeSet;
 use std::marker::Model;
@@ -93,14 +94,13 @@ impl AnyOrderRows {
         Ok(())
     }
 
-    /// The rows as a list in key order.
-    pub(crate) fn into_list(self) -> Result<Vec<(RowKey, Row)>, Memory>
-        ensures all { IfOk result (λ rows. listed rows.items ≡ self) }
-        ensures kinds { IfOk result (λ rows. list_all (λ row. fits row.0 row.1) rows.items ≡ true) }
+    /// The rows in key order.
+    pub(crate) fn into_rows(self, alloc: Global) -> Result<UnpagedRows, Memory>
+        ensures { IfOk result (λ rows. rows ≡ self) }
     {
         let AnyOrderRows { mut rows, keys } = self;
         drop(keys);
         sort(&mut rows)?;
-        Ok(rows)
+        UnpagedRows::of_list(alloc, rows)
     }
 }

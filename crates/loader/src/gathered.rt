@@ -6,6 +6,7 @@ ghost use Rattle.tpcc_rows.specs.RowKinds.{fits};
 
 use crate::any_order::AnyOrderRows;
 use crate::part_lists::PartLists;
+use crate::unpaged::UnpagedRows;
 use std::alloc::Global;
 use std::mem;
 use tpcc_rows::key::RowKey;
@@ -38,6 +39,16 @@ impl Gathered {
                 lists.into_rows(alloc)?.into_list(),
             ),
             Gathered::AnyOrder(rows) => Ok(rows),
+        }
+    }
+
+    /// The rows in key order.
+    pub(crate) fn into_rows(self, alloc: Global) -> Result<UnpagedRows, Memory>
+        ensures { IfOk result (λ rows. rows ≡ gathered self) }
+    {
+        match self {
+            Gathered::InOrder(lists) => lists.into_rows(alloc),
+            Gathered::AnyOrder(rows) => rows.into_rows(alloc),
         }
     }
 

@@ -137,7 +137,7 @@ impl GatheredTables {
     {
         let GatheredTables { cards, rows, alloc } = self;
         let catalog = cards.finish(alloc)?;
-        let rows = UnpagedRows::of(alloc, rows)?;
+        let rows = rows.into_rows(alloc)?;
         Ok((catalog, rows))
     }
 }

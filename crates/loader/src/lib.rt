@@ -8,7 +8,6 @@ mod gathered;
 pub mod gathered_tables;
 mod image;
 pub mod laws;
-pub mod mapped_rows;
 mod part_lists;
 mod reading;
 mod sorted_rows;
@@ -16,5 +15,4 @@ pub mod unpaged;
 
 pub use gathered_tables::GatheredTables;
 pub use image::{load, read_image, read_told};
-pub use mapped_rows::into_store;
 pub use unpaged::UnpagedRows;

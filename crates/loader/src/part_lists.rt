@@ -1,13 +1,11 @@
 //! Rows that come in key order, but for those of the districts, as a stored image's do.
-ghost use Rattle.std.specs.Prelude.{◌≡◌, ◌<◌, ◌++◌, Err, None, Ok, IfOk, IsTrue, OnErr, Some, is_some, length, true};
+ghost use Rattle.std.specs.Prelude.{◌≡◌, ◌<◌, ◌++◌, None, Ok, IfOk, OnErr, Some, is_some, true};
 ghost use Rattle.std.specs.FinMap as map;
-ghost use Rattle.image_checks.specs.Sorted.{rows_in};
 ghost use Rattle.loader.specs.Parts.{part};
-ghost use Rattle.tpcc_rows.specs.Places.{IsPlaceOf, are_in_order};
 ghost use Rattle.tpcc_rows.specs.RowKinds.{fits};
-ghost use Rattle.tpcc_rows.specs.RowMap.{row_key_cmp};
 
-use crate::sorted_rows::SortedRows;
+use crate::sorted_rows::{has, is_behind};
+use crate::unpaged::UnpagedRows;
 use std::alloc::Global;
 use std::marker::Model;
 use tpcc_rows::key::RowKey;
@@ -49,45 +47,6 @@ fn part(key: &RowKey) -> usize
         RowKey::DistrictNext { .. } => 2,
         _ => 0,
     }
-}
-
-/// Whether the key is greater than the last row's.
-fn is_behind(rows: &[(RowKey, Row)], key: &RowKey) -> bool
-    requires { are_in_order row_key_cmp rows.now ≡ true }
-    ensures { IsTrue result → IsPlaceOf row_key_cmp key.now rows.now (Err (length rows.now)) }
-{
-    match rows.last() {
-        Some(last) => last.0.cmp(key).is_lt(),
-        None => true,
-    }
-}
-
-/// Whether the keys are strictly ascending.
-pub(crate) fn is_in_order(rows: &[(RowKey, Row)]) -> bool
-    ensures { IsTrue result → are_in_order row_key_cmp rows.now ≡ true }
-{
-    for place in 0..rows.len() {
-        if !is_behind(&rows[..place], &rows[place].0) {
-            return false;
-        }
-    }
-    true
-}
-
-/// The index of the key's row, or where it would be inserted.
-fn place_of(rows: &[(RowKey, Row)], key: &RowKey) -> Result<usize, usize>
-    requires { are_in_order row_key_cmp rows.now ≡ true }
-    ensures { IsPlaceOf row_key_cmp key.now rows.now result }
-{
-    rows.binary_search_by(|entry| entry.0.cmp(key))
-}
-
-/// Whether one of the rows has the key.
-fn has(rows: &[(RowKey, Row)], key: &RowKey) -> bool
-    requires { are_in_order row_key_cmp rows.now ≡ true }
-    ensures { result ≡ is_some (map.get (rows_in rows.now) key.now) }
-{
-    place_of(rows, key).is_ok()
 }
 
 /// The rows of one list and then those of the other, which are few or all.
@@ -143,13 +102,13 @@ impl PartLists {
     }
 
     /// The rows in key order.
-    pub(crate) fn into_rows(self, alloc: Global) -> Result<SortedRows, Memory>
+    pub(crate) fn into_rows(self, alloc: Global) -> Result<UnpagedRows, Memory>
         ensures { IfOk result (λ rows. rows ≡ self) }
     {
         let mut rows = Vec::new(alloc);
         for list in self.lists {
             rows = joined(rows, list)?;
         }
-        Ok(SortedRows::of(rows))
+        Ok(UnpagedRows::of(rows))
     }
 }

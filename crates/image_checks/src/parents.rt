@@ -1,0 +1,258 @@
+//! Checks that the parents of cards and rows are there.
+ghost use Rattle.std.specs.Prelude.{◌≡◌, ◌&&◌, option_and_then, option_copied, true};
+ghost use Rattle.std.specs.FinMap as map;
+ghost use Rattle.std.specs.List.{list_all};
+ghost use Rattle.catalog.specs.declared.card.CardKey.TheVariants as card_key;
+ghost use Rattle.tpcc_rows.specs.Limits.{ten};
+ghost use Rattle.tpcc_rows.specs.Places.{are_in_order};
+ghost use Rattle.tpcc_rows.specs.RowKinds.{as_order};
+ghost use Rattle.tpcc_rows.specs.RowMap.{Rows, row_key_cmp};
+ghost use Rattle.image_checks.specs.Checks.{card_has_parents, has_line, has_own_rows, parents_there, row_has_parents};
+ghost use Rattle.image_checks.specs.Orders.{order_key, order_of};
+ghost use Rattle.image_checks.specs.Sorted.{rows_in};
+ghost use Rattle.image_records.specs.Databases.{has_card, has_row};
+ghost use Rattle.tpcc_model.specs.Database.{database};
+
+use crate::searching::found;
+use catalog::Catalog;
+use catalog::card::{Card, CardKey};
+use tpcc_rows::id::{CustomerId, DistrictId, ItemId, LineNumber, WarehouseId};
+use tpcc_rows::key::RowKey;
+use tpcc_rows::row::{HistoryRow, Row};
+
+fn has_card(catalog: &Catalog, key: CardKey) -> bool
+    ensures { result ≡ has_card catalog.now key }
+{
+    catalog.get(&key).is_some()
+}
+
+fn has_district(catalog: &Catalog, warehouse: WarehouseId, district: DistrictId) -> bool
+    ensures { result ≡ has_card catalog.now (card_key.District warehouse district) }
+{
+    let key = CardKey::District {
+        warehouse,
+        district,
+    };
+    has_card(catalog, key)
+}
+
+fn has_ten_districts(catalog: &Catalog, warehouse: WarehouseId) -> bool
+    ensures { result ≡ list_all (λ d. has_card catalog.now (card_key.District warehouse d)) ten }
+{
+    DistrictId::all()
+        .iter()
+        .all(|district| has_district(catalog, warehouse, *district))
+}
+
+/// Whether a card's parents are there. `has_rows` says whether a district's two rows are.
+fn card_has_parents(catalog: &Catalog, has_rows: bool, key: &CardKey, card: &Card) -> bool
+    ensures { (rows : Rows) → has_rows ≡ has_own_rows rows key.now → result ≡ card_has_parents (database catalog.now rows) (key.now, card.now) }
+{
+    match *key {
+        CardKey::Warehouse { warehouse } => has_ten_districts(catalog, warehouse),
+        CardKey::District { warehouse, .. } => {
+            has_card(catalog, CardKey::Warehouse { warehouse }) && has_rows
+        }
+        CardKey::Customer {
+            warehouse,
+            district,
+            ..
+        } => has_district(catalog, warehouse, district),
+        CardKey::Stock { warehouse, item } => {
+            if !has_card(catalog, CardKey::Warehouse { warehouse }) {
+                return false;
+            }
+            has_card(catalog, CardKey::Item { item })
+        }
+        CardKey::Item { .. } => true,
+    }
+}
+
+fn has_customer(
+    catalog: &Catalog,
+    warehouse: WarehouseId,
+    district: DistrictId,
+    customer: CustomerId,
+) -> bool
+    ensures { result ≡ has_card catalog.now (card_key.Customer warehouse district customer) }
+{
+    let key = CardKey::Customer {
+        warehouse,
+        district,
+        customer,
+    };
+    has_card(catalog, key)
+}
+
+fn has_stock(catalog: &Catalog, warehouse: WarehouseId, item: ItemId) -> bool
+    ensures { result ≡ has_card catalog.now (card_key.Stock warehouse item) }
+{
+    has_card(catalog, CardKey::Stock { warehouse, item })
+}
+
+/// The key of the order that a new order or an order line belongs to.
+fn order_key(key: &RowKey) -> Option<RowKey>
+    ensures { result ≡ order_key key.now }
+{
+    match *key {
+        RowKey::NewOrder {
+            warehouse,
+            district,
+            order,
+        }
+        | RowKey::OrderLine {
+            warehouse,
+            district,
+            order,
+            ..
+        } => {
+            Some(RowKey::Order {
+                warehouse,
+                district,
+                order,
+            })
+        }
+        _ => None,
+    }
+}
+
+/// Whether there is an order, of at least `number` lines.
+fn has_line(order: Option<&Row>, number: LineNumber) -> bool
+    ensures { result ≡ has_line number (option_and_then as_order (option_copied order.entry)) }
+{
+    match order {
+        Some(Row::Order(order)) => number <= order.line_count,
+        _ => false,
+    }
+}
+
+/// Whether a payment's customer, and the district where it was paid, are there.
+fn has_payment(catalog: &Catalog, row: &HistoryRow) -> bool
+    ensures { result ≡ (has_card catalog.now (card_key.Customer row.now.customer_warehouse row.now.customer_district row.now.customer)
+        && has_card catalog.now (card_key.District row.now.warehouse row.now.district)) }
+{
+    has_customer(
+        catalog,
+        row.customer_warehouse,
+        row.customer_district,
+        row.customer,
+    ) && has_district(catalog, row.warehouse, row.district)
+}
+
+/// Whether a row's parents are there, apart from a card in its own record. `order` is the order it belongs to, if there.
+fn row_has_parents(catalog: &Catalog, order: Option<&Row>, key: &RowKey, row: &Row) -> bool
+    ensures { (rows : Rows) → option_copied order.entry ≡ order_of rows key.now → result ≡ row_has_parents (database catalog.now rows) (key.now, row.now) }
+{
+    match (key, row) {
+        (
+            RowKey::Order {
+                warehouse,
+                district,
+                ..
+            },
+            Row::Order(row),
+        ) => {
+            has_district(catalog, *warehouse, *district)
+                && has_customer(catalog, *warehouse, *district, row.customer)
+        }
+        (RowKey::NewOrder { .. }, _) => order.is_some(),
+        (RowKey::OrderLine { number, .. }, Row::OrderLine(row)) => {
+            has_line(order, *number) && has_stock(catalog, row.supply, row.item)
+        }
+        (RowKey::History { .. }, Row::History(row)) => has_payment(catalog, row),
+        (
+            RowKey::DistrictYtd {
+                warehouse,
+                district,
+            },
+            _,
+        )
+        | (
+            RowKey::DistrictNext {
+                warehouse,
+                district,
+            },
+            _,
+        ) => has_district(catalog, *warehouse, *district),
+        _ => true,
+    }
+}
+
+/// The order that a row belongs to, if any.
+fn order_of<'a>(rows: &'a [(RowKey, Row)], key: &RowKey, guess: &mut usize) -> Option<&'a Row>
+    requires { are_in_order row_key_cmp rows.now ≡ true }
+    ensures { option_copied result ≡ order_of (rows_in rows.now) key.now }
+{
+    let order = order_key(key)?;
+    found(rows, &order, guess)
+}
+
+fn has_row(rows: &[(RowKey, Row)], key: RowKey) -> bool
+    requires { are_in_order row_key_cmp rows.now ≡ true }
+    ensures { result ≡ has_row (rows_in rows.now) key }
+{
+    let mut guess = 0;
+    found(rows, &key, &mut guess).is_some()
+}
+
+/// Whether a district's two rows are there.
+fn has_own_rows(rows: &[(RowKey, Row)], key: &CardKey) -> bool
+    requires { are_in_order row_key_cmp rows.now ≡ true }
+    ensures { result ≡ has_own_rows (rows_in rows.now) key.now }
+{
+    match *key {
+        CardKey::District {
+            warehouse,
+            district,
+        } => {
+            let ytd = RowKey::DistrictYtd {
+                warehouse,
+                district,
+            };
+            let next = RowKey::DistrictNext {
+                warehouse,
+                district,
+            };
+            has_row(rows, ytd) && has_row(rows, next)
+        }
+        _ => true,
+    }
+}
+
+/// Whether the parents of all cards are there.
+fn cards_have_parents(catalog: &Catalog, rows: &[(RowKey, Row)]) -> bool
+    requires { are_in_order row_key_cmp rows.now ≡ true }
+    ensures { result ≡ list_all (card_has_parents (database catalog.now (rows_in rows.now))) (map.entries catalog.now) }
+{
+    for (key, card) in catalog.cards() {
+        let has_rows = has_own_rows(rows, key);
+        if !card_has_parents(catalog, has_rows, key, card) {
+            return false;
+        }
+    }
+    true
+}
+
+/// Whether the parents of all rows are there. Neighbouring rows mostly belong to the same order, or to neighbouring ones.
+fn rows_have_parents(catalog: &Catalog, rows: &[(RowKey, Row)]) -> bool
+    requires { are_in_order row_key_cmp rows.now ≡ true }
+    ensures { result ≡ list_all (row_has_parents (database catalog.now (rows_in rows.now))) rows.now }
+{
+    let mut guess = 0;
+    for (key, row) in rows {
+        let order = order_of(rows, key, &mut guess);
+        if !row_has_parents(catalog, order, key, row) {
+            return false;
+        }
+    }
+    true
+}
+
+/// Whether all parents are there.
+#[tactic(auto, using(crate::proofs::InOrder::entries_in), unfolding(crate::specs::Checks::parents_there))]
+pub(crate) fn parents_there(catalog: &Catalog, rows: &[(RowKey, Row)]) -> bool
+    requires { are_in_order row_key_cmp rows.now ≡ true }
+    ensures { result ≡ parents_there (database catalog.now (rows_in rows.now)) }
+{
+    cards_have_parents(catalog, rows) && rows_have_parents(catalog, rows)
+}
