@@ -1,5 +1,5 @@
 -- A row put among rows in key order.
-use Rattle.std.proofs.Common.{◌≡◌, ℕ, zero, suc, true, List, [], ◌∷◌, Result, Ok, Err, set, refl, subst, sym, ap, ◌∙◌}
+use Rattle.std.proofs.Common.{◌≡◌, ℕ, zero, suc, true, List, [], ◌∷◌, Result, Ok, Err, set, refl}
 use Rattle.std.specs.FinMap as map
 use Rattle.std.specs.List as list
 use Rattle.std.specs.List.{list_all}
