@@ -8,18 +8,18 @@ use tpcc_rows::number::Moment;
 /// What a batch is like.
 #[derive(Clone, Copy)]
 pub enum Sort {
-    /// At most 24 requests of all kinds, on at most four warehouses, so that they conflict in many levels.
+    /// At most six requests of all kinds, on at most four warehouses, so that they conflict in several levels.
     Crowded,
-    /// At most 96 requests of all kinds, on all warehouses, so that levels are wide enough for several workers.
+    /// 32 to 64 requests of all kinds, on all warehouses, so that levels are wide enough for several workers.
     Wide,
     /// Payments and new orders, at most one or two of each to a warehouse and so many that threads pay.
     Even,
 }
 
 impl Sort {
-    /// The sort of the batch of a turn: of twenty, one is even, two are wide, and the others crowded.
+    /// The sort of the batch of a turn: of a hundred, one is even, two are wide, and the others crowded.
     pub fn of(turn: u64) -> Sort {
-        match turn % 20 {
+        match turn % 100 {
             0 => Sort::Even,
             1..3 => Sort::Wide,
             _ => Sort::Crowded,
@@ -47,7 +47,7 @@ fn mixed(alloc: Global, dice: &mut Dice, warehouses: Warehouses, count: u8) -> O
 fn crowded(alloc: Global, dice: &mut Dice) -> Option<Requests> {
     let first = dice.between(1, 97);
     let last = first.saturating_add(dice.between(0, 3));
-    let count = dice.between(1, 24);
+    let count = dice.between(1, 6);
     mixed(alloc, dice, Warehouses { first, last }, count)
 }
 
@@ -56,7 +56,7 @@ fn wide(alloc: Global, dice: &mut Dice) -> Option<Requests> {
         first: 1,
         last: 100,
     };
-    let count = dice.between(24, 96);
+    let count = dice.between(32, 64);
     mixed(alloc, dice, warehouses, count)
 }
 
