@@ -1,6 +1,6 @@
-//! Batches that look random, of three sorts.
+//! Batches that look random, of four sorts.
 use crate::dice::Dice;
-use crate::requesting::{Warehouses, new_order, payment, request};
+use crate::requesting::{Warehouses, new_order, order_status, payment, request};
 use requests::{Batch, Requests, Verdict};
 use std::alloc::Global;
 use tpcc_rows::number::Moment;
@@ -14,14 +14,17 @@ pub enum Sort {
     Wide,
     /// Payments and new orders, at most one or two of each to a warehouse and so many that threads pay.
     Even,
+    /// A payment to each warehouse, and then so many order statuses, which may see it, that threads pay.
+    Read,
 }
 
 impl Sort {
-    /// The sort of the batch of a turn: of a hundred, one is even, two are wide, and the others crowded.
+    /// The sort of the batch of a turn: of two hundred, one is even, one is read, four are wide, and the others crowded.
     pub fn of(turn: u64) -> Sort {
-        match turn % 100 {
+        match turn % 200 {
             0 => Sort::Even,
-            1..3 => Sort::Wide,
+            1 => Sort::Read,
+            2..6 => Sort::Wide,
             _ => Sort::Crowded,
         }
     }
@@ -30,7 +33,7 @@ impl Sort {
     pub fn is_told(self) -> bool {
         match self {
             Sort::Crowded | Sort::Wide => true,
-            Sort::Even => false,
+            Sort::Even | Sort::Read => false,
         }
     }
 }
@@ -87,6 +90,26 @@ fn even(alloc: Global, dice: &mut Dice) -> Option<Requests> {
     Some(requests)
 }
 
+/// 256 requests: a payment to each warehouse, then order statuses.
+fn read(alloc: Global, dice: &mut Dice) -> Option<Requests> {
+    let mut requests = Requests::new(alloc);
+    let start = u32::from(dice.between(0, 99));
+    for place in 0..256u32 {
+        let warehouse = 1 + ((start + place) % 100) as u8;
+        let only = Warehouses {
+            first: warehouse,
+            last: warehouse,
+        };
+        let request = if place < 100 {
+            payment(dice, only)?
+        } else {
+            order_status(dice, only)?
+        };
+        requests.push(request).ok()?;
+    }
+    Some(requests)
+}
+
 /// Now and then `rerun`, where the gate listens: else such a batch isn't executed in levels.
 fn verdict(dice: &mut Dice, sort: Sort) -> Verdict {
     if sort.is_told() && dice.comes(10) {
@@ -102,6 +125,7 @@ pub fn batch(alloc: Global, dice: &mut Dice, sort: Sort, turn: u64) -> Option<Ba
         Sort::Crowded => crowded(alloc, dice)?,
         Sort::Wide => wide(alloc, dice)?,
         Sort::Even => even(alloc, dice)?,
+        Sort::Read => read(alloc, dice)?,
     };
     Some(Batch {
         moment: Moment::new(turn)?,

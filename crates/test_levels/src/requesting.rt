@@ -104,7 +104,7 @@ pub fn payment(dice: &mut Dice, warehouses: Warehouses) -> Option<Request> {
     }))
 }
 
-fn order_status(dice: &mut Dice, warehouses: Warehouses) -> Option<Request> {
+pub fn order_status(dice: &mut Dice, warehouses: Warehouses) -> Option<Request> {
     Some(Request::OrderStatus(OrderStatus {
         warehouse: warehouses.draw(dice)?,
         district: any_district(dice)?,
