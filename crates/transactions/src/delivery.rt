@@ -32,7 +32,7 @@ use tpcc_rows::key::RowKey;
 use tpcc_rows::memory::Memory;
 use tpcc_rows::number::Moment;
 use tpcc_rows::row::{CustomerRow, OrderLineRow, OrderRow, Row};
-use worker_rows::{RowView, Strayed, customer_row, order_line_row, order_row};
+use worker_rows::{KeyedRows, RowView, Strayed, customer_row, order_row};
 
 /// Room for what a delivery changes: in each of ten districts an order, its mark as new, its customer and at most fifteen lines.
 const ROOM: usize = 10 * (3 + 15);
@@ -65,7 +65,7 @@ fn lines_amount<V: RowView>(
     let mut amount = 0;
     for index in 0..usize::from(count.number()) {
         let number = line_number(index + 1);
-        let line = order_line_row(&rows, p.warehouse, district, order, number);
+        let line = rows.order_line_row(p.warehouse, district, order, number);
         amount += amount_of(line);
     }
     amount
@@ -147,7 +147,7 @@ fn line_dated<V: RowView>(
         lent: Lent { view },
         changes: &*changes,
     };
-    let line = order_line_row(&rows, p.warehouse, district, order, number);
+    let line = rows.order_line_row(p.warehouse, district, order, number);
     if let Some(line) = line {
         let mut dated = line.copied();
         dated.delivery = Some(moment);

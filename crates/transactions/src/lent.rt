@@ -4,15 +4,15 @@ ghost use Rattle.std.specs.FinMap as map;
 ghost use Rattle.serializability.specs.Footprints.{writing};
 ghost use Rattle.tpcc_rows.specs.Changing.{after};
 ghost use Rattle.tpcc_rows.specs.Picks.{latest, oldest};
-ghost use Rattle.tpcc_rows.specs.Rows.{customer_row, district_next_row, stock_row};
+ghost use Rattle.tpcc_rows.specs.Rows.{customer_row, district_next_row, order_line_row, stock_row};
 ghost use Rattle.transactions.specs.Lending.{lent};
 ghost use Rattle.worker_rows.specs.Views.{covers, may_read};
 
 use tpcc_rows::delta::Delta;
 use tpcc_rows::granule::Granule;
-use tpcc_rows::id::{CustomerId, DistrictId, ItemId, OrderId, WarehouseId};
+use tpcc_rows::id::{CustomerId, DistrictId, ItemId, LineNumber, OrderId, WarehouseId};
 use tpcc_rows::key::RowKey;
-use tpcc_rows::row::{CustomerRow, DistrictNextRow, StockRow};
+use tpcc_rows::row::{CustomerRow, DistrictNextRow, OrderLineRow, StockRow};
 use tpcc_rows::row_ref::RowRef;
 use worker_rows::{KeyedRows, RowView, Strayed};
 
@@ -28,6 +28,31 @@ impl<V: RowView> KeyedRows for Lent<'_, V> {
     #[tactic(auto, using(crate::proofs::Lending::lent_row, crate::proofs::Lending::no_row_lent))]
     fn row(&self, key: &RowKey) -> Option<RowRef<'_>> {
         match self.view.read(key) {
+            Ok(row) => row,
+            Err(Strayed) => None,
+        }
+    }
+
+    #[tactic(auto, using(crate::proofs::Lending::lent_row, crate::proofs::Lending::no_row_lent))]
+    fn stock_row(&self, warehouse: WarehouseId, item: ItemId) -> Option<&StockRow> {
+        match self.view.stock_row(warehouse, item) {
+            Ok(row) => row,
+            Err(Strayed) => None,
+        }
+    }
+
+    #[tactic(auto, using(crate::proofs::Lending::lent_row, crate::proofs::Lending::no_row_lent))]
+    fn order_line_row(
+        &self,
+        warehouse: WarehouseId,
+        district: DistrictId,
+        order: OrderId,
+        number: LineNumber,
+    ) -> Option<&OrderLineRow> {
+        match self
+            .view
+            .order_line_row(warehouse, district, order, number)
+        {
             Ok(row) => row,
             Err(Strayed) => None,
         }
@@ -50,6 +75,36 @@ impl<V: RowView> KeyedRows for Seen<'_, V> {
             Some(Some(row)) => Some(RowRef::of(row)),
             Some(None) => None,
             None => self.lent.row(key),
+        }
+    }
+
+    #[tactic(auto, using(tpcc_rows::proofs::Changes::seen))]
+    fn stock_row(&self, warehouse: WarehouseId, item: ItemId) -> Option<&StockRow> {
+        match self.changes.get(&RowKey::Stock { warehouse, item }) {
+            Some(Some(row)) => RowRef::of(row).as_stock(),
+            Some(None) => None,
+            None => self.lent.stock_row(warehouse, item),
+        }
+    }
+
+    #[tactic(auto, using(tpcc_rows::proofs::Changes::seen))]
+    fn order_line_row(
+        &self,
+        warehouse: WarehouseId,
+        district: DistrictId,
+        order: OrderId,
+        number: LineNumber,
+    ) -> Option<&OrderLineRow> {
+        let key = RowKey::OrderLine {
+            warehouse,
+            district,
+            order,
+            number,
+        };
+        match self.changes.get(&key) {
+            Some(Some(row)) => RowRef::of(row).as_order_line(),
+            Some(None) => None,
+            None => self.lent.order_line_row(warehouse, district, order, number),
         }
     }
 }
@@ -103,10 +158,7 @@ pub(crate) fn read_stock<V: RowView>(
     ensures strays { is_ok result ≡ may_read (V.sees view.now) (Granule.Stock warehouse item) }
     ensures row { IfOk result (λ row. option_copied row ≡ stock_row (lent (V.sees view.now)) warehouse item) }
 {
-    match view.read(&RowKey::Stock { warehouse, item })? {
-        Some(row) => Ok(row.as_stock()),
-        None => Ok(None),
-    }
+    view.stock_row(warehouse, item)
 }
 
 /// Strays where the district's order book may not be read, as reading any key of it does, whether there is a row or not.

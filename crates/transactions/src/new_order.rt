@@ -36,7 +36,7 @@ use tpcc_rows::memory::Memory;
 use tpcc_rows::number::{Cents, Moment};
 use tpcc_rows::row::{DistrictNextRow, OrderRow, Row, StockRow};
 use tpcc_rows::total::total_cents;
-use worker_rows::{RowView, district_next_row, stock_row};
+use worker_rows::{KeyedRows, RowView, district_next_row};
 
 /// The cards of a new order's own keys.
 #[derive(Drop)]
@@ -155,7 +155,7 @@ fn stocks_done<V: RowView>(
             lent: Lent { view },
             changes: &so_far.changes,
         };
-        let row = stock_row(&rows, supply, item);
+        let row = rows.stock_row(supply, item);
         let old = *row.ok_or(RequestRefusal::UnknownKey)?;
         stock_done(p, line, &old, so_far)?;
     }

@@ -21,7 +21,7 @@ use tpcc_model::number::line_number;
 use tpcc_rows::delta::Delta;
 use tpcc_rows::id::{CustomerId, LineNumber, OrderId};
 use tpcc_rows::row::{CustomerRow, OrderLineRow, OrderRow};
-use worker_rows::{RowView, order_line_row, order_row};
+use worker_rows::{KeyedRows, RowView, order_row};
 
 #[tactic(auto, unfolding(tpcc_model::specs::OrderStatuses::shown_line))]
 fn shown_line(line: &OrderLineRow) -> ShownLine
@@ -50,7 +50,7 @@ fn shown_lines<V: RowView>(
     let mut lines = ShownLines::new();
     for index in 0..usize::from(count.number()) {
         let number = line_number(index + 1);
-        if let Some(line) = order_line_row(&rows, p.warehouse, p.district, order, number) {
+        if let Some(line) = rows.order_line_row(p.warehouse, p.district, order, number) {
             lines.push(shown_line(line));
         }
     }

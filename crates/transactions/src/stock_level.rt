@@ -24,7 +24,7 @@ use tpcc_model::number::{line_number, order_id};
 use tpcc_rows::delta::Delta;
 use tpcc_rows::id::{ItemId, OrderId};
 use tpcc_rows::row::{DistrictNextRow, OrderLineRow};
-use worker_rows::{RowView, Strayed, order_line_row};
+use worker_rows::{KeyedRows, RowView, Strayed};
 
 /// Whether the item's stock in the warehouse is low. One without a card is not looked at; few are low, so that the row is read before
 /// the card is looked for.
@@ -92,7 +92,7 @@ fn hold_lines<V: RowView>(
     let rows = Lent { view };
     for index in 0..15 {
         let number = line_number(index + 1);
-        let line = order_line_row(&rows, p.warehouse, p.district, order, number);
+        let line = rows.order_line_row(p.warehouse, p.district, order, number);
         hold_line(catalog, view, p, line, items)?;
     }
     Ok(())

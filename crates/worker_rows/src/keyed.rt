@@ -13,7 +13,7 @@ use tpcc_rows::row::{
 };
 use tpcc_rows::row_ref::RowRef;
 
-/// What has a row, or none, for each key.
+/// What has a row, or none, for each key. Stocks and order lines, which are read most, have reads that make no key.
 pub trait KeyedRows {
     // The rows that it has.
     ghost rows: { Self → Rows };
@@ -21,6 +21,18 @@ pub trait KeyedRows {
     /// The row of the key, if there is one.
     fn row(&self, key: &RowKey) -> Option<RowRef<'_>>
         ensures { option_map row_of result ≡ map.get (rows self.now) key.now };
+
+    fn stock_row(&self, warehouse: WarehouseId, item: ItemId) -> Option<&StockRow>
+        ensures { option_copied result ≡ stock_row (rows self.now) warehouse item };
+
+    fn order_line_row(
+        &self,
+        warehouse: WarehouseId,
+        district: DistrictId,
+        order: OrderId,
+        number: LineNumber,
+    ) -> Option<&OrderLineRow>
+        ensures { option_copied result ≡ order_line_row (rows self.now) warehouse district order number };
 }
 
 impl KeyedRows for PointedStore {
@@ -28,6 +40,20 @@ impl KeyedRows for PointedStore {
 
     fn row(&self, key: &RowKey) -> Option<RowRef<'_>> {
         self.get(key)
+    }
+
+    fn stock_row(&self, warehouse: WarehouseId, item: ItemId) -> Option<&StockRow> {
+        self.stock(warehouse, item)
+    }
+
+    fn order_line_row(
+        &self,
+        warehouse: WarehouseId,
+        district: DistrictId,
+        order: OrderId,
+        number: LineNumber,
+    ) -> Option<&OrderLineRow> {
+        self.order_line(warehouse, district, order, number)
     }
 }
 
@@ -81,12 +107,6 @@ pub fn customer_row<R: KeyedRows>(
     rows.row(&key)?.as_customer()
 }
 
-pub fn stock_row<R: KeyedRows>(rows: &R, warehouse: WarehouseId, item: ItemId) -> Option<&StockRow>
-    ensures { option_copied result ≡ stock_row (R.rows rows.now) warehouse item }
-{
-    rows.row(&RowKey::Stock { warehouse, item })?.as_stock()
-}
-
 pub fn order_row<R: KeyedRows>(
     rows: &R,
     warehouse: WarehouseId,
@@ -101,22 +121,4 @@ pub fn order_row<R: KeyedRows>(
         order,
     };
     rows.row(&key)?.as_order()
-}
-
-pub fn order_line_row<R: KeyedRows>(
-    rows: &R,
-    warehouse: WarehouseId,
-    district: DistrictId,
-    order: OrderId,
-    number: LineNumber,
-) -> Option<&OrderLineRow>
-    ensures { option_copied result ≡ order_line_row (R.rows rows.now) warehouse district order number }
-{
-    let key = RowKey::OrderLine {
-        warehouse,
-        district,
-        order,
-        number,
-    };
-    rows.row(&key)?.as_order_line()
 }

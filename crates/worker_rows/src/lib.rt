@@ -8,8 +8,7 @@ mod view;
 mod whole;
 
 pub use keyed::{
-    KeyedRows, customer_row, district_next_row, district_ytd_row, order_line_row, order_row,
-    stock_row, warehouse_row,
+    KeyedRows, customer_row, district_next_row, district_ytd_row, order_row, warehouse_row,
 };
 pub use loan::Loan;
 pub use view::{RowView, Strayed};

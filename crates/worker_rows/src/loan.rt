@@ -8,8 +8,9 @@ use crate::view::{RowView, Strayed};
 use row_store::PointedStore;
 use tpcc_rows::footprint::{Footprint, is_among};
 use tpcc_rows::granule::{Granule, granule_of};
-use tpcc_rows::id::{CustomerId, DistrictId, ItemId, OrderId, WarehouseId};
+use tpcc_rows::id::{CustomerId, DistrictId, ItemId, LineNumber, OrderId, WarehouseId};
 use tpcc_rows::key::RowKey;
+use tpcc_rows::row::{OrderLineRow, StockRow};
 use tpcc_rows::row_ref::RowRef;
 
 /// The rows of a store as a footprint lends them: what it doesn't name may not be read or written, and so no row of
@@ -60,6 +61,30 @@ impl RowView for Loan<'_> {
             Some(granule) if self.may_read(&granule) => Ok(self.store.get(key)),
             _ => Err(Strayed),
         }
+    }
+
+    fn stock_row(
+        &self,
+        warehouse: WarehouseId,
+        item: ItemId,
+    ) -> Result<Option<&StockRow>, Strayed> {
+        if !self.may_read(&Granule::Stock { warehouse, item }) {
+            return Err(Strayed);
+        }
+        Ok(self.store.stock(warehouse, item))
+    }
+
+    fn order_line_row(
+        &self,
+        warehouse: WarehouseId,
+        district: DistrictId,
+        order: OrderId,
+        number: LineNumber,
+    ) -> Result<Option<&OrderLineRow>, Strayed> {
+        if !self.may_read_book(warehouse, district) {
+            return Err(Strayed);
+        }
+        Ok(self.store.order_line(warehouse, district, order, number))
     }
 
     fn oldest_new(

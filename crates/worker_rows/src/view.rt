@@ -1,14 +1,16 @@
 //! What a transaction reads rows through.
-ghost use Rattle.std.specs.Prelude.{◌≡◌, is_ok, option_map, IfOk, IsTrue};
+ghost use Rattle.std.specs.Prelude.{◌≡◌, is_ok, option_copied, option_map, IfOk, IsTrue};
 ghost use Rattle.std.specs.FinMap as map;
 ghost use Rattle.tpcc_rows.specs.Picks.{latest, oldest};
 ghost use Rattle.tpcc_rows.specs.References.{row_of};
+ghost use Rattle.tpcc_rows.specs.Rows.{order_line_row, stock_row};
 ghost use Rattle.worker_rows.specs.Views.{View, may_read, may_write, readable};
 
 use thiserror::Error;
 use tpcc_rows::granule::Granule;
-use tpcc_rows::id::{CustomerId, DistrictId, ItemId, OrderId, WarehouseId};
+use tpcc_rows::id::{CustomerId, DistrictId, ItemId, LineNumber, OrderId, WarehouseId};
 use tpcc_rows::key::RowKey;
+use tpcc_rows::row::{OrderLineRow, StockRow};
 use tpcc_rows::row_ref::RowRef;
 
 /// What was asked for may not be read.
@@ -16,7 +18,7 @@ use tpcc_rows::row_ref::RowRef;
 #[error("what was asked for may not be read")]
 pub struct Strayed;
 
-/// Rows, of which some may be read and some written.
+/// Rows, of which some may be read and some written. Stocks and order lines, which are read most, have reads that make no key.
 pub trait RowView {
     // What the view stands for.
     ghost sees: { Self → View };
@@ -25,6 +27,20 @@ pub trait RowView {
     fn read(&self, key: &RowKey) -> Result<Option<RowRef<'_>>, Strayed>
         ensures strays { is_ok result ≡ readable (sees self.now) key.now }
         ensures row { IfOk result (λ row. option_map row_of row ≡ map.get (sees self.now).rows key.now) };
+
+    fn stock_row(&self, warehouse: WarehouseId, item: ItemId) -> Result<Option<&StockRow>, Strayed>
+        ensures strays { is_ok result ≡ may_read (sees self.now) (Granule.Stock warehouse item) }
+        ensures row { IfOk result (λ row. option_copied row ≡ stock_row (sees self.now).rows warehouse item) };
+
+    fn order_line_row(
+        &self,
+        warehouse: WarehouseId,
+        district: DistrictId,
+        order: OrderId,
+        number: LineNumber,
+    ) -> Result<Option<&OrderLineRow>, Strayed>
+        ensures strays { is_ok result ≡ may_read (sees self.now) (Granule.Book warehouse district) }
+        ensures row { IfOk result (λ row. option_copied row ≡ order_line_row (sees self.now).rows warehouse district order number) };
 
     /// The least number of the district's new orders.
     fn oldest_new(

@@ -4,8 +4,9 @@ ghost use Rattle.std.specs.Prelude.{None};
 use crate::view::{RowView, Strayed};
 use row_store::PointedStore;
 use tpcc_rows::granule::Granule;
-use tpcc_rows::id::{CustomerId, DistrictId, ItemId, OrderId, WarehouseId};
+use tpcc_rows::id::{CustomerId, DistrictId, ItemId, LineNumber, OrderId, WarehouseId};
 use tpcc_rows::key::RowKey;
+use tpcc_rows::row::{OrderLineRow, StockRow};
 use tpcc_rows::row_ref::RowRef;
 
 /// All rows of a store, which may all be read and written.
@@ -19,6 +20,24 @@ impl RowView for Whole<'_> {
 
     fn read(&self, key: &RowKey) -> Result<Option<RowRef<'_>>, Strayed> {
         Ok(self.store.get(key))
+    }
+
+    fn stock_row(
+        &self,
+        warehouse: WarehouseId,
+        item: ItemId,
+    ) -> Result<Option<&StockRow>, Strayed> {
+        Ok(self.store.stock(warehouse, item))
+    }
+
+    fn order_line_row(
+        &self,
+        warehouse: WarehouseId,
+        district: DistrictId,
+        order: OrderId,
+        number: LineNumber,
+    ) -> Result<Option<&OrderLineRow>, Strayed> {
+        Ok(self.store.order_line(warehouse, district, order, number))
     }
 
     fn oldest_new(
