@@ -1,37 +1,45 @@
--- A batch executed in order, each request within what it declared, or within what it touches by the cards if it declared nothing.
-use Rattle.std.specs.Prelude.{◌≡◌, ℕ, Bool, List, Option}
+-- A batch executed in order, where some of its requests told what they declared: the others can't stray.
+use Rattle.std.specs.Prelude.{◌≡◌, ℕ, ◌+◌, Bool, false, ◌||◌, List, [], ◌∷◌, Option, None, Some}
+use Rattle.serializability.specs.Folds.{after}
 use Rattle.serializability.specs.Footprints.{Footprint}
 use Rattle.serializability.specs.InTurn.{strays_in_turn}
 use Rattle.serializability.specs.Levels as levels
-use Rattle.serializability.specs.Levels.{Job}
 use Rattle.tpcc_rows.specs.RowMap.{Rows}
 use Rattle.tpcc_rows.specs.declared.granule.Granule.{Granule}
 use Rattle.catalog.specs.CardMap.{Cards}
 use Rattle.requests.specs.declared.reply.Reply.{Reply}
 use Rattle.requests.specs.declared.request.Batch.{Batch}
 use Rattle.requests.specs.declared.request.Request.{Request}
-use Rattle.profiles.specs.Moving.{completed, completed_at}
 use Rattle.tpcc_model.specs.Database.{database}
 use Rattle.tpcc_model.specs.Machine.{tpcc}
 use Rattle.tpcc_model.specs.Serial.{State}
 use Rattle.tpcc_model.specs.Soundness.{IsSound}
-use Rattle.tpcc_model.specs.Steps.{replies, rows_after}
+use Rattle.tpcc_model.specs.Steps.{replies, rows_after, steps_at}
 use Rattle.executor.specs.LevelRuns.{declared_footprints, strays_by}
 use Rattle.executor.specs.States.{AreWithinLimits}
 use Rattle.executor.specs.declared.turn.PlanInTurn.{PlanInTurn}
 use Rattle.executor.specs.declared.turn.Told.{Told}
 
--- a request of a batch as a job, by what it declared
-abbrev pub told_job : Cards → Told → Job Granule Request
-told_job cards told = record { number = told.number; request = told.request.now; declared = completed_at cards told.request.now told.footprint.now }
+-- a request touches more than it declared, on these rows, if it told what
+abbrev pub place_strays : Cards → ℕ → Rows → ℕ → Request → Option (Footprint Granule) → Bool
+place_strays cards moment rows number q None = false
+place_strays cards moment rows number q (Some footprint) = levels.job_strays (tpcc cards moment) rows (record { number = number; request = q; declared = footprint })
 
--- it touches more than it declared, on these rows
 abbrev pub told_strays : Cards → Rows → Told → Bool
-told_strays cards rows told = levels.job_strays (tpcc cards told.moment) rows (told_job cards told)
+told_strays cards rows told = place_strays cards told.moment rows told.number told.request.now told.footprint.now
 
--- these footprints of a batch's requests, completed by the cards, are what the requests declare
-abbrev pub TellsDeclared : Cards → State → Batch → List (Option (Footprint Granule)) → Type 0
-TellsDeclared cards state batch told = completed cards batch.requests told ≡ declared_footprints cards state batch
+-- some request touches more than it told, on the rows that those before it leave
+abbrev pub told_strays_in_turn : Cards → ℕ → Rows → ℕ → List Request → List (Option (Footprint Granule)) → Bool
+told_strays_in_turn cards moment rows number [] told = false
+told_strays_in_turn cards moment rows number (q ∷ requests) [] = false
+told_strays_in_turn cards moment rows number (q ∷ requests) (place ∷ told) =
+    place_strays cards moment rows number q place || told_strays_in_turn cards moment (after (steps_at cards moment) rows number q) (number + 1) requests told
+
+-- what is told of a batch's requests tells whether one strays
+abbrev pub TellsOfStrays : Cards → State → Batch → List (Option (Footprint Granule)) → Type 0
+TellsOfStrays cards state batch told =
+    told_strays_in_turn cards batch.moment state.rows state.next batch.requests told
+    ≡ strays_in_turn (tpcc cards batch.moment) state.rows (levels.jobs state.next batch.requests (declared_footprints cards state batch))
 
 -- the replies and rows of a planned batch, executed in order
 abbrev pub plan_replies_in_turn : Cards → Rows → PlanInTurn → List Reply
@@ -40,10 +48,9 @@ plan_replies_in_turn cards rows plan = replies (database cards rows) plan.batch.
 abbrev pub plan_rows_in_turn : Cards → Rows → PlanInTurn → Rows
 plan_rows_in_turn cards rows plan = rows_after (database cards rows) plan.batch.now.moment plan.first plan.batch.now.requests
 
--- some request touches more than it declared, on the rows that those before it leave
+-- some request strays then
 abbrev pub plan_strays_in_turn : Cards → Rows → PlanInTurn → Bool
-plan_strays_in_turn cards rows plan
-    = strays_in_turn (tpcc cards plan.batch.now.moment) rows (levels.jobs plan.first plan.batch.now.requests (completed cards plan.batch.now.requests plan.told.now))
+plan_strays_in_turn cards rows plan = told_strays_in_turn cards plan.batch.now.moment rows plan.first plan.batch.now.requests plan.told.now
 
 -- the law: exactly then the batch strays, by its requests' declared footprints and any numbers of granules
 abbrev pub StraysAreInTurn : Type 0

@@ -63,7 +63,7 @@ fn executed_within<R: Threads + Sync, G: Gate>(
     executed(alloc, catalog, request, number, moment, store)
 }
 
-/// The outcome of a request: on the rows that it declared, or on all rows, if it declared nothing or once one has strayed.
+/// The outcome of a request: on the rows that it declared, or on all rows, if it can't stray or once one has strayed.
 fn executed_as_told<R: Threads + Sync, G: Gate>(
     runtime: &Runtime<'_, R, G>,
     catalog: &Catalog,

@@ -1,8 +1,8 @@
 //! Executes batches. If threads pay, or the gate listens, a batch is cut into levels by its requests' declared footprints and
 //! executed level by level; if a request strays, the rows are rolled back and the requests re-executed in order. Any other
 //! batch is executed in order at once. Then, if it is plain before any request declares, only those declare that can stray:
-//! deliveries and stock levels. The result is one thread's in every case. So is the batch's path, which says what the levels
-//! do, or would do, not how the batch was executed.
+//! deliveries. The result is one thread's in every case. So is the batch's path, which says what the levels do, or would do,
+//! not how the batch was executed.
 #![tactic(auto)]
 
 mod batch;

@@ -17,7 +17,7 @@ use crate::in_order::Pass;
 use crate::laws::{cuts, declared_levels, strays_in_turn};
 use crate::next_batch::NextBatch;
 use crate::paying::{may_pay, paying_cut};
-use crate::told::{execute_declared, execute_moving};
+use crate::told::{execute_declared, execute_declaring_deliveries};
 use catalog::Catalog;
 use mixer::{Cut, mix};
 use profiles::declare_batch;
@@ -126,7 +126,7 @@ fn run_levels<R: Threads + Sync, G: Gate>(
 
 /// Executes a batch level by level, by the footprints that its requests declare on the rows that it meets. Stops if a request
 /// strays; then, and if an allocation fails, the state of the rows is undefined. If threads don't pay and no gate listens, the
-/// batch is executed in order instead, to its end; if that is plain beforehand, only its moving requests declare.
+/// batch is executed in order instead, to its end; if that is plain beforehand, only its deliveries declare.
 pub(crate) fn execute_parallel<R: Threads + Sync, G: Gate>(
     runtime: &Runtime<'_, R, G>,
     catalog: &Catalog,
@@ -154,7 +154,7 @@ pub(crate) fn execute_parallel<R: Threads + Sync, G: Gate>(
     let requests = next.batch.requests.as_slice();
     let threads = runtime.workers.count();
     if !runtime.gate.is_told() && !may_pay(requests, threads) {
-        return Ok(execute_moving(runtime, catalog, store, next)?);
+        return Ok(execute_declaring_deliveries(runtime, catalog, store, next)?);
     }
     let footprints = declare_batch(runtime.rt, runtime.alloc, catalog, requests, store, threads)?;
     let plan = Plan {

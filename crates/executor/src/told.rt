@@ -1,10 +1,9 @@
 //! Executes a batch in order, given the footprints that its requests declared when it began.
 ghost use Rattle.std.specs.Prelude.{◌≡◌, IfOk, OnOk, Some, length, map};
-ghost use Rattle.executor.specs.InOrder.{TellsDeclared};
+ghost use Rattle.executor.specs.InOrder.{TellsOfStrays};
 ghost use Rattle.executor.specs.LevelRuns.{declared_footprints, strays};
 ghost use Rattle.executor.specs.Chains.{state_of};
 ghost use Rattle.executor.specs.States.{IsSoundState};
-ghost use Rattle.profiles.specs.Moving.{TellsMoving};
 ghost use Rattle.rollback.specs.Pointed.{KeepsCleanLeaves};
 ghost use Rattle.tpcc_model.specs.Serial.{batch_replies, batch_rows};
 
@@ -13,7 +12,8 @@ use crate::laws::strays_in_turn;
 use crate::next_batch::NextBatch;
 use crate::turn::PlanInTurn;
 use catalog::Catalog;
-use profiles::declare_moving;
+use profile_laws::only_deliveries_stray;
+use profiles::declare_deliveries;
 use row_store::PointedStore;
 use std::alloc::Global;
 use std::thread::Threads;
@@ -21,7 +21,7 @@ use tpcc_rows::footprint::Footprint;
 use tpcc_rows::memory::Memory;
 use workers::{Gate, Runtime};
 
-/// Executes a batch in order, where its requests declared these footprints.
+/// Executes a batch in order, where its requests told these footprints of those that they declared.
 fn execute_told<R: Threads + Sync, G: Gate>(
     runtime: &Runtime<'_, R, G>,
     catalog: &Catalog,
@@ -31,8 +31,7 @@ fn execute_told<R: Threads + Sync, G: Gate>(
 ) -> Result<Pass, Memory>
     requires sound { IsSoundState catalog.now (state_of store.old.rows next.now.stamp) }
     requires each { length told.now ≡ length next.now.batch.now.requests }
-    requires moving { TellsMoving next.now.batch.now.requests told.now }
-    requires declared { TellsDeclared catalog.now (state_of store.old.rows next.now.stamp) next.now.batch.now told.now }
+    requires tells { TellsOfStrays catalog.now (state_of store.old.rows next.now.stamp) next.now.batch.now told.now }
     ensures strayed { IfOk result (λ pass. pass.strayed ≡ strays catalog.now (state_of store.old.rows next.now.stamp) next.now.batch.now) }
     ensures replies { IfOk result (λ pass. pass.replies.items ≡ batch_replies catalog.now (state_of store.old.rows next.now.stamp) next.now.batch.now) }
     ensures rows { OnOk result (store.new.rows ≡ batch_rows catalog.now (state_of store.old.rows next.now.stamp) next.now.batch.now) }
@@ -49,8 +48,8 @@ fn execute_told<R: Threads + Sync, G: Gate>(
     execute_in_order(runtime, catalog, store, &plan)
 }
 
-/// Executes a batch in order, where only its moving requests declare. If an allocation fails, the state of the rows is undefined.
-pub(crate) fn execute_moving<R: Threads + Sync, G: Gate>(
+/// Executes a batch in order, where only its deliveries declare. If an allocation fails, the state of the rows is undefined.
+pub(crate) fn execute_declaring_deliveries<R: Threads + Sync, G: Gate>(
     runtime: &Runtime<'_, R, G>,
     catalog: &Catalog,
     store: &mut PointedStore,
@@ -63,9 +62,10 @@ pub(crate) fn execute_moving<R: Threads + Sync, G: Gate>(
     ensures points { store.new.points ≡ store.old.points }
     ensures clean { KeepsCleanLeaves store.old store.new }
 {
+    only_deliveries_stray();
     let requests = next.batch.requests.as_slice();
     let threads = runtime.workers.count();
-    let told = declare_moving(runtime.rt, runtime.alloc, catalog, requests, store, threads)?;
+    let told = declare_deliveries(runtime.rt, runtime.alloc, catalog, requests, store, threads)?;
     execute_told(runtime, catalog, store, next, told.as_slice())
 }
 

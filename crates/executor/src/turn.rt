@@ -1,7 +1,6 @@
-//! A batch to execute in order, and what its requests declared.
-ghost use Rattle.std.specs.Prelude.{◌≡◌, ◌+◌, ◌≤◌, None, length, true};
+//! A batch to execute in order, and what its requests told of what they declared.
+ghost use Rattle.std.specs.Prelude.{◌≡◌, ◌+◌, ◌≤◌, length};
 ghost use Rattle.executor.specs.declared.next_batch.TheConstants.{MOST_REQUESTS};
-ghost use Rattle.profiles.specs.Moving.{TellsMoving, is_settled};
 ghost use Rattle.tpcc_rows.specs.declared.id.TheConstants.{END_OF_NUMBERS};
 
 use requests::request::{Batch, Request};
@@ -9,8 +8,7 @@ use tpcc_rows::footprint::Footprint;
 use tpcc_rows::id::RequestNumber;
 use tpcc_rows::number::Moment;
 
-/// A batch, the number of its first request, and the footprint that each request declared; `None` for one that declared nothing,
-/// since what it touches depends only on cards.
+/// A batch, the number of its first request, and the footprint that each request declared; `None` for one that can't stray.
 #[derive(Clone, Copy)]
 pub(crate) struct PlanInTurn<'a> {
     pub batch: &'a Batch,
@@ -18,12 +16,11 @@ pub(crate) struct PlanInTurn<'a> {
     pub told: &'a [Option<Footprint>],
     pub ghost few: { length batch.now.requests ≤ MOST_REQUESTS },
     pub ghost each: { length told.now ≡ length batch.now.requests },
-    pub ghost moving: { TellsMoving batch.now.requests told.now },
     pub ghost low: { 1 ≤ first },
     pub ghost high: { first + length batch.now.requests ≤ END_OF_NUMBERS },
 }
 
-/// The request at `place` in a batch, with its number, its moment, and the footprint that it declared, if any.
+/// The request at `place` in a batch, with its number, its moment, and the footprint that it declared; `None` if it can't stray.
 #[derive(Clone, Copy)]
 pub(crate) struct Told<'a> {
     pub place: usize,
@@ -31,5 +28,4 @@ pub(crate) struct Told<'a> {
     pub moment: Moment,
     pub request: &'a Request,
     pub footprint: &'a Option<Footprint>,
-    pub ghost moving: { footprint.now ≡ None → is_settled request.now ≡ true },
 }

@@ -5,4 +5,5 @@ pub mod NewOrders
 pub mod Declarations
 pub mod Counts
 pub mod Settled
+pub mod Told
 pub mod Walks

@@ -1,5 +1,6 @@
 pub mod Declarations
 pub mod Earlier
 pub mod Found
-pub mod Moving
 pub mod Places
+pub mod Settled
+pub mod Told

@@ -3,13 +3,13 @@
 
 mod asked;
 mod batch;
+mod deliveries;
 mod delivery;
 mod earlier;
-mod moving;
 mod new_order;
 mod order_status;
 mod payment;
 mod stock_level;
 
 pub use batch::declare_batch;
-pub use moving::declare_moving;
+pub use deliveries::declare_deliveries;

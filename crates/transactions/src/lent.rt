@@ -49,10 +49,7 @@ impl<V: RowView> KeyedRows for Lent<'_, V> {
         order: OrderId,
         number: LineNumber,
     ) -> Option<&OrderLineRow> {
-        match self
-            .view
-            .order_line_row(warehouse, district, order, number)
-        {
+        match self.view.order_line_row(warehouse, district, order, number) {
             Ok(row) => row,
             Err(Strayed) => None,
         }

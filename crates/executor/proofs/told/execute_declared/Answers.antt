@@ -1,10 +1,12 @@
-use Rattle.std.proofs.Common.{◌∙◌, List, Option, Some, length, ap, subst, sym}
+use Rattle.std.proofs.Common.{◌≡◌, ◌∙◌, List, Option, Some, ap, length, map, sym}
 use Rattle.std.proofs.lemmas.List.{length-map}
 use Rattle.serializability.specs.Footprints.{Footprint}
+use Rattle.serializability.specs.InTurn.{strays_in_turn}
+use Rattle.serializability.specs.Levels.{jobs}
+use Rattle.tpcc_model.specs.Machine.{tpcc}
 use Rattle.tpcc_rows.specs.declared.granule.Granule.{Granule}
-use Rattle.profiles.specs.Moving.{TellsMoving, completed}
-use Rattle.profiles.proofs.Settled.{completed-all}
-use Rattle.executor.proofs.InTurn.{all_moving}
+use Rattle.executor.specs.InOrder.{told_strays_in_turn}
+use Rattle.executor.proofs.InTurn.{all_told}
 use Rattle.executor.proofs.told.execute_declared.Goals as goal
 
 pub execute_told-requires-clause-each : goal.execute_told-requires-clause-each
@@ -13,12 +15,12 @@ execute_told-requires-clause-each g c κs lives =
     ∙ length-map c.args.footprints.items Some
     ∙ c.requires.each
 
-pub execute_told-requires-clause-moving : goal.execute_told-requires-clause-moving
-execute_told-requires-clause-moving g c κs lives =
-    subst (TellsMoving c.args.next.now.batch.now.requests) (sym (c.as_slice.ensures.value ∙ c.in_ok-told.ensures)) (all_moving c.args.next.now.batch.now.requests c.args.footprints.items)
-
-pub execute_told-requires-clause-declared : goal.execute_told-requires-clause-declared
-execute_told-requires-clause-declared g c κs lives =
-    ap (completed c.args.catalog.now c.args.next.now.batch.now.requests) (c.as_slice.ensures.value ∙ c.in_ok-told.ensures)
-    ∙ completed-all c.args.catalog.now c.args.next.now.batch.now.requests c.args.footprints.items c.requires.each
-    ∙ c.requires.declared
+pub execute_told-requires-clause-tells : goal.execute_told-requires-clause-tells
+execute_told-requires-clause-tells g c κs lives =
+    let cards = c.args.catalog.now in
+    let rows = c.args.store.now.rows in
+    let batch = c.args.next.now.batch.now in
+    let first = c.args.next.now.stamp.next in
+    ap (told_strays_in_turn cards batch.moment rows first batch.requests) (c.as_slice.ensures.value ∙ c.in_ok-told.ensures)
+    ∙ all_told cards batch.moment rows first batch.requests c.args.footprints.items
+    ∙ ap (λ (fs : List (Footprint Granule)). strays_in_turn (tpcc cards batch.moment) rows (jobs first batch.requests fs)) c.requires.declared

@@ -1,11 +1,6 @@
-use Rattle.std.proofs.Common.{◌≡◌, ◌∙◌, Bool, IfOk, List, ap, subst, sym}
-use Rattle.serializability.specs.Footprints.{Footprint}
-use Rattle.serializability.specs.InTurn.{strays_in_turn}
-use Rattle.serializability.specs.Levels as levels
+use Rattle.std.proofs.Common.{◌≡◌, ◌∙◌, Bool, IfOk, subst, sym}
 use Rattle.signatures_simd.specs.Bits.{bit}
-use Rattle.tpcc_rows.specs.declared.granule.Granule.{Granule}
-use Rattle.profiles.specs.Moving.{completed}
-use Rattle.tpcc_model.specs.Machine.{tpcc}
+use Rattle.executor.specs.InOrder.{told_strays_in_turn}
 use Rattle.executor.specs.LevelRuns.{strays}
 use Rattle.executor.specs.Chains.{state_of}
 use Rattle.executor.proofs.told.execute_told.Goals as goal
@@ -16,7 +11,6 @@ returns-clause-strayed g c =
     let cards = c.args.catalog.now in
     let state = state_of c.args.store.now.rows c.args.next.now.stamp in
     let batch = c.args.next.now.batch.now in
-    let same : strays_in_turn (tpcc cards batch.moment) state.rows (levels.jobs state.next batch.requests (completed cards batch.requests c.args.told.now)) ≡ strays cards state batch =
-    ap (λ (fs : List (Footprint Granule)). strays_in_turn (tpcc cards batch.moment) state.rows (levels.jobs state.next batch.requests fs)) c.requires.declared
-    ∙ sym (c.strays_in_turn.ensures bit cards state batch c.requires.sound.database c.keep_within.ensures) in
+    let same : told_strays_in_turn cards batch.moment state.rows state.next batch.requests c.args.told.now ≡ strays cards state batch =
+    c.requires.tells ∙ sym (c.strays_in_turn.ensures bit cards state batch c.requires.sound.database c.keep_within.ensures) in
     subst (λ (b : Bool). IfOk c.execute_in_order.result (λ pass. pass.strayed ≡ b)) same c.execute_in_order.ensures.strayed
