@@ -1,10 +1,10 @@
 -- The results of a batch on an engine, in terms of the serial answer.
 use Rattle.std.specs.Prelude.{List}
 use Rattle.requests.specs.declared.reply.Reply.{Reply}
-use Rattle.tpcc_model.specs.Serial.{State, batch_replies, batch_rows}
+use Rattle.tpcc_model.specs.Serial.{State}
 use Rattle.tpcc_rows.specs.RowMap.{Rows}
 use Rattle.executor.specs.Executions.{IsRecordOf, path_in}
-use Rattle.executor.specs.Chains.{state_of}
+use Rattle.executor.specs.NextBatches.{met_on, next_replies, next_rows}
 use Rattle.executor.specs.declared.engine.Engine.{Engine}
 use Rattle.executor.specs.declared.next_batch.NextBatch.{NextBatch}
 use Rattle.executor.specs.declared.path.Path.{Path}
@@ -13,14 +13,14 @@ use Rattle.executor.specs.declared.way.Way.{Way}
 
 -- the state that the batch meets
 abbrev pub met_by : Engine → NextBatch → State
-met_by engine next = state_of engine.store.rows next.stamp
+met_by engine next = met_on engine.store.rows next
 
 -- its replies, and the rows that it leaves
 abbrev pub replies_by : Engine → NextBatch → List Reply
-replies_by engine next = batch_replies engine.catalog (met_by engine next) next.batch.now
+replies_by engine next = next_replies engine.catalog engine.store.rows next
 
 abbrev pub rows_by : Engine → NextBatch → Rows
-rows_by engine next = batch_rows engine.catalog (met_by engine next) next.batch.now
+rows_by engine next = next_rows engine.catalog engine.store.rows next
 
 -- its path, and its record, if it is executed in this way
 abbrev pub path_by_way : Way → Engine → NextBatch → Path

@@ -10,6 +10,7 @@ pub mod Calls
 pub mod Slots
 pub mod PlannedLevels
 pub mod InOrder
+pub mod NextBatches
 pub mod Executions
 pub mod Engines
 pub mod Runs

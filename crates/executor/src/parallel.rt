@@ -2,14 +2,13 @@
 ghost use Rattle.std.specs.Prelude.{◌≡◌, ◌+◌, ◌<◌, All, IfErr, IfOk, IfSome, OnOk, false, length, map, ℕ};
 ghost use Rattle.std.specs.FinMap.{find};
 ghost use Rattle.std.specs.Ordering.{nat_cmp};
-ghost use Rattle.executor.specs.LevelRuns.{IsCutBySome, IsCutOf, strays};
-ghost use Rattle.executor.specs.Chains.{state_of};
+ghost use Rattle.executor.specs.LevelRuns.{IsCutBySome, IsCutOf};
+ghost use Rattle.executor.specs.NextBatches.{met_on, next_replies, next_rows, next_strays};
 ghost use Rattle.executor.specs.PlannedLevels.{AwaitsOthers, plan_replies, plan_rows, plan_strays};
 ghost use Rattle.executor.specs.Slots.{Awaits, HaveAlso, reply_at, with_each};
 ghost use Rattle.executor.specs.States.{IsSoundState};
 ghost use Rattle.gather.specs.Merged.{after_each};
 ghost use Rattle.rollback.specs.Pointed.{KeepsCleanLeaves};
-ghost use Rattle.tpcc_model.specs.Serial.{batch_replies, batch_rows};
 ghost use Rattle.workers.specs.LevelEnds.{StraysWhere, level_replies, level_rows, level_strays};
 
 use crate::batch_replies::BatchReplies;
@@ -133,11 +132,11 @@ pub(crate) fn execute_parallel<R: Threads + Sync, G: Gate>(
     store: &mut PointedStore,
     next: &NextBatch<'_>,
 ) -> Result<Pass, Stop>
-    requires sound { IsSoundState catalog.now (state_of store.old.rows next.now.stamp) }
-    ensures strayed { IfOk result (λ pass. pass.strayed ≡ strays catalog.now (state_of store.old.rows next.now.stamp) next.now.batch.now) }
-    ensures replies { IfOk result (λ pass. pass.replies.items ≡ batch_replies catalog.now (state_of store.old.rows next.now.stamp) next.now.batch.now) }
-    ensures rows { OnOk result (store.new.rows ≡ batch_rows catalog.now (state_of store.old.rows next.now.stamp) next.now.batch.now) }
-    ensures err { IfErr result (StraysWhere (strays catalog.now (state_of store.old.rows next.now.stamp) next.now.batch.now)) }
+    requires sound { IsSoundState catalog.now (met_on store.old.rows next.now) }
+    ensures strayed { IfOk result (λ pass. pass.strayed ≡ next_strays catalog.now store.old.rows next.now) }
+    ensures replies { IfOk result (λ pass. pass.replies.items ≡ next_replies catalog.now store.old.rows next.now) }
+    ensures rows { OnOk result (store.new.rows ≡ next_rows catalog.now store.old.rows next.now) }
+    ensures err { IfErr result (StraysWhere (next_strays catalog.now store.old.rows next.now)) }
     ensures points { store.new.points ≡ store.old.points }
     ensures clean { KeepsCleanLeaves store.old store.new }
 {

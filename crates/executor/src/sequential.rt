@@ -1,9 +1,8 @@
 //! Executes a batch one request after the other.
 ghost use Rattle.std.specs.Prelude.{◌≡◌, IfOk, OnOk};
-ghost use Rattle.executor.specs.Chains.{state_of};
+ghost use Rattle.executor.specs.NextBatches.{next_replies, next_rows};
 ghost use Rattle.rollback.specs.Pointed.{KeepsCleanLeaves};
 ghost use Rattle.tpcc_model.specs.Database.{database};
-ghost use Rattle.tpcc_model.specs.Serial.{batch_replies, batch_rows};
 ghost use Rattle.tpcc_model.specs.Steps.{step};
 ghost use Rattle.transactions.specs.Outcomes.{IsOutcome};
 
@@ -48,8 +47,8 @@ pub(crate) fn execute_sequential<R, G: Gate>(
     store: &mut PointedStore,
     next: &NextBatch<'_>,
 ) -> Result<Vec<Reply>, Memory>
-    ensures replies { IfOk result (λ replies. replies.items ≡ batch_replies catalog.now (state_of store.old.rows next.now.stamp) next.now.batch.now) }
-    ensures rows { OnOk result (store.new.rows ≡ batch_rows catalog.now (state_of store.old.rows next.now.stamp) next.now.batch.now) }
+    ensures replies { IfOk result (λ replies. replies.items ≡ next_replies catalog.now store.old.rows next.now) }
+    ensures rows { OnOk result (store.new.rows ≡ next_rows catalog.now store.old.rows next.now) }
     ensures points { store.new.points ≡ store.old.points }
     ensures clean { KeepsCleanLeaves store.old store.new }
 {

@@ -1,11 +1,10 @@
 //! Executes a batch in order, given the footprints that its requests declared when it began.
 ghost use Rattle.std.specs.Prelude.{◌≡◌, IfOk, OnOk, Some, length, map};
 ghost use Rattle.executor.specs.InOrder.{TellsOfStrays};
-ghost use Rattle.executor.specs.LevelRuns.{declared_footprints, strays};
-ghost use Rattle.executor.specs.Chains.{state_of};
+ghost use Rattle.executor.specs.LevelRuns.{declared_footprints};
+ghost use Rattle.executor.specs.NextBatches.{met_on, next_replies, next_rows, next_strays};
 ghost use Rattle.executor.specs.States.{IsSoundState};
 ghost use Rattle.rollback.specs.Pointed.{KeepsCleanLeaves};
-ghost use Rattle.tpcc_model.specs.Serial.{batch_replies, batch_rows};
 
 use crate::in_order::{Pass, execute_in_order};
 use crate::laws::strays_in_turn;
@@ -29,12 +28,12 @@ fn execute_told<R: Threads + Sync, G: Gate>(
     next: &NextBatch<'_>,
     told: &[Option<Footprint>],
 ) -> Result<Pass, Memory>
-    requires sound { IsSoundState catalog.now (state_of store.old.rows next.now.stamp) }
+    requires sound { IsSoundState catalog.now (met_on store.old.rows next.now) }
     requires each { length told.now ≡ length next.now.batch.now.requests }
-    requires tells { TellsOfStrays catalog.now (state_of store.old.rows next.now.stamp) next.now.batch.now told.now }
-    ensures strayed { IfOk result (λ pass. pass.strayed ≡ strays catalog.now (state_of store.old.rows next.now.stamp) next.now.batch.now) }
-    ensures replies { IfOk result (λ pass. pass.replies.items ≡ batch_replies catalog.now (state_of store.old.rows next.now.stamp) next.now.batch.now) }
-    ensures rows { OnOk result (store.new.rows ≡ batch_rows catalog.now (state_of store.old.rows next.now.stamp) next.now.batch.now) }
+    requires tells { TellsOfStrays catalog.now (met_on store.old.rows next.now) next.now.batch.now told.now }
+    ensures strayed { IfOk result (λ pass. pass.strayed ≡ next_strays catalog.now store.old.rows next.now) }
+    ensures replies { IfOk result (λ pass. pass.replies.items ≡ next_replies catalog.now store.old.rows next.now) }
+    ensures rows { OnOk result (store.new.rows ≡ next_rows catalog.now store.old.rows next.now) }
     ensures points { store.new.points ≡ store.old.points }
     ensures clean { KeepsCleanLeaves store.old store.new }
 {
@@ -55,10 +54,10 @@ pub(crate) fn execute_declaring_deliveries<R: Threads + Sync, G: Gate>(
     store: &mut PointedStore,
     next: &NextBatch<'_>,
 ) -> Result<Pass, Memory>
-    requires sound { IsSoundState catalog.now (state_of store.old.rows next.now.stamp) }
-    ensures strayed { IfOk result (λ pass. pass.strayed ≡ strays catalog.now (state_of store.old.rows next.now.stamp) next.now.batch.now) }
-    ensures replies { IfOk result (λ pass. pass.replies.items ≡ batch_replies catalog.now (state_of store.old.rows next.now.stamp) next.now.batch.now) }
-    ensures rows { OnOk result (store.new.rows ≡ batch_rows catalog.now (state_of store.old.rows next.now.stamp) next.now.batch.now) }
+    requires sound { IsSoundState catalog.now (met_on store.old.rows next.now) }
+    ensures strayed { IfOk result (λ pass. pass.strayed ≡ next_strays catalog.now store.old.rows next.now) }
+    ensures replies { IfOk result (λ pass. pass.replies.items ≡ next_replies catalog.now store.old.rows next.now) }
+    ensures rows { OnOk result (store.new.rows ≡ next_rows catalog.now store.old.rows next.now) }
     ensures points { store.new.points ≡ store.old.points }
     ensures clean { KeepsCleanLeaves store.old store.new }
 {
@@ -89,12 +88,12 @@ pub(crate) fn execute_declared<R: Threads + Sync, G: Gate>(
     next: &NextBatch<'_>,
     footprints: Vec<Footprint>,
 ) -> Result<Pass, Memory>
-    requires sound { IsSoundState catalog.now (state_of store.old.rows next.now.stamp) }
+    requires sound { IsSoundState catalog.now (met_on store.old.rows next.now) }
     requires each { length footprints.items ≡ length next.now.batch.now.requests }
-    requires declared { footprints.items ≡ declared_footprints catalog.now (state_of store.old.rows next.now.stamp) next.now.batch.now }
-    ensures strayed { IfOk result (λ pass. pass.strayed ≡ strays catalog.now (state_of store.old.rows next.now.stamp) next.now.batch.now) }
-    ensures replies { IfOk result (λ pass. pass.replies.items ≡ batch_replies catalog.now (state_of store.old.rows next.now.stamp) next.now.batch.now) }
-    ensures rows { OnOk result (store.new.rows ≡ batch_rows catalog.now (state_of store.old.rows next.now.stamp) next.now.batch.now) }
+    requires declared { footprints.items ≡ declared_footprints catalog.now (met_on store.old.rows next.now) next.now.batch.now }
+    ensures strayed { IfOk result (λ pass. pass.strayed ≡ next_strays catalog.now store.old.rows next.now) }
+    ensures replies { IfOk result (λ pass. pass.replies.items ≡ next_replies catalog.now store.old.rows next.now) }
+    ensures rows { OnOk result (store.new.rows ≡ next_rows catalog.now store.old.rows next.now) }
     ensures points { store.new.points ≡ store.old.points }
     ensures clean { KeepsCleanLeaves store.old store.new }
 {
