@@ -28,9 +28,7 @@ use command_line::{Line, LineFault, WordsFault, line_of, line_status, words_of};
 use executor::Stamp;
 use hashers::Host;
 use records::io::Counting;
-use runner::{
-    Observer, StoredRunFault, check_text, make_text, run_and_store, run_text, stored_line,
-};
+use runner::{Observer, StoredRunFault, check_text, make_text, run_and_store, stored_line};
 use session::serve;
 use std::io::Input;
 use std::process::ExitCode;
@@ -57,32 +55,6 @@ fn report(rt: &impl Eprint, fault: &StoredRunFault) -> ExitCode {
         let _ = eprint!(rt; "{text}");
     }
     ExitCode::FAILURE
-}
-
-#[inline(never)]
-fn run<R: Files + Print + Eprint + AllocGlobal + Clock + Host, G: Observer>(
-    runtime: &Runtime<'_, R, G>,
-    image: &str,
-    batches: &str,
-    shown: Shown,
-) -> ExitCode
-where
-    R::File: Drop,
-{
-    let rt = runtime.rt;
-    let Ok(image_file) = fs::open(rt, image) else {
-        return cannot_open(rt, image);
-    };
-    let Ok(batches_file) = fs::open(rt, batches) else {
-        return cannot_open(rt, batches);
-    };
-    let mut image = image_source(rt, image_file, shown);
-    let mut batches = batches_source(rt, batches_file, shown);
-    let mut output = reply_sink(rt, io::writer(rt), shown);
-    match run_text(runtime, &mut image, &mut batches, &mut output) {
-        Ok(_) => ExitCode::SUCCESS,
-        Err(fault) => report(rt, &StoredRunFault::Run(fault)),
-    }
 }
 
 /// Runs batches, and writes the image of the last state to the file at `path`.
@@ -222,7 +194,6 @@ where
 {
     let (image, batches, shown) = (options.image, options.batches, options.shown);
     match (options.store, from, options.at) {
-        (None, None, false) => run(runtime, image, batches, shown),
         (Some(path), None, false) => run_stored(runtime, image, batches, path, shown),
         _ => run_resumed(runtime, options, from),
     }
