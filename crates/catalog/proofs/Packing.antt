@@ -10,7 +10,7 @@ use Rattle.catalog.specs.Infos.{ArePacked, AreTexts, AreTextsWithin, padded, tex
 use Rattle.tpcc_rows.specs.Texts.{IsPadded, IsText, before_zeros}
 use Rattle.tpcc_rows.proofs.Padding as padding
 
-wider : (low high : ℕ) (text : List ℕ) → low ≤ high → IsText low text → IsText high text
+pub wider : (low high : ℕ) (text : List ℕ) → low ≤ high → IsText low text → IsText high text
 wider low high text up is = let fits = is.fits in record { fits = omega (arith, fits, up); printable = is.printable }
 
 -- one text more, and no less room for each

@@ -1,10 +1,11 @@
 //! The cards and their keys (TPC-C clause 1.3; the split into fixed and moving columns by clause 1.4).
-ghost use Rattle.std.specs.Prelude.{◌≡◌, ◌==◌, ◌+◌, ◌^◌, ◌<◌, ◌≤◌, ◌++◌, [], All, IfOk, None, OnErr, OnOk, Some, if◌then◌else◌, length, option_copied, slice_index_or, vec_len};
+ghost use Rattle.std.specs.Prelude.{◌≡◌, ◌+◌, ◌<◌, ◌≤◌, ◌++◌, [], All, IfOk, OnOk, length, option_copied, slice_index_or};
 ghost use Rattle.catalog.specs.CardKinds.{as_customer, as_district, as_item, as_stock, as_warehouse, card_key};
 ghost use Rattle.catalog.specs.Infos.{ArePacked, padded};
 ghost use Rattle.catalog.specs.StockCards.{district_info};
 ghost use Rattle.tpcc_rows.specs.Texts.{ArePrintable, IsPadded, IsText, before_zeros};
 
+use std::alloc::Global;
 use std::marker::Model;
 use tpcc_rows::id::{CustomerId, DistrictId, ItemId, WarehouseId};
 use tpcc_rows::memory::Memory;
@@ -80,6 +81,21 @@ const DISTRICTS: usize = 10;
 /// The least width of the ten texts.
 const SHORT: usize = 8;
 
+/// The length of a text, unless it is short. A short text and a full one are known by one byte.
+fn width_needed(text: &Text<24>) -> usize
+    ensures enough { IsText result text.now }
+    ensures fits { result ≤ 24 }
+{
+    let padded = text.as_padded();
+    if padded[SHORT] == 0 {
+        SHORT
+    } else if text.is_full() {
+        text.capacity()
+    } else {
+        text.as_bytes().len()
+    }
+}
+
 /// The width for these texts: the length of the longest, unless all are short.
 fn width_for(texts: &[Text<24>]) -> usize
     ensures bound { All (IsText result) texts.now }
@@ -87,7 +103,7 @@ fn width_for(texts: &[Text<24>]) -> usize
 {
     let mut width = SHORT;
     for text in texts {
-        width = width.max(text.as_bytes().len());
+        width = width.max(width_needed(text));
     }
     width
 }
@@ -103,13 +119,12 @@ fn push_padded(texts: &mut Vec<u8>, text: &Text<24>, width: usize) -> Result<(),
 }
 
 /// The texts, padded to one width.
-fn packed(texts: &Vec<Text<24>>) -> Result<Vec<u8>, Memory>
-    requires { vec_len texts.now ≡ 10 }
-    ensures { IfOk result (λ packed. ArePacked texts.now.items packed.items) }
+fn packed(alloc: Global, texts: &[Text<24>; 10]) -> Result<Vec<u8>, Memory>
+    ensures { IfOk result (λ packed. ArePacked texts.now packed.items) }
 {
-    let width = width_for(texts.as_slice());
-    let mut packed = Vec::with_capacity(*texts.allocator(), DISTRICTS * width)?;
-    for text in texts.iter() {
+    let width = width_for(texts);
+    let mut packed = Vec::with_capacity(alloc, DISTRICTS * width)?;
+    for text in texts {
         push_padded(&mut packed, text, width)?;
     }
     Ok(packed)
@@ -145,16 +160,13 @@ impl Model for DistrictInfos {
 }
 
 impl DistrictInfos {
-    /// The texts of the ten districts in order; `None` if they aren't ten.
-    pub fn new(infos: Vec<Text<24>>) -> Result<Option<DistrictInfos>, Memory>
-        ensures value { IfOk result (λ new. new ≡ (if vec_len infos == 10 then Some infos.items else None)) }
-        ensures memory { OnErr result (vec_len infos ≡ 10) }
+    /// The texts of the ten districts in order.
+    pub fn new(alloc: Global, infos: &[Text<24>; 10]) -> Result<DistrictInfos, Memory>
+        ensures { IfOk result (λ new. new ≡ infos.now) }
     {
-        if infos.len() != DISTRICTS {
-            return Ok(None);
-        }
-        let texts = packed(&infos)?;
-        Ok(Some(DistrictInfos { texts }))
+        Ok(DistrictInfos {
+            texts: packed(alloc, infos)?,
+        })
     }
 
     /// The number of texts.

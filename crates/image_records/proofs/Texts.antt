@@ -1,6 +1,5 @@
 -- The texts of several fields, read one by one.
-use Rattle.std.proofs.Common.{◌≡◌, ◌+◌, ℕ, suc, List, [], ◌∷◌, ◌++◌, Bool, true, false, Option, Some, None, Result, Ok, Err, refl, ap, sym, subst, append-nil, append_assoc, arith, length, length-append}
-use Rattle.std.specs.Prelude.{if◌then◌else◌}
+use Rattle.std.proofs.Common.{◌≡◌, ◌+◌, ℕ, suc, List, [], ◌∷◌, ◌++◌, Result, Ok, Err, refl, ap, sym, subst, append-nil, append_assoc}
 use Rattle.std.specs.Result.{IsErrAnd}
 use Rattle.records.specs.Fields.{◌>>=◌, Fields, text_at}
 use Rattle.records.specs.declared.fault.FaultKind.{FaultKind}
@@ -22,9 +21,6 @@ text_more so_far fields i count rest t more is = rw (more, is) (rest-of (texts_a
     rest-of (Ok texts) = ap Ok (sym (append_assoc so_far (t ∷ []) texts))
     rest-of (Err e) = refl
 
-pub count_more : (so_far : List (List ℕ)) (t : List ℕ) (count rest all : ℕ) → length so_far + count ≡ all → count ≡ suc rest → length (so_far ++ t ∷ []) + rest ≡ all
-count_more so_far t count rest all is more = let longer = length-append so_far (t ∷ []) in omega (arith, longer, is, more)
-
 pub text_refused : (so_far : List (List ℕ)) (fields : Fields) (i count rest : ℕ) (e : FaultKind) → count ≡ suc rest → text_at fields i 24 ≡ Err e → texts_after so_far fields i count ≡ Err e
 unfolding texts_at
 text_refused so_far fields i count rest e more is = rw (more, is) refl
@@ -45,8 +41,3 @@ texts_end so_far fields i count none = rw none (ap Ok (append-nil so_far))
 pub read_fault : {A : Type 0} (definition : Result A FaultKind) (result : Result A RecordFault) (e : FaultKind) → definition ≡ Err e → IsErrAnd result (λ fault. fault ≡ record_fault.OfKind e) → Reads definition result
 read_fault definition (Ok x) e is by = absurd by
 read_fault definition (Err fault) e is by = subst (IsFaultOf definition) (sym by) is
-
--- what passes a test
-pub some-of : {A : Type 0} (test : Bool) (x y : A) (o : Option A) → o ≡ (if test then Some x else None) → o ≡ Some y → x ≡ y
-some-of true x y o is some = cc
-some-of false x y o is some = cc

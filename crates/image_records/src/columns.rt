@@ -10,6 +10,7 @@ use csv::ByteRecord;
 use records::fault::FaultKind;
 use records::fields::{has_text, text};
 use std::alloc::Global;
+use tpcc_rows::text::Text;
 
 /// C_CREDIT: `GC` or `BC`.
 pub(crate) fn credit(fields: &ByteRecord, i: usize) -> Result<Credit, FaultKind>
@@ -33,9 +34,10 @@ pub(crate) fn district_infos(
     requires { first + 10 < 2 ^ 64 }
     ensures { Reads (texts_at (fields_of fields.now) first 10 24) result }
 {
-    let mut infos = Vec::with_capacity(alloc, 10)?;
-    for i in first..first + 10 {
-        infos.push(text(fields, i)?)?;
+    let mut infos: [Text<24>; 10] = Default::default();
+    for place in 0..10 {
+        let info = text(fields, first + place)?;
+        infos[place] = info;
     }
-    Ok(DistrictInfos::new(infos)?.unwrap())
+    Ok(DistrictInfos::new(alloc, &infos)?)
 }

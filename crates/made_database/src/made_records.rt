@@ -165,11 +165,12 @@ fn made_info(district: DistrictId) -> Text<24>
 fn made_infos(alloc: Global) -> Result<DistrictInfos, Memory>
     ensures { IfOk result (λ infos. infos ≡ map made_info ten) }
 {
-    let mut infos = Vec::with_capacity(alloc, 10)?;
-    for district in DistrictId::all() {
-        infos.push(made_info(district))?;
+    let mut infos: [Text<24>; 10] = Default::default();
+    let districts = DistrictId::all();
+    for place in 0..10 {
+        infos[place] = made_info(districts[place]);
     }
-    Ok(DistrictInfos::new(infos)?.unwrap())
+    DistrictInfos::new(alloc, &infos)
 }
 
 /// `S,w,i,quantity,ytd,order_cnt,remote_cnt,data,dist01,..,dist10`

@@ -51,17 +51,12 @@ const INFOS: [&[u8]; 10] = [
     b"DIST09", b"DIST10",
 ];
 
-fn push_infos(infos: &mut Vec<Text<24>>) -> Option<()> {
-    for info in &INFOS {
-        infos.push(Text::parse(*info)?).ok()?;
-    }
-    Some(())
-}
-
 fn infos(alloc: Global) -> Option<DistrictInfos> {
-    let mut infos = Vec::new(alloc);
-    push_infos(&mut infos)?;
-    DistrictInfos::new(infos).ok()?
+    let mut infos: [Text<24>; 10] = Default::default();
+    for place in 0..10 {
+        infos[place] = Text::parse(INFOS[place])?;
+    }
+    DistrictInfos::new(alloc, &infos).ok()
 }
 
 fn stock(alloc: Global, warehouse: u8, item: u32) -> Option<Card> {
