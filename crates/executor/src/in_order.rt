@@ -9,7 +9,7 @@ ghost use Rattle.tpcc_model.specs.Steps.{step};
 ghost use Rattle.transactions.specs.Outcomes.{IsOutcome};
 ghost use Rattle.workers.specs.LevelEnds.{job_of};
 
-use crate::sequential::executed;
+use crate::sequential::{executed, settle};
 use crate::turn::{PlanInTurn, Told};
 use catalog::Catalog;
 use requests::reply::Reply;
@@ -121,9 +121,8 @@ pub(crate) fn execute_in_order<R: Threads + Sync, G: Gate>(
             request,
             footprint: &plan.told[place],
         };
-        let (reply, delta) = executed_as_told(runtime, catalog, &told, store, &mut strayed)?;
-        store.apply(delta)?;
-        replies.push(reply)?;
+        let outcome = executed_as_told(runtime, catalog, &told, store, &mut strayed)?;
+        settle(store, &mut replies, outcome)?;
     }
     Ok(Pass { replies, strayed })
 }

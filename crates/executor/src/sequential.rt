@@ -1,9 +1,10 @@
 //! Executes a batch one request after the other.
-ghost use Rattle.std.specs.Prelude.{◌≡◌, IfOk, OnOk};
+ghost use Rattle.std.specs.Prelude.{◌≡◌, ◌++◌, ◌∷◌, [], IfOk, OnOk};
 ghost use Rattle.executor.specs.NextBatches.{next_replies, next_rows};
 ghost use Rattle.rollback.specs.Pointed.{KeepsCleanLeaves};
 ghost use Rattle.tpcc_model.specs.Database.{database};
 ghost use Rattle.tpcc_model.specs.Steps.{step};
+ghost use Rattle.tpcc_rows.specs.Changing.{after};
 ghost use Rattle.transactions.specs.Outcomes.{IsOutcome};
 
 use crate::next_batch::NextBatch;
@@ -38,6 +39,23 @@ pub(crate) fn executed(
     }
 }
 
+/// Applies the changes of a request, and appends its reply. If an allocation fails, some of the changes have been applied.
+pub(crate) fn settle(
+    store: &mut PointedStore,
+    replies: &mut Vec<Reply>,
+    outcome: (Reply, Delta),
+) -> Result<(), Memory>
+    ensures rows { OnOk result (store.new.rows ≡ after store.old.rows outcome.1) }
+    ensures replies { OnOk result (replies.new.items ≡ replies.old.items ++ outcome.0 ∷ []) }
+    ensures points { store.new.points ≡ store.old.points }
+    ensures clean { KeepsCleanLeaves store.old store.new }
+{
+    let (reply, delta) = outcome;
+    store.apply(delta)?;
+    replies.push(reply)?;
+    Ok(())
+}
+
 /// Executes the requests of a batch one after the other, and applies the changes of each before the next. If an allocation
 /// fails, some of the changes have been applied. The gate observes each execution.
 #[tactic(auto, unfolding(tpcc_rows::specs::Changing::after))]
@@ -59,9 +77,7 @@ pub(crate) fn execute_sequential<R, G: Gate>(
         runtime.gate.enter(place);
         let done = executed(alloc, catalog, request, number, next.batch.moment, store);
         runtime.gate.leave(place);
-        let (reply, delta) = done?;
-        store.apply(delta)?;
-        replies.push(reply)?;
+        settle(store, &mut replies, done?)?;
     }
     Ok(replies)
 }
