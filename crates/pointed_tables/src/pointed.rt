@@ -1,14 +1,10 @@
 //! Rows in tables, the points to which they can go back, and the leaves on which they have changed.
-ghost use Rattle.std.specs.Prelude.{◌≡◌, ◌<◌, ◌≤◌, ◌+◌, ◌↔◌, [], ◌∷◌, ◌++◌, take, drop, IfOk, IfSome, IsErr, None, Some, OnOk, OnErr, length, option_copied, option_map, slice_get, true};
+ghost use Rattle.std.specs.Prelude.{◌≡◌, ◌<◌, ◌≤◌, ◌+◌, ◌↔◌, [], ◌∷◌, ◌++◌, take, drop, IfOk, IsErr, None, Some, OnOk, OnErr, length, slice_get, true};
 ghost use Rattle.std.specs.FinMap as map;
 ghost use Rattle.std.specs.List.{list_all};
 ghost use Rattle.serializability.specs.Changes.{changed};
-ghost use Rattle.tpcc_rows.specs.References.{row_of};
 ghost use Rattle.tpcc_rows.specs.Changing.{IsMadeInPart, after, change_fits, new_row_fits};
 ghost use Rattle.tpcc_rows.specs.Leaves.{leaf};
-ghost use Rattle.tpcc_rows.specs.Picks.{latest, oldest};
-ghost use Rattle.tpcc_rows.specs.RowKinds.{fits};
-ghost use Rattle.tpcc_rows.specs.Rows.{customer_row, district_next_row, district_ytd_row, order_line_row, order_row, stock_row, warehouse_row};
 ghost use Rattle.rollback.specs.Marks.{AreClean, HasAlso, HasAlsoThose};
 ghost use Rattle.rollback.specs.Pointed.{KeepsCleanLeaves};
 ghost use Rattle.pointed_tables.specs.Logs.{AreMade, IsPointed, points_of};
@@ -23,14 +19,9 @@ use std::marker::Model;
 use std::mem;
 use tpcc_rows::codes::leaf;
 use tpcc_rows::delta::Delta;
-use tpcc_rows::id::{CustomerId, DistrictId, ItemId, LineNumber, OrderId, WarehouseId};
 use tpcc_rows::key::RowKey;
 use tpcc_rows::memory::Memory;
-use tpcc_rows::row::{
-    CustomerRow, DistrictNextRow, DistrictYtdRow, OrderLineRow, OrderRow, Row, StockRow,
-    WarehouseRow,
-};
-use tpcc_rows::row_ref::RowRef;
+use tpcc_rows::row::Row;
 
 /// Rows in tables, points to which they can go back, and the set of the leaves on which they have changed since it was last
 /// taken. A point is a log of what has changed since it was made and before the next one was.
@@ -96,108 +87,11 @@ impl PointedTables {
         }
     }
 
-    pub fn get(&self, key: &RowKey) -> Option<RowRef<'_>>
-        ensures value { option_map row_of result ≡ map.get self.now.rows key.now }
-        ensures kind { IfSome (option_map row_of result) (λ row. fits key.now row ≡ true) }
+    /// The present rows.
+    pub fn rows(&self) -> &RoomyTables
+        ensures { result.now.rows ≡ self.now.rows }
     {
-        self.store.get(key)
-    }
-
-    /// The row where the rank's is expected, which may be another's: a hint, on which nothing relies. It isn't read yet.
-    pub fn expected(&self, rank: u64) -> Option<RowRef<'_>> {
-        self.store.expected(rank)
-    }
-
-    pub fn warehouse(&self, warehouse: WarehouseId) -> Option<&WarehouseRow>
-        ensures { option_copied result ≡ warehouse_row self.now.rows warehouse }
-    {
-        self.store.warehouse(warehouse)
-    }
-
-    pub fn district_ytd(
-        &self,
-        warehouse: WarehouseId,
-        district: DistrictId,
-    ) -> Option<&DistrictYtdRow>
-        ensures { option_copied result ≡ district_ytd_row self.now.rows warehouse district }
-    {
-        self.store.district_ytd(warehouse, district)
-    }
-
-    pub fn district_next(
-        &self,
-        warehouse: WarehouseId,
-        district: DistrictId,
-    ) -> Option<&DistrictNextRow>
-        ensures { option_copied result ≡ district_next_row self.now.rows warehouse district }
-    {
-        self.store.district_next(warehouse, district)
-    }
-
-    pub fn customer(
-        &self,
-        warehouse: WarehouseId,
-        district: DistrictId,
-        customer: CustomerId,
-    ) -> Option<&CustomerRow>
-        ensures { option_copied result ≡ customer_row self.now.rows warehouse district customer }
-    {
-        self.store.customer(warehouse, district, customer)
-    }
-
-    pub fn stock(&self, warehouse: WarehouseId, item: ItemId) -> Option<&StockRow>
-        ensures { option_copied result ≡ stock_row self.now.rows warehouse item }
-    {
-        self.store.stock(warehouse, item)
-    }
-
-    pub fn order(
-        &self,
-        warehouse: WarehouseId,
-        district: DistrictId,
-        order: OrderId,
-    ) -> Option<&OrderRow>
-        ensures { option_copied result ≡ order_row self.now.rows warehouse district order }
-    {
-        self.store.order(warehouse, district, order)
-    }
-
-    pub fn order_line(
-        &self,
-        warehouse: WarehouseId,
-        district: DistrictId,
-        order: OrderId,
-        number: LineNumber,
-    ) -> Option<&OrderLineRow>
-        ensures { option_copied result ≡ order_line_row self.now.rows warehouse district order number }
-    {
-        self.store.order_line(warehouse, district, order, number)
-    }
-
-    /// The least number of the district's new orders.
-    pub fn oldest_new(&self, warehouse: WarehouseId, district: DistrictId) -> Option<OrderId>
-        ensures { result ≡ oldest self.now.rows warehouse district }
-    {
-        self.store.oldest_new(warehouse, district)
-    }
-
-    /// The greatest number of the customer's orders.
-    pub fn last_order(
-        &self,
-        warehouse: WarehouseId,
-        district: DistrictId,
-        customer: CustomerId,
-    ) -> Option<OrderId>
-        ensures { result ≡ latest self.now.rows warehouse district customer }
-    {
-        self.store.last_order(warehouse, district, customer)
-    }
-
-    /// The number of rows.
-    pub fn len(&self) -> u128
-        ensures { result ≡ length (map.entries self.now.rows) }
-    {
-        self.store.len()
+        &self.store
     }
 
     /// Makes the changes, or the first of them if memory is refused. Returns how many were made. Their leaves are dirty from now on.
@@ -231,7 +125,7 @@ impl PointedTables {
     fn copied(&self, key: &RowKey) -> Result<Option<Row>, Memory>
         ensures { IfOk result (λ row. row ≡ map.get self.now.rows key.now) }
     {
-        match self.get(key) {
+        match self.store.get(key) {
             Some(row) => Ok(Some(row.copied()?)),
             None => Ok(None),
         }

@@ -58,7 +58,7 @@ fn nth_new_order(
 ) -> Option<OrderId>
     ensures { (cards : Cards) → IsSound (database cards store.now.rows) → result ≡ nth_new_order store.now.rows warehouse district n }
 {
-    let oldest = store.oldest_new(warehouse, district)?;
+    let oldest = store.rows().oldest_new(warehouse, district)?;
     let order = number_above(oldest, n)?;
     let key = RowKey::NewOrder {
         warehouse,

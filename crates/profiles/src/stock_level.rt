@@ -20,7 +20,7 @@ use tpcc_rows::granule::Granule;
 use tpcc_rows::id::{ItemId, OrderId};
 use tpcc_rows::memory::Memory;
 use tpcc_rows::row::{DistrictNextRow, OrderLineRow};
-use worker_rows::district_next_row;
+use worker_rows::{KeyedRows, district_next_row};
 
 /// The stock of an item, if it has a card.
 fn touch_item(
@@ -65,7 +65,7 @@ fn touch_lines(
 {
     for index in 0..15 {
         let number = line_number(index + 1);
-        let line = store.order_line(p.warehouse, p.district, order, number);
+        let line = store.order_line_row(p.warehouse, p.district, order, number);
         touch_line(catalog, p, line, footprint)?;
     }
     Ok(())

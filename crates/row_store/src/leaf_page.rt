@@ -2,7 +2,7 @@
 ghost use Rattle.std.specs.Prelude.{◌≡◌, ◌<◌, ◌≤◌, None, get_or, length, option_map};
 ghost use Rattle.row_store.specs.Slots.{lent, slots};
 
-use pointed_tables::PointedTables;
+use pointed_tables::roomy::RoomyTables;
 use tables::keys::key_at;
 use tpcc_rows::key::RowKey;
 use tpcc_rows::row_ref::RowRef;
@@ -65,7 +65,7 @@ fn size_of_row(row: RowRef<'_>) -> usize {
 }
 
 /// About the size of a rank's row, by its kind.
-fn rough_size_of(tables: &PointedTables, rank: u64) -> usize {
+fn rough_size_of(tables: &RoomyTables, rank: u64) -> usize {
     match rank / 0x0100_0000_0000_0000 {
         3 => match tables.expected(rank) {
             Some(row) => size_of_row(row),
@@ -80,7 +80,7 @@ fn rough_size_of(tables: &PointedTables, rank: u64) -> usize {
 }
 
 /// About the size of the rows of some ranks.
-fn size_of_rows(tables: &PointedTables, ranks: &[(u64, ())]) -> usize
+fn size_of_rows(tables: &RoomyTables, ranks: &[(u64, ())]) -> usize
     requires { length ranks.now ≤ AT_ONCE }
 {
     let mut rows = [None; AT_ONCE];
@@ -99,7 +99,7 @@ fn size_of_rows(tables: &PointedTables, ranks: &[(u64, ())]) -> usize
 /// The rows of a leaf in key order, a slot for each. The slot of a row that was removed is empty.
 #[derive(Clone, Copy)]
 pub struct LeafPage<'a> {
-    pub(crate) tables: &'a PointedTables,
+    pub(crate) tables: &'a RoomyTables,
     pub(crate) ranks: &'a [(u64, ())],
 }
 

@@ -1,5 +1,5 @@
 //! Rows in tables and by leaf, the points to which they can go back, and the leaves on which they have changed.
-ghost use Rattle.std.specs.Prelude.{◌≡◌, ◌<◌, ◌≤◌, ◌+◌, ◌↔◌, [], ◌∷◌, ◌++◌, take, drop, IfOk, IfSome, IsErr, None, Some, OnOk, OnErr, is_some, length, option_copied, option_map, slice_get, true};
+ghost use Rattle.std.specs.Prelude.{◌≡◌, ◌<◌, ◌≤◌, ◌+◌, ◌↔◌, [], ◌∷◌, ◌++◌, take, drop, IfOk, IfSome, IsErr, Some, OnOk, OnErr, is_some, length, option_map, slice_get, true};
 ghost use Rattle.std.specs.FinMap as map;
 ghost use Rattle.std.specs.List.{list_all};
 ghost use Rattle.serializability.specs.Changes.{changed};
@@ -9,15 +9,14 @@ ghost use Rattle.row_store.specs.Leaves.{AreLeaves, AreNewListed, IsListed};
 ghost use Rattle.row_store.specs.Slots.{filled, slots};
 ghost use Rattle.tpcc_rows.specs.Changing.{IsMadeInPart, after, new_row_fits, with_each};
 ghost use Rattle.tpcc_rows.specs.Leaves.{leaf, page_rows};
-ghost use Rattle.tpcc_rows.specs.Picks.{latest, oldest};
 ghost use Rattle.tpcc_rows.specs.Ranks.{IsNumbered, rank};
 ghost use Rattle.tpcc_rows.specs.References.{row_of};
 ghost use Rattle.tpcc_rows.specs.RowKinds.{fits};
 ghost use Rattle.tpcc_rows.specs.declared.key.RowKey.{RowKey};
-ghost use Rattle.tpcc_rows.specs.Rows.{customer_row, district_next_row, district_ytd_row, order_line_row, order_row, stock_row, warehouse_row};
 
 use crate::leaf_page::LeafPage;
 use pointed_tables::PointedTables;
+use pointed_tables::roomy::RoomyTables;
 use rollback::{Dirty, NoSuchPoint, POINTS, PointsFull};
 use row_tables::store::RowTables;
 use std::alloc::Global;
@@ -25,14 +24,11 @@ use std::marker::Model;
 use tables::leaves::Leaves;
 use tpcc_rows::codes::{LEAVES, leaf};
 use tpcc_rows::delta::Delta;
-use tpcc_rows::id::{CustomerId, DistrictId, ItemId, LineNumber, OrderId, WarehouseId};
+use tpcc_rows::id::{ItemId, WarehouseId};
 use tpcc_rows::key::RowKey;
 use tpcc_rows::memory::Memory;
 use tpcc_rows::ranks::{rank, stock_rank};
-use tpcc_rows::row::{
-    CustomerRow, DistrictNextRow, DistrictYtdRow, OrderLineRow, OrderRow, Row, StockRow,
-    WarehouseRow,
-};
+use tpcc_rows::row::Row;
 use tpcc_rows::row_ref::RowRef;
 
 /// After how many rows of a list the memory that they have left is freed.
@@ -107,7 +103,7 @@ fn list_new(
     if new_row.is_none() {
         return Ok(());
     }
-    if !is_often_new(key) && tables.get(key).is_some() {
+    if !is_often_new(key) && tables.rows().get(key).is_some() {
         return Ok(());
     }
     list(leaves, key)
@@ -169,14 +165,7 @@ impl PointedStore {
         ensures points { IfOk result (λ store. store.points ≡ []) }
         ensures clean { IfOk result (λ store. AreClean store.dirty) }
     {
-        let tables = RowTables::new(alloc)?;
-        let leaves = Leaves::new(alloc)?;
-        let tables = boxed(alloc, PointedTables::new(alloc, tables))?;
-        Ok(PointedStore {
-            tables,
-            leaves,
-            prefetched: 0,
-        })
+        PointedStore::from_rows(alloc, Vec::new(alloc))
     }
 
     /// The rows of a list, of which a later one replaces an earlier one of its key; there is no point, and no leaf is dirty. The
@@ -206,111 +195,33 @@ impl PointedStore {
         })
     }
 
+    /// The present rows.
+    pub fn rows(&self) -> &RoomyTables
+        ensures { result.now.rows ≡ self.now.rows }
+    {
+        self.tables.rows()
+    }
+
     pub fn get(&self, key: &RowKey) -> Option<RowRef<'_>>
         ensures value { option_map row_of result ≡ map.get self.now.rows key.now }
         ensures kind { IfSome (option_map row_of result) (λ row. fits key.now row ≡ true) }
     {
-        self.tables.get(key)
-    }
-
-    pub fn warehouse(&self, warehouse: WarehouseId) -> Option<&WarehouseRow>
-        ensures { option_copied result ≡ warehouse_row self.now.rows warehouse }
-    {
-        self.tables.warehouse(warehouse)
-    }
-
-    pub fn district_ytd(
-        &self,
-        warehouse: WarehouseId,
-        district: DistrictId,
-    ) -> Option<&DistrictYtdRow>
-        ensures { option_copied result ≡ district_ytd_row self.now.rows warehouse district }
-    {
-        self.tables.district_ytd(warehouse, district)
-    }
-
-    pub fn district_next(
-        &self,
-        warehouse: WarehouseId,
-        district: DistrictId,
-    ) -> Option<&DistrictNextRow>
-        ensures { option_copied result ≡ district_next_row self.now.rows warehouse district }
-    {
-        self.tables.district_next(warehouse, district)
-    }
-
-    pub fn customer(
-        &self,
-        warehouse: WarehouseId,
-        district: DistrictId,
-        customer: CustomerId,
-    ) -> Option<&CustomerRow>
-        ensures { option_copied result ≡ customer_row self.now.rows warehouse district customer }
-    {
-        self.tables.customer(warehouse, district, customer)
-    }
-
-    pub fn stock(&self, warehouse: WarehouseId, item: ItemId) -> Option<&StockRow>
-        ensures { option_copied result ≡ stock_row self.now.rows warehouse item }
-    {
-        self.tables.stock(warehouse, item)
+        self.rows().get(key)
     }
 
     /// A number of no meaning. Computing it reads where the row of a stock is expected, so that reading it needn't wait for memory.
     pub fn prefetch_stock(&self, warehouse: WarehouseId, item: ItemId) -> usize {
-        match self.tables.expected(stock_rank(warehouse, item)) {
+        match self.rows().expected(stock_rank(warehouse, item)) {
             Some(RowRef::Stock(row)) => row.ytd.value() as usize,
             _ => 0,
         }
-    }
-
-    pub fn order(
-        &self,
-        warehouse: WarehouseId,
-        district: DistrictId,
-        order: OrderId,
-    ) -> Option<&OrderRow>
-        ensures { option_copied result ≡ order_row self.now.rows warehouse district order }
-    {
-        self.tables.order(warehouse, district, order)
-    }
-
-    pub fn order_line(
-        &self,
-        warehouse: WarehouseId,
-        district: DistrictId,
-        order: OrderId,
-        number: LineNumber,
-    ) -> Option<&OrderLineRow>
-        ensures { option_copied result ≡ order_line_row self.now.rows warehouse district order number }
-    {
-        self.tables.order_line(warehouse, district, order, number)
-    }
-
-    /// The least number of the district's new orders.
-    pub fn oldest_new(&self, warehouse: WarehouseId, district: DistrictId) -> Option<OrderId>
-        ensures { result ≡ oldest self.now.rows warehouse district }
-    {
-        self.tables.oldest_new(warehouse, district)
-    }
-
-    /// The greatest number of the customer's orders.
-    pub fn last_order(
-        &self,
-        warehouse: WarehouseId,
-        district: DistrictId,
-        customer: CustomerId,
-    ) -> Option<OrderId>
-        ensures { result ≡ latest self.now.rows warehouse district customer }
-    {
-        self.tables.last_order(warehouse, district, customer)
     }
 
     /// The number of rows.
     pub fn len(&self) -> u128
         ensures { result ≡ length (map.entries self.now.rows) }
     {
-        self.tables.len()
+        self.rows().len()
     }
 
     /// The rows of a leaf.
@@ -319,7 +230,7 @@ impl PointedStore {
         ensures { filled (slots result) ≡ map.entries (page_rows self.now.rows leaf) }
     {
         LeafPage {
-            tables: &self.tables,
+            tables: self.rows(),
             ranks: self.leaves.ranks(leaf),
         }
     }

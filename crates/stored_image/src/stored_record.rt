@@ -261,12 +261,13 @@ fn write_history(
 /// The record of a card, together with its row if it has one. False if that row is missing.
 pub(crate) fn card_record(
     fields: &mut ByteRecord,
-    rows: &PointedStore,
+    store: &PointedStore,
     card: &Card,
 ) -> Result<bool, Memory>
-    ensures { IfOk result (λ said. option_map written_record (card_said rows.now.rows card.now)
+    ensures { IfOk result (λ said. option_map written_record (card_said store.now.rows card.now)
         ≡ (if said then Some (fields_of fields.new) else None)) }
 {
+    let rows = store.rows();
     match card {
         Card::Warehouse(card) => match rows.warehouse(card.warehouse) {
             Some(row) => write_warehouse(fields, card, row)?,

@@ -302,6 +302,7 @@ fn show_customer(rt: &impl Print, database: &Database, of_district: u8, number: 
     let (warehouse, district) = (WarehouseId::new(1)?, DistrictId::new(of_district)?);
     let row = database
         .store
+        .rows()
         .customer(warehouse, district, CustomerId::new(number)?)?;
     let (balance, count) = (row.balance.amount(), row.delivery_count.value());
     let _ = println!(rt;

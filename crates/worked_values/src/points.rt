@@ -34,11 +34,10 @@ pub fn both_rows(alloc: Global) -> Option<PointedStore> {
 
 /// The points, the warehouse's sum, and whether the district has a row.
 pub fn show_rows(rt: &impl Print, what: &str, store: &PointedStore) -> Option<()> {
+    let rows = store.rows();
     let warehouse = WarehouseId::new(1)?;
-    let sum = ytd_of(store.warehouse(warehouse));
-    let district = store
-        .district_next(warehouse, DistrictId::new(1)?)
-        .is_some();
+    let sum = ytd_of(rows.warehouse(warehouse));
+    let district = rows.district_next(warehouse, DistrictId::new(1)?).is_some();
     let _ = println!(rt;
         "{what}: {} points, {sum:?} cents, a district: {district}",
         store.points()
@@ -59,14 +58,15 @@ pub fn show_dirty(rt: &impl Print, what: &str, store: &mut PointedStore) {
 // ---- no points
 
 fn show_kinds(rt: &impl Print, store: &PointedStore) -> Option<()> {
+    let rows = store.rows();
     let (warehouse, district) = (WarehouseId::new(1)?, DistrictId::new(1)?);
-    let ytd = ytd_of(store.warehouse(warehouse));
-    let next = next_of(store.district_next(warehouse, district));
+    let ytd = ytd_of(rows.warehouse(warehouse));
+    let next = next_of(rows.district_next(warehouse, district));
     let _ = println!(rt; "rows: {}, by kind: {ytd:?} {next:?}", store.len());
     let customer = CustomerId::new(1)?;
-    let no_customer = store.customer(warehouse, district, customer).is_none();
-    let no_new = store.oldest_new(warehouse, district).is_none();
-    let no_order = store.last_order(warehouse, district, customer).is_none();
+    let no_customer = rows.customer(warehouse, district, customer).is_none();
+    let no_new = rows.oldest_new(warehouse, district).is_none();
+    let no_order = rows.last_order(warehouse, district, customer).is_none();
     let _ = println!(rt;
         "no customer: {no_customer}, no new order: {no_new}, no order: {no_order}"
     );
@@ -233,12 +233,13 @@ const ORDERS: [Columns; 3] = [
 const ANOTHER_CUSTOMER: [Columns; 1] = [Columns::Order((1, 1), 5, 2, 7, 0, 5)];
 
 fn show_orders(rt: &impl Print, what: &str, store: &PointedStore) -> Option<()> {
+    let rows = store.rows();
     let (warehouse, district) = (WarehouseId::new(1)?, DistrictId::new(1)?);
-    let oldest = number_of(store.oldest_new(warehouse, district));
+    let oldest = number_of(rows.oldest_new(warehouse, district));
     let _ = println!(rt; "oldest new order {what}: {oldest:?}");
     let (one, two) = (CustomerId::new(1)?, CustomerId::new(2)?);
-    let one = number_of(store.last_order(warehouse, district, one));
-    let two = number_of(store.last_order(warehouse, district, two));
+    let one = number_of(rows.last_order(warehouse, district, one));
+    let two = number_of(rows.last_order(warehouse, district, two));
     let _ = println!(rt; "last orders of two customers: {one:?} {two:?}");
     Some(())
 }

@@ -116,8 +116,8 @@ const CHANGES: [Change; 2] = [
 
 fn show_changes(rt: &impl Print, alloc: Global, store: &mut PointedStore) -> Option<()> {
     apply(alloc, store, &CHANGES)?;
-    let is_gone = store.warehouse(WarehouseId::new(1)?).is_none();
-    let ytd = ytd_of(store.warehouse(WarehouseId::new(2)?));
+    let is_gone = store.rows().warehouse(WarehouseId::new(1)?).is_none();
+    let ytd = ytd_of(store.rows().warehouse(WarehouseId::new(2)?));
     let _ = println!(rt;
         "changed: {} row, the old one is gone: {is_gone}, the new one has {ytd:?}",
         store.len()

@@ -70,14 +70,15 @@ fn show_page(rt: &impl Print, alloc: Global, page: LeafPage<'_>) -> Option<()> {
 }
 
 fn show_kinds(rt: &impl Print, store: &PointedStore) -> Option<()> {
+    let rows = store.rows();
     let (warehouse, district) = (WarehouseId::new(2)?, DistrictId::new(2)?);
     let customer = CustomerId::new(1)?;
-    let ytd = ytd_of(store.warehouse(warehouse));
-    let next = next_of(store.district_next(warehouse, district));
-    let no_customer = store.customer(warehouse, district, customer).is_none();
+    let ytd = ytd_of(rows.warehouse(warehouse));
+    let next = next_of(rows.district_next(warehouse, district));
+    let no_customer = rows.customer(warehouse, district, customer).is_none();
     let _ = println!(rt; "by kind: {ytd:?} {next:?}, no customer: {no_customer}");
-    let oldest = number_of(store.oldest_new(warehouse, district));
-    let latest = number_of(store.last_order(warehouse, district, customer));
+    let oldest = number_of(rows.oldest_new(warehouse, district));
+    let latest = number_of(rows.last_order(warehouse, district, customer));
     let _ = println!(rt; "oldest and last order: {oldest:?} {latest:?}");
     Some(())
 }

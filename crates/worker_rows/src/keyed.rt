@@ -43,7 +43,7 @@ impl KeyedRows for PointedStore {
     }
 
     fn stock_row(&self, warehouse: WarehouseId, item: ItemId) -> Option<&StockRow> {
-        self.stock(warehouse, item)
+        self.rows().stock(warehouse, item)
     }
 
     fn order_line_row(
@@ -53,7 +53,7 @@ impl KeyedRows for PointedStore {
         order: OrderId,
         number: LineNumber,
     ) -> Option<&OrderLineRow> {
-        self.order_line(warehouse, district, order, number)
+        self.rows().order_line(warehouse, district, order, number)
     }
 }
 

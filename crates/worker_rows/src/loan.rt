@@ -71,7 +71,7 @@ impl RowView for Loan<'_> {
         if !self.may_read(&Granule::Stock { warehouse, item }) {
             return Err(Strayed);
         }
-        Ok(self.store.stock(warehouse, item))
+        Ok(self.store.rows().stock(warehouse, item))
     }
 
     fn order_line_row(
@@ -84,7 +84,11 @@ impl RowView for Loan<'_> {
         if !self.may_read_book(warehouse, district) {
             return Err(Strayed);
         }
-        Ok(self.store.order_line(warehouse, district, order, number))
+        Ok(
+            self.store
+                .rows()
+                .order_line(warehouse, district, order, number),
+        )
     }
 
     fn oldest_new(
@@ -95,7 +99,7 @@ impl RowView for Loan<'_> {
         if !self.may_read_book(warehouse, district) {
             return Err(Strayed);
         }
-        Ok(self.store.oldest_new(warehouse, district))
+        Ok(self.store.rows().oldest_new(warehouse, district))
     }
 
     fn last_order(
@@ -107,7 +111,7 @@ impl RowView for Loan<'_> {
         if !self.may_read_book(warehouse, district) {
             return Err(Strayed);
         }
-        Ok(self.store.last_order(warehouse, district, customer))
+        Ok(self.store.rows().last_order(warehouse, district, customer))
     }
 
     fn prefetch_stock(&self, warehouse: WarehouseId, item: ItemId) -> usize {

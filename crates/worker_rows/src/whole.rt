@@ -27,7 +27,7 @@ impl RowView for Whole<'_> {
         warehouse: WarehouseId,
         item: ItemId,
     ) -> Result<Option<&StockRow>, Strayed> {
-        Ok(self.store.stock(warehouse, item))
+        Ok(self.store.rows().stock(warehouse, item))
     }
 
     fn order_line_row(
@@ -37,7 +37,11 @@ impl RowView for Whole<'_> {
         order: OrderId,
         number: LineNumber,
     ) -> Result<Option<&OrderLineRow>, Strayed> {
-        Ok(self.store.order_line(warehouse, district, order, number))
+        Ok(
+            self.store
+                .rows()
+                .order_line(warehouse, district, order, number),
+        )
     }
 
     fn oldest_new(
@@ -45,7 +49,7 @@ impl RowView for Whole<'_> {
         warehouse: WarehouseId,
         district: DistrictId,
     ) -> Result<Option<OrderId>, Strayed> {
-        Ok(self.store.oldest_new(warehouse, district))
+        Ok(self.store.rows().oldest_new(warehouse, district))
     }
 
     fn last_order(
@@ -54,7 +58,7 @@ impl RowView for Whole<'_> {
         district: DistrictId,
         customer: CustomerId,
     ) -> Result<Option<OrderId>, Strayed> {
-        Ok(self.store.last_order(warehouse, district, customer))
+        Ok(self.store.rows().last_order(warehouse, district, customer))
     }
 
     fn prefetch_stock(&self, warehouse: WarehouseId, item: ItemId) -> usize {
