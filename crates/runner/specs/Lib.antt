@@ -9,3 +9,4 @@ pub mod StoredRuns
 pub mod StampText
 pub mod Laws
 pub mod ResumedRuns
+pub mod ReadingAhead

@@ -1,9 +1,11 @@
 //! The loop of a run: reads, executes, commits and writes batch after batch.
-ghost use Rattle.std.specs.Prelude.{◌≡◌, ◌+◌, ◌<◌, ◌≤◌, ◌^◌, [], length, IfErr, IfOk, None, OnErr, OnOk, if◌then◌else◌};
+ghost use Rattle.std.specs.Prelude.{◌≡◌, ◌+◌, ◌<◌, ◌≤◌, ◌^◌, [], length, IfErr, IfOk, None, OnOk, if◌then◌else◌};
 ghost use Rattle.std.specs.Io.KnownBytes.{Appends};
+ghost use denote.Param.Send.{IsSync};
 ghost use Rattle.executor.specs.Chains.{committed, extended};
 ghost use Rattle.executor.specs.States.{IsSoundState};
 ghost use Rattle.requests.specs.Batches.{batches};
+ghost use Rattle.runner.specs.ReadingAhead.{IsNext, IsServed};
 ghost use Rattle.runner.specs.Runs.{Completes, IsOfBatches, LeavesBatch, Ran, is_write, chain_on};
 ghost use Rattle.runner.specs.Text.{batch_text};
 ghost use Rattle.runner.specs.WholeRuns.{LeavesChain};
@@ -12,11 +14,13 @@ use crate::fault::RunFault;
 use crate::observer::{Observer, Phase};
 use crate::text::batch_text;
 use executor::{Executor, MOST_REQUESTS};
+use records::fault::ReadError;
 use records::io::Sink;
 use records::slurp::push_all;
 use requests::batch_reader::BatchReader;
 use requests::request::Batch;
-use std::thread::Threads;
+use std::num::NonZeroUsize;
+use std::thread::{Threads, available_parallelism, join_mut};
 use workers::Runtime;
 
 /// Executes and commits a batch after committed ones, and writes its replies and its record. If there is no memory for that text,
@@ -56,7 +60,72 @@ fn serve_batch<R: Threads + Sync, S: Sink, G: Observer>(
     Ok(())
 }
 
-/// Parses, executes, commits and writes the batches of a text, each before the next is parsed. Returns the number of batches.
+/// Minimum number of requests of a batch during which reading the next one on a thread of its own pays.
+const FEWEST_BESIDE: usize = 256;
+
+/// Whether reading the next batch on a thread of its own pays.
+fn pays_beside<R: Threads, G>(runtime: &Runtime<'_, R, G>, batch: &Batch) -> bool {
+    runtime.workers.count() > 1
+        && batch.requests.len() >= FEWEST_BESIDE
+        && available_parallelism(runtime.rt).map_or(1, NonZeroUsize::get) > 1
+}
+
+/// Serves a batch, and reads the next one meanwhile, on a new thread if one can be started.
+fn serve_beside<R: Threads + Sync, S: Sink, G: Observer>(
+    runtime: &Runtime<'_, R, G>,
+    executor: &mut Executor,
+    batch: &Batch,
+    sink: &mut S,
+    reader: &mut BatchReader<'_>,
+) -> (Result<Option<Batch>, ReadError>, Result<(), RunFault>)
+    requires alone { executor.old.earlier ≡ [] }
+    requires low { 1 ≤ executor.old.present.next }
+    requires few { length batch.now.requests ≤ MOST_REQUESTS }
+    requires count { S.failed sink.old < 2 ^ 63 }
+    ensures next { IsNext reader.old.left reader.new.left result.0 }
+    ensures served { IsServed executor.old executor.new batch.now (S.taken sink.old) (S.taken sink.new) result.1 }
+    ensures failures { S.failed sink.new ≡ S.failed sink.old + (if is_write result.1 then 1 else 0) }
+{
+    let alloc = runtime.alloc;
+    let mut read = || -> Result<Option<Batch>, ReadError>
+        ensures { IsNext reader.entry.now.left reader.exit.now.left result }
+    { reader.next_batch(alloc) };
+    let mut serve = || -> Result<(), RunFault>
+        requires { IsSync R.row × (executor.now.earlier ≡ []) × (1 ≤ executor.now.present.next) × (length batch.now.requests ≤ MOST_REQUESTS)
+            × (S.failed sink.now < 2 ^ 63) }
+        ensures { IsServed executor.entry.now executor.exit.now batch.entry.now (S.taken sink.entry.now) (S.taken sink.exit.now) result
+            × (S.failed sink.exit.now ≡ S.failed sink.entry.now + (if is_write result then 1 else 0)) }
+    { serve_batch(runtime, executor, batch, sink) };
+    join_mut(runtime.rt, &mut read, &mut serve)
+}
+
+/// Serves a batch, and reads the next one: meanwhile where that pays, else afterwards.
+fn serve_and_read<R: Threads + Sync, S: Sink, G: Observer>(
+    runtime: &Runtime<'_, R, G>,
+    executor: &mut Executor,
+    batch: &Batch,
+    sink: &mut S,
+    reader: &mut BatchReader<'_>,
+) -> Result<Result<Option<Batch>, ReadError>, RunFault>
+    requires alone { executor.old.earlier ≡ [] }
+    requires low { 1 ≤ executor.old.present.next }
+    requires few { length batch.now.requests ≤ MOST_REQUESTS }
+    requires count { S.failed sink.old < 2 ^ 63 }
+    ensures next { IfOk result (IsNext reader.old.left reader.new.left) }
+    ensures served { IsServed executor.old executor.new batch.now (S.taken sink.old) (S.taken sink.new) result }
+    ensures failures { S.failed sink.new ≡ S.failed sink.old + (if is_write result then 1 else 0) }
+{
+    if pays_beside(runtime, batch) {
+        let (next, served) = serve_beside(runtime, executor, batch, sink, reader);
+        served?;
+        return Ok(next);
+    }
+    serve_batch(runtime, executor, batch, sink)?;
+    runtime.gate.begins(Phase::Read);
+    Ok(reader.next_batch(runtime.alloc))
+}
+
+/// Parses, executes, commits and writes the batches of a text. Returns the number of batches.
 pub(crate) fn run_batches<R: Threads + Sync, S: Sink, G: Observer>(
     runtime: &Runtime<'_, R, G>,
     executor: &mut Executor,
@@ -77,17 +146,19 @@ pub(crate) fn run_batches<R: Threads + Sync, S: Sink, G: Observer>(
         Ok(reader) => reader,
         Err(error) => return Err(RunFault::Read(error)),
     };
+    runtime.gate.begins(Phase::Read);
+    let mut next = reader.next_batch(runtime.alloc);
     let mut done: u64 = 0;
     'batches: loop {
-        runtime.gate.begins(Phase::Read);
-        let batch = match reader.next_batch(runtime.alloc) {
+        let batch = match next {
             Ok(Some(batch)) => batch,
             Ok(None) => break,
             Err(error) => return Err(RunFault::Read(error)),
         };
-        if let Err(fault) = serve_batch(runtime, executor, &batch, sink) {
-            return Err(fault);
-        }
+        next = match serve_and_read(runtime, executor, &batch, sink, &mut reader) {
+            Ok(next) => next,
+            Err(fault) => return Err(fault),
+        };
         done += 1;
     }
     runtime.gate.begins(Phase::Write);
