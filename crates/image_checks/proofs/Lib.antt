@@ -1,4 +1,4 @@
 pub mod Sums
 pub mod TotalsLemmas
 pub mod DistrictLemmas
-pub mod InOrder
+pub mod OfKinds

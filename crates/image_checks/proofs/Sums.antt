@@ -6,7 +6,7 @@ use Rattle.std.specs.FinMap.{entries}
 use Rattle.tpcc_model.specs.Conditions.{district_share}
 use Rattle.tpcc_rows.specs.Limits.{IsCents}
 use Rattle.tpcc_rows.specs.RowMap.{Rows}
-use Rattle.tpcc_rows.specs.Totals.{total}
+use Rattle.tpcc_rows.specs.Totals.{sum_entries, total}
 use Rattle.tpcc_rows.specs.declared.key.RowKey.{RowKey}
 use Rattle.tpcc_rows.specs.declared.row.Row.{Row}
 use Rattle.image_checks.specs.Checks.{AreSums, AreSumsBefore, AreWithin}
@@ -36,10 +36,10 @@ zeros = replicate 101 (pos 0)
 pub zeros_within : (n : ℕ) → AreWithin n zeros
 zeros_within n w below = rw (get_or-zeros 101 w) (omega (arith, ints), omega (arith, ints))
 
--- at the start all rows are left
-pub none_added : (left : List (RowKey × Row)) (rows : Rows) → left ≡ entries rows → AreSumsBefore left zeros rows
+-- at the start all rows with a share are left
+pub none_added : (left : List (RowKey × Row)) (rows : Rows) → ((w : ℕ) → sum_entries (district_share w) left ≡ sum_entries (district_share w) (entries rows)) → AreSumsBefore left zeros rows
 unfolding total
-none_added left rows e w below = rw (get_or-zeros 101 w, e) (omega (arith, ints))
+none_added left rows e w below = let same = e w in rw (get_or-zeros 101 w) (omega (arith, ints, same))
 
 pub one_added : (sums new : List ℤ) (e : RowKey × Row) (rest left : List (RowKey × Row)) (rows : Rows) → left ≡ e ∷ rest
     → ((w : ℕ) → w < 101 → get_or new w (pos 0) ≡ get_or sums w (pos 0) +ℤ district_share w e.0 e.1) → AreSumsBefore left sums rows → AreSumsBefore rest new rows

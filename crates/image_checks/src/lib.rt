@@ -4,7 +4,6 @@
 mod checks;
 mod districts;
 mod parents;
-mod searching;
 mod totals;
 
 pub use checks::check;

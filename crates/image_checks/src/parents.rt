@@ -1,24 +1,22 @@
 //! Checks that the parents of cards and rows are there.
-ghost use Rattle.std.specs.Prelude.{◌≡◌, ◌&&◌, option_and_then, option_copied, true};
+ghost use Rattle.std.specs.Prelude.{◌≡◌, ◌&&◌, option_copied};
 ghost use Rattle.std.specs.FinMap as map;
 ghost use Rattle.std.specs.List.{list_all};
 ghost use Rattle.catalog.specs.declared.card.CardKey.TheVariants as card_key;
 ghost use Rattle.tpcc_rows.specs.Limits.{ten};
-ghost use Rattle.tpcc_rows.specs.Places.{are_in_order};
-ghost use Rattle.tpcc_rows.specs.RowKinds.{as_order};
-ghost use Rattle.tpcc_rows.specs.RowMap.{Rows, row_key_cmp};
+ghost use Rattle.tpcc_rows.specs.References.{row_of};
+ghost use Rattle.tpcc_rows.specs.RowMap.{Rows};
 ghost use Rattle.image_checks.specs.Checks.{card_has_parents, has_line, has_own_rows, parents_there, row_has_parents};
-ghost use Rattle.image_checks.specs.Orders.{order_key, order_of};
-ghost use Rattle.image_checks.specs.Sorted.{rows_in};
 ghost use Rattle.image_records.specs.Databases.{has_card, has_row};
 ghost use Rattle.tpcc_model.specs.Database.{database};
 
-use crate::searching::found;
 use catalog::Catalog;
 use catalog::card::{Card, CardKey};
+use row_tables::store::RowTables;
 use tpcc_rows::id::{CustomerId, DistrictId, ItemId, LineNumber, WarehouseId};
 use tpcc_rows::key::RowKey;
-use tpcc_rows::row::{HistoryRow, Row};
+use tpcc_rows::row::{HistoryRow, OrderRow};
+use tpcc_rows::row_ref::RowRef;
 
 fn has_card(catalog: &Catalog, key: CardKey) -> bool
     ensures { result ≡ has_card catalog.now key }
@@ -90,39 +88,19 @@ fn has_stock(catalog: &Catalog, warehouse: WarehouseId, item: ItemId) -> bool
     has_card(catalog, CardKey::Stock { warehouse, item })
 }
 
-/// The key of the order that a new order or an order line belongs to.
-fn order_key(key: &RowKey) -> Option<RowKey>
-    ensures { result ≡ order_key key.now }
+fn has_row(rows: &RowTables, key: &RowKey) -> bool
+    ensures { result ≡ has_row rows.now key.now }
 {
-    match *key {
-        RowKey::NewOrder {
-            warehouse,
-            district,
-            order,
-        }
-        | RowKey::OrderLine {
-            warehouse,
-            district,
-            order,
-            ..
-        } => {
-            Some(RowKey::Order {
-                warehouse,
-                district,
-                order,
-            })
-        }
-        _ => None,
-    }
+    rows.get(key).is_some()
 }
 
 /// Whether there is an order, of at least `number` lines.
-fn has_line(order: Option<&Row>, number: LineNumber) -> bool
-    ensures { result ≡ has_line number (option_and_then as_order (option_copied order.entry)) }
+fn has_line(order: Option<&OrderRow>, number: LineNumber) -> bool
+    ensures { result ≡ has_line number (option_copied order.entry) }
 {
     match order {
-        Some(Row::Order(order)) => number <= order.line_count,
-        _ => false,
+        Some(order) => number <= order.line_count,
+        None => false,
     }
 }
 
@@ -139,9 +117,9 @@ fn has_payment(catalog: &Catalog, row: &HistoryRow) -> bool
     ) && has_district(catalog, row.warehouse, row.district)
 }
 
-/// Whether a row's parents are there, apart from a card in its own record. `order` is the order it belongs to, if there.
-fn row_has_parents(catalog: &Catalog, order: Option<&Row>, key: &RowKey, row: &Row) -> bool
-    ensures { (rows : Rows) → option_copied order.entry ≡ order_of rows key.now → result ≡ row_has_parents (database catalog.now rows) (key.now, row.now) }
+/// Whether a row's parents are there, apart from a card in its own record.
+fn row_has_parents(catalog: &Catalog, rows: &RowTables, key: &RowKey, row: RowRef<'_>) -> bool
+    ensures { result ≡ row_has_parents (database catalog.now rows.now) (key.now, row_of row.entry) }
 {
     match (key, row) {
         (
@@ -150,16 +128,39 @@ fn row_has_parents(catalog: &Catalog, order: Option<&Row>, key: &RowKey, row: &R
                 district,
                 ..
             },
-            Row::Order(row),
+            RowRef::Order(row),
         ) => {
             has_district(catalog, *warehouse, *district)
                 && has_customer(catalog, *warehouse, *district, row.customer)
         }
-        (RowKey::NewOrder { .. }, _) => order.is_some(),
-        (RowKey::OrderLine { number, .. }, Row::OrderLine(row)) => {
-            has_line(order, *number) && has_stock(catalog, row.supply, row.item)
+        (
+            RowKey::NewOrder {
+                warehouse,
+                district,
+                order,
+            },
+            _,
+        ) => {
+            let order = RowKey::Order {
+                warehouse: *warehouse,
+                district: *district,
+                order: *order,
+            };
+            has_row(rows, &order)
         }
-        (RowKey::History { .. }, Row::History(row)) => has_payment(catalog, row),
+        (
+            RowKey::OrderLine {
+                warehouse,
+                district,
+                order,
+                number,
+            },
+            RowRef::OrderLine(row),
+        ) => {
+            has_line(rows.order(*warehouse, *district, *order), *number)
+                && has_stock(catalog, row.supply, row.item)
+        }
+        (RowKey::History { .. }, RowRef::History(row)) => has_payment(catalog, row),
         (
             RowKey::DistrictYtd {
                 warehouse,
@@ -178,27 +179,9 @@ fn row_has_parents(catalog: &Catalog, order: Option<&Row>, key: &RowKey, row: &R
     }
 }
 
-/// The order that a row belongs to, if any.
-fn order_of<'a>(rows: &'a [(RowKey, Row)], key: &RowKey, guess: &mut usize) -> Option<&'a Row>
-    requires { are_in_order row_key_cmp rows.now ≡ true }
-    ensures { option_copied result ≡ order_of (rows_in rows.now) key.now }
-{
-    let order = order_key(key)?;
-    found(rows, &order, guess)
-}
-
-fn has_row(rows: &[(RowKey, Row)], key: RowKey) -> bool
-    requires { are_in_order row_key_cmp rows.now ≡ true }
-    ensures { result ≡ has_row (rows_in rows.now) key }
-{
-    let mut guess = 0;
-    found(rows, &key, &mut guess).is_some()
-}
-
 /// Whether a district's two rows are there.
-fn has_own_rows(rows: &[(RowKey, Row)], key: &CardKey) -> bool
-    requires { are_in_order row_key_cmp rows.now ≡ true }
-    ensures { result ≡ has_own_rows (rows_in rows.now) key.now }
+fn has_own_rows(rows: &RowTables, key: &CardKey) -> bool
+    ensures { result ≡ has_own_rows rows.now key.now }
 {
     match *key {
         CardKey::District {
@@ -213,16 +196,15 @@ fn has_own_rows(rows: &[(RowKey, Row)], key: &CardKey) -> bool
                 warehouse,
                 district,
             };
-            has_row(rows, ytd) && has_row(rows, next)
+            has_row(rows, &ytd) && has_row(rows, &next)
         }
         _ => true,
     }
 }
 
 /// Whether the parents of all cards are there.
-fn cards_have_parents(catalog: &Catalog, rows: &[(RowKey, Row)]) -> bool
-    requires { are_in_order row_key_cmp rows.now ≡ true }
-    ensures { result ≡ list_all (card_has_parents (database catalog.now (rows_in rows.now))) (map.entries catalog.now) }
+fn cards_have_parents(catalog: &Catalog, rows: &RowTables) -> bool
+    ensures { result ≡ list_all (card_has_parents (database catalog.now rows.now)) (map.entries catalog.now) }
 {
     for (key, card) in catalog.cards() {
         let has_rows = has_own_rows(rows, key);
@@ -233,15 +215,13 @@ fn cards_have_parents(catalog: &Catalog, rows: &[(RowKey, Row)]) -> bool
     true
 }
 
-/// Whether the parents of all rows are there. Neighbouring rows mostly belong to the same order, or to neighbouring ones.
-fn rows_have_parents(catalog: &Catalog, rows: &[(RowKey, Row)]) -> bool
-    requires { are_in_order row_key_cmp rows.now ≡ true }
-    ensures { result ≡ list_all (row_has_parents (database catalog.now (rows_in rows.now))) rows.now }
+/// Whether the parents of all rows are there.
+fn rows_have_parents(catalog: &Catalog, rows: &RowTables) -> bool
+    ensures { result ≡ list_all (row_has_parents (database catalog.now rows.now)) (map.entries rows.now) }
 {
-    let mut guess = 0;
-    for (key, row) in rows {
-        let order = order_of(rows, key, &mut guess);
-        if !row_has_parents(catalog, order, key, row) {
+    let mut walk = rows.walk();
+    while let Some((key, row)) = walk.next() {
+        if !row_has_parents(catalog, rows, &key, row) {
             return false;
         }
     }
@@ -249,10 +229,9 @@ fn rows_have_parents(catalog: &Catalog, rows: &[(RowKey, Row)]) -> bool
 }
 
 /// Whether all parents are there.
-#[tactic(auto, using(crate::proofs::InOrder::entries_in), unfolding(crate::specs::Checks::parents_there))]
-pub(crate) fn parents_there(catalog: &Catalog, rows: &[(RowKey, Row)]) -> bool
-    requires { are_in_order row_key_cmp rows.now ≡ true }
-    ensures { result ≡ parents_there (database catalog.now (rows_in rows.now)) }
+#[tactic(auto, unfolding(crate::specs::Checks::parents_there))]
+pub(crate) fn parents_there(catalog: &Catalog, rows: &RowTables) -> bool
+    ensures { result ≡ parents_there (database catalog.now rows.now) }
 {
     cards_have_parents(catalog, rows) && rows_have_parents(catalog, rows)
 }

@@ -1,19 +1,19 @@
 //! Totals of each district's orders, new orders and order lines, accumulated row by row.
-ghost use Rattle.std.specs.Prelude.{◌≡◌, ◌<◌, ◌+◌, ◌*◌, ◌^◌, ◌+ℤ◌, max, min, pos, ℕ, length, replicate, IfNone, IfOk, IfSome, Some, true};
+ghost use Rattle.std.specs.Prelude.{◌≡◌, ◌<◌, ◌+◌, ◌*◌, ◌^◌, ◌+ℤ◌, max, min, pos, ℕ, length, replicate, IfNone, IfOk, IfSome, Some};
 ghost use Rattle.std.specs.Ordering.{int_eq};
 ghost use Rattle.records.specs.Fields.{IsWithin};
-ghost use Rattle.tpcc_rows.specs.Places.{are_in_order};
-ghost use Rattle.tpcc_rows.specs.RowMap.{Rows, row_key_cmp};
+ghost use Rattle.tpcc_rows.specs.References.{row_of};
+ghost use Rattle.tpcc_rows.specs.RowMap.{Rows};
 ghost use Rattle.image_checks.specs.Totals.{AreOfRows, AreTotals, AreTotalsOf, IsAdded, IsOfRows, both, district_totals, empty_totals, one_of, row_totals};
 ghost use Rattle.image_checks.specs.Districts.{are_without_gap, follows_on};
 ghost use Rattle.image_checks.specs.declared.totals.TheConstants.{INDEXES};
-ghost use Rattle.image_checks.specs.Sorted.{rows_in};
 
+use row_tables::store::RowTables;
 use std::alloc::Global;
 use tpcc_rows::id::{DistrictId, LineNumber, OrderId, WarehouseId};
 use tpcc_rows::key::RowKey;
 use tpcc_rows::memory::Memory;
-use tpcc_rows::row::Row;
+use tpcc_rows::row_ref::RowRef;
 
 /// Totals of a district's orders, new orders and order lines.
 #[derive(Clone, Copy)]
@@ -182,9 +182,9 @@ impl Totals {
 }
 
 /// The district of an order, a new order or an order line, and the totals of that row.
-fn row_totals(key: &RowKey, row: &Row) -> Option<(WarehouseId, DistrictId, Totals)>
-    ensures none { IfNone result ((w d : ℕ) → row_totals w d (key.now, row.now) ≡ empty_totals) }
-    ensures some { IfSome result (AreTotalsOf (key.now, row.now)) }
+fn row_totals(key: &RowKey, row: RowRef<'_>) -> Option<(WarehouseId, DistrictId, Totals)>
+    ensures none { IfNone result ((w d : ℕ) → row_totals w d (key.now, row_of row.entry) ≡ empty_totals) }
+    ensures some { IfSome result (AreTotalsOf (key.now, row_of row.entry)) }
     ensures small { IfSome result (λ found. IsOfRows 1 found.2) }
 {
     match (key, row) {
@@ -194,7 +194,7 @@ fn row_totals(key: &RowKey, row: &Row) -> Option<(WarehouseId, DistrictId, Total
                 district,
                 order,
             },
-            Row::Order(row),
+            RowRef::Order(row),
         ) => {
             let totals = Totals::of_order(*order, row.line_count);
             Some((*warehouse, *district, totals))
@@ -205,7 +205,7 @@ fn row_totals(key: &RowKey, row: &Row) -> Option<(WarehouseId, DistrictId, Total
                 district,
                 order,
             },
-            Row::NewOrder,
+            RowRef::NewOrder,
         ) => { Some((*warehouse, *district, Totals::of_new_order(*order))) }
         (
             RowKey::OrderLine {
@@ -213,17 +213,17 @@ fn row_totals(key: &RowKey, row: &Row) -> Option<(WarehouseId, DistrictId, Total
                 district,
                 ..
             },
-            Row::OrderLine(_),
+            RowRef::OrderLine(_),
         ) => { Some((*warehouse, *district, Totals::of_line())) }
         _ => None,
     }
 }
 
 /// Adds a row to the totals of its district.
-fn add_row(totals: &mut DistrictTotals, key: &RowKey, row: &Row)
+fn add_row(totals: &mut DistrictTotals, key: &RowKey, row: RowRef<'_>)
     requires { AreOfRows (2 ^ 63) totals.old.districts.items }
-    ensures totals { IsAdded totals.old.districts.items (key.now, row.now) totals.new.districts.items }
-    ensures small { (w d : ℕ) → IsOfRows 1 (row_totals w d (key.now, row.now)) }
+    ensures totals { IsAdded totals.old.districts.items (key.now, row_of row.entry) totals.new.districts.items }
+    ensures small { (w d : ℕ) → IsOfRows 1 (row_totals w d (key.now, row_of row.entry)) }
 {
     if let Some((warehouse, district, more)) = row_totals(key, row) {
         let i = index(warehouse, district);
@@ -232,13 +232,13 @@ fn add_row(totals: &mut DistrictTotals, key: &RowKey, row: &Row)
 }
 
 /// The totals of all districts.
-pub(crate) fn totals_of(alloc: Global, rows: &[(RowKey, Row)]) -> Result<DistrictTotals, Memory>
-    requires { are_in_order row_key_cmp rows.now ≡ true }
-    ensures { IfOk result (λ totals. AreTotals totals.districts.items (rows_in rows.now)) }
+pub(crate) fn totals_of(alloc: Global, rows: &RowTables) -> Result<DistrictTotals, Memory>
+    ensures { IfOk result (λ totals. AreTotals totals.districts.items rows.now) }
 {
     let mut totals = DistrictTotals::new(alloc)?;
-    for (key, row) in rows {
-        add_row(&mut totals, key, row);
+    let mut walk = rows.walk();
+    while let Some((key, row)) = walk.next() {
+        add_row(&mut totals, &key, row);
     }
     Ok(totals)
 }

@@ -4,7 +4,6 @@ pub mod Filled
 pub mod RecordLimits
 pub mod ImageLaws
 pub mod Sound
-pub mod PartLists
 pub mod Listing
 pub mod Sorting
-pub mod Putting
+pub mod Late

@@ -1,12 +1,12 @@
 -- A list of rows in any order and the set of its keys.
-use Rattle.std.proofs.Common.{◌≡◌, ◌<◌, ◌+◌, ℕ, zero, suc, Bool, true, false, cond, List, [], ◌∷◌, ◌++◌, Option, Some, length, get_or, take, is_some, refl, sym, ap, ◌∙◌, arith}
+use Rattle.std.proofs.Common.{◌≡◌, ◌+◌, Bool, true, false, cond, List, [], ◌∷◌, ◌++◌, Option, Some, is_some, refl, sym, ap, ◌∙◌}
 use Rattle.std.specs.BTreeSet.{BTreeSet, Updates, contains}
 use Rattle.std.specs.BTreeMap.{is_at}
 use Rattle.std.specs.Cmp.{eq_by_cmp_equiv}
 use Rattle.std.specs.FinMap.{empty, get, get-empty, get-insert, insert}
 use Rattle.std.specs.List.{list_all, list_any}
 use Rattle.std.specs.Ordering.{eq_by_cmp}
-use Rattle.loader.specs.AnyOrder.{listed}
+use Rattle.loader.specs.LateRows.{listed}
 use Rattle.tpcc_rows.specs.Changing.{with_each}
 use Rattle.tpcc_rows.specs.RowKinds.{fits}
 use Rattle.tpcc_rows.specs.RowMap.{Rows, row_key_cmp}
@@ -41,10 +41,3 @@ pushed-keys es e old new are more k =
 pub pushed-fits : (es : List (RowKey × Row)) (e : RowKey × Row) → list_all (λ row. fits row.0 row.1) es ≡ true → fits e.0 e.1 ≡ true → list_all (λ row. fits row.0 row.1) (es ++ e ∷ []) ≡ true
 pushed-fits [] e all fit = rw fit refl
 pushed-fits (d ∷ es) e all fit = rw (and-left (fits d.0 d.1) _ all, pushed-fits es e (and-right (fits d.0 d.1) _ all) fit) refl
-
--- the rows before the next one
-pub take-next : (n m : ℕ) (es : List (RowKey × Row)) (e : RowKey × Row) → m ≡ n + 1 → n < length es → e ≡ get_or es n e → take m es ≡ take n es ++ e ∷ []
-take-next n m [] e is lt at = absurd (omega (arith, lt))
-take-next n zero (d ∷ es) e is lt at = absurd (omega (arith, is))
-take-next zero (suc m) (d ∷ es) e is lt at = let none : m ≡ 0 = omega (arith, is) in rw none (ap (λ (x : RowKey × Row). x ∷ []) (sym at))
-take-next (suc n) (suc m) (d ∷ es) e is lt at = ap (λ (xs : List (RowKey × Row)). d ∷ xs) (take-next n m es e (omega (arith, is)) (omega (arith, lt)) at)

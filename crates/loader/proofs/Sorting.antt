@@ -8,7 +8,7 @@ use Rattle.std.specs.List.Sorted.{IsPermutation, IsStableByKey, ties}
 use Rattle.std.specs.Ordering.{eq_by_cmp, is_eq, is_lt, ordering_reverse}
 use Rattle.std.specs.declared.cmp.Ordering.{Ordering}
 use Rattle.std.specs.declared.cmp.Ordering.TheVariants.{Less, Equal, Greater}
-use Rattle.loader.specs.AnyOrder.{listed}
+use Rattle.loader.specs.LateRows.{listed}
 use Rattle.tpcc_rows.specs.Changing.{with_each}
 use Rattle.tpcc_rows.specs.RowKinds.{fits}
 use Rattle.tpcc_rows.specs.RowMap.{Rows, row_key_cmp}
@@ -18,11 +18,11 @@ use Rattle.tpcc_rows.specs.declared.row.Row.TheVariants as row
 use Rattle.tpcc_rows.proofs.Keys.{exact_keys, row_key_cmp_total}
 
 -- the row of the key's last entry
-abbrev last_of : RowKey → List (RowKey × Row) → Option Row → Option Row
+abbrev pub last_of : RowKey → List (RowKey × Row) → Option Row → Option Row
 last_of q [] was = was
 last_of q (e ∷ es) was = last_of q es (cond (eq_by_cmp row_key_cmp q e.0) (Some e.1) was)
 
-get-last : (es : List (RowKey × Row)) (rows : Rows) (q : RowKey) → get (with_each es rows) q ≡ last_of q es (get rows q)
+pub get-last : (es : List (RowKey × Row)) (rows : Rows) (q : RowKey) → get (with_each es rows) q ≡ last_of q es (get rows q)
 get-last [] rows q = refl
 get-last (e ∷ es) rows q = get-last es (insert rows e.0 e.1) q ∙ ap (last_of q es) (get-insert row_key_cmp_total rows e.0 e.1 q)
 

@@ -1,6 +1,5 @@
 pub mod Tables
 pub mod Image
-pub mod Parts
 pub mod Gathered
 pub mod Additions
-pub mod AnyOrder
+pub mod LateRows

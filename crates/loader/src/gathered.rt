@@ -1,93 +1,123 @@
 //! The rows of the records read so far.
-ghost use Rattle.std.specs.Prelude.{◌≡◌, IfOk, None, Ok, OnErr, OnOk, Some, is_some, true};
+ghost use Rattle.std.specs.Prelude.{◌≡◌, ◌<◌, IfOk, IsTrue, None, OnOk, is_some, true};
 ghost use Rattle.std.specs.FinMap as map;
-ghost use Rattle.loader.specs.Gathered.{gathered};
 ghost use Rattle.tpcc_rows.specs.RowKinds.{fits};
 
-use crate::any_order::AnyOrderRows;
-use crate::part_lists::PartLists;
+use crate::joining::joined;
+use crate::late_rows::LateRows;
 use crate::unpaged::UnpagedRows;
+use row_tables::boxed::boxed;
+use row_tables::store::RowTables;
 use std::alloc::Global;
-use std::mem;
+use std::marker::Model;
 use tpcc_rows::key::RowKey;
 use tpcc_rows::memory::Memory;
 use tpcc_rows::row::Row;
 
-/// The rows read so far.
+/// The number of kinds of rows.
+const KINDS: usize = 9;
+
+/// A finite map from keys to rows, each row of its key's kind. While the rows of a kind come in key order, as a stored image's do,
+/// they go to its tables. Late ones are kept apart, and join the others after the last record.
 #[derive(Drop)]
-pub(crate) enum Gathered {
-    /// Those of each part came in key order.
-    InOrder(PartLists),
-    AnyOrder(AnyOrderRows),
+pub(crate) struct Gathered {
+    /// Boxed, so that who holds it needn't be proved to drop each table.
+    tables: Box<RowTables>,
+    /// The last key of each kind in the tables.
+    last: [Option<RowKey>; KINDS],
+    late: LateRows,
+}
+
+impl Model for Gathered {
+    ghost use Rattle.loader.specs.LateRows.{AreGathered, over};
+    ghost use Rattle.tpcc_rows.specs.RowMap.{Rows, rows_code};
+
+    ghost Value = { Rows };
+
+    ghost coded = { rows_code };
+
+    ghost view = { λ s. over s.late s.tables.value };
+
+    ghost invariant = { λ s. AreGathered s.late s.tables.value };
+}
+
+/// The index of a key's kind.
+fn kind_of(key: &RowKey) -> usize
+    ensures { result < 9 }
+{
+    match key {
+        RowKey::Warehouse { .. } => 0,
+        RowKey::Customer { .. } => 1,
+        RowKey::Stock { .. } => 2,
+        RowKey::Order { .. } => 3,
+        RowKey::NewOrder { .. } => 4,
+        RowKey::OrderLine { .. } => 5,
+        RowKey::History { .. } => 6,
+        RowKey::DistrictYtd { .. } => 7,
+        RowKey::DistrictNext { .. } => 8,
+    }
+}
+
+/// Whether a key has neither a row in the tables nor a place behind the last one of its kind.
+fn has_to_wait(tables: &RowTables, key: &RowKey, behind: bool) -> bool
+    ensures { IsTrue result → map.get tables.now key.now ≡ None }
+{
+    !behind && tables.get(key).is_none()
 }
 
 impl Gathered {
     /// No rows.
     pub(crate) fn new(alloc: Global) -> Result<Gathered, Memory>
-        ensures { IfOk result (λ rows. gathered rows ≡ map.empty) }
+        ensures { IfOk result (λ rows. rows ≡ map.empty) }
     {
-        Ok(Gathered::InOrder(PartLists::new(alloc)?))
+        Ok(Gathered {
+            tables: boxed(alloc, RowTables::new(alloc)?)?,
+            last: [None; KINDS],
+            late: LateRows::new(alloc),
+        })
     }
 
-    /// The rows, ready for further ones in any order.
-    fn into_any_order(self, alloc: Global) -> Result<AnyOrderRows, Memory>
-        ensures { IfOk result (λ rows. rows ≡ gathered self) }
-    {
-        match self {
-            Gathered::InOrder(lists) => AnyOrderRows::of(
-                alloc,
-                lists.into_rows(alloc)?.into_list(),
-            ),
-            Gathered::AnyOrder(rows) => Ok(rows),
+    /// Whether the key is greater than the last one of its kind in the tables: whether its row can be put behind the others.
+    fn is_behind(&self, key: &RowKey) -> bool {
+        match &self.last[kind_of(key)] {
+            Some(last) => last.cmp(key).is_lt(),
+            None => true,
         }
     }
 
-    /// The rows in key order.
-    pub(crate) fn into_rows(self, alloc: Global) -> Result<UnpagedRows, Memory>
-        ensures { IfOk result (λ rows. rows ≡ gathered self) }
-    {
-        match self {
-            Gathered::InOrder(lists) => lists.into_rows(alloc),
-            Gathered::AnyOrder(rows) => rows.into_rows(alloc),
+    /// The last key of the key's kind once it has a row in the tables.
+    fn last_with(&self, key: &RowKey, behind: bool) -> Option<RowKey> {
+        if behind {
+            return Some(*key);
         }
+        self.last[kind_of(key)]
     }
 
-    /// Appends a row that comes in order, or hands it back.
-    pub(crate) fn push(&mut self, key: &RowKey, row: Row) -> Result<Option<Row>, Memory>
-        requires { fits key.now row ≡ true }
-        ensures fresh { result ≡ Ok None → map.get (gathered self.old) key.now ≡ None }
-        ensures taken { result ≡ Ok None → gathered self.new ≡ map.insert (gathered self.old) key.now row }
-        ensures back { IfOk result (λ back. is_some back ≡ true → (back ≡ Some row) × (gathered self.new ≡ gathered self.old)) }
-        ensures err { OnErr result (gathered self.new ≡ gathered self.old) }
-    {
-        match self {
-            Gathered::InOrder(lists) => lists.push(key, row),
-            Gathered::AnyOrder(_) => Ok(Some(row)),
-        }
-    }
-
-    /// Whether the key has a row.
-    pub(crate) fn has(&self, key: &RowKey) -> bool
-        ensures { result ≡ is_some (map.get (gathered self.now) key.now) }
-    {
-        match self {
-            Gathered::InOrder(lists) => lists.has(key),
-            Gathered::AnyOrder(rows) => rows.has(key),
-        }
-    }
-
-    /// Puts a row that comes out of order under its key. If an allocation fails, the other rows are lost.
-    pub(crate) fn insert(&mut self, alloc: Global, key: RowKey, row: Row) -> Result<(), Memory>
+    /// Puts a row under its key, and returns whether the key had one.
+    pub(crate) fn put(&mut self, key: RowKey, row: Row) -> Result<bool, Memory>
         requires { fits key row ≡ true }
-        ensures { OnOk result (gathered self.new ≡ map.insert (gathered self.old) key row) }
+        ensures value { IfOk result (λ had. had ≡ is_some (map.get self.old key)) }
+        ensures rows { OnOk result (self.new ≡ map.insert self.old key row) }
     {
-        if let Gathered::AnyOrder(rows) = self {
-            return rows.put(&key, row);
+        if self.late.has(&key) {
+            self.late.put(&key, row)?;
+            return Ok(true);
         }
-        let gathered = mem::replace(self, Gathered::AnyOrder(AnyOrderRows::new(alloc)));
-        let mut rows = gathered.into_any_order(alloc)?;
-        rows.put(&key, row)?;
-        *self = Gathered::AnyOrder(rows);
-        Ok(())
+        let behind = self.is_behind(&key);
+        if has_to_wait(&self.tables, &key, behind) {
+            self.late.put(&key, row)?;
+            return Ok(false);
+        }
+        self.last[kind_of(&key)] = self.last_with(&key, behind);
+        let was = self.tables.put(key, row)?;
+        Ok(was.is_some())
+    }
+
+    /// The rows, the late ones among the others.
+    pub(crate) fn into_rows(self, alloc: Global) -> Result<UnpagedRows, Memory>
+        ensures { IfOk result (λ rows. rows ≡ self) }
+    {
+        let tables = joined(alloc, self.tables, self.late.into_list())?;
+        Ok(UnpagedRows::of(tables))
     }
 }

@@ -5,7 +5,7 @@ ghost use Rattle.catalog.specs.CardKinds.{card_key};
 ghost use Rattle.catalog.specs.declared.builder.CatalogError.TheVariants as catalog_error;
 ghost use Rattle.catalog.specs.declared.card.CardKey.TheVariants as own_key;
 ghost use Rattle.image_records.specs.declared.image_record.ImageRecord.TheVariants as says;
-ghost use Rattle.loader.specs.Gathered.{gathered, gathered_database};
+ghost use Rattle.loader.specs.Gathered.{gathered_database};
 ghost use Rattle.loader.specs.Tables.{is_taken, no_tables, with_record};
 ghost use Rattle.tpcc_model.specs.Database.{database};
 ghost use Rattle.tpcc_rows.specs.RowKinds.{fits};
@@ -22,9 +22,7 @@ use tpcc_rows::key::RowKey;
 use tpcc_rows::memory::Memory;
 use tpcc_rows::row::{DistrictNextRow, DistrictYtdRow, Row};
 
-/// The cards and rows of the records read so far. While rows come in key order, but for those of the districts, as a stored
-/// image's do, they are kept in a list for each such part; from the first one out of order on, in one list beside the set of
-/// their keys.
+/// The cards and rows of the records read so far.
 #[derive(Drop)]
 pub struct GatheredTables {
     cards: CatalogBuilder,
@@ -44,29 +42,17 @@ impl GatheredTables {
         })
     }
 
-    /// Puts a row under its key.
-    fn put_row(&mut self, key: RowKey, row: Row) -> Result<(), Memory>
-        requires { fits key row ≡ true }
-        ensures cards { self.new.cards ≡ self.old.cards }
-        ensures rows { OnOk result (gathered self.new.rows ≡ map.insert (gathered self.old.rows) key row) }
-    {
-        if let Some(late) = self.rows.push(&key, row)? {
-            self.rows.insert(self.alloc, key, late)?;
-        }
-        Ok(())
-    }
-
     /// Adds a card and its row.
     fn add_both(&mut self, card: Card, key: RowKey, row: Row) -> Result<(), CatalogError>
         requires { fits key row ≡ true }
         ensures cards { OnOk result (self.new.cards ≡ map.insert self.old.cards (card_key card) card) }
-        ensures rows { OnOk result (gathered self.new.rows ≡ map.insert (gathered self.old.rows) key row) }
+        ensures rows { OnOk result (self.new.rows ≡ map.insert self.old.rows key row) }
         ensures fresh { OnOk result (map.get self.old.cards (card_key card) ≡ None) }
         ensures twice { IfErr result (λ e. e ≡ catalog_error.Twice
             → IsSome (map.get self.old.cards (card_key card))) }
     {
         self.cards.add(card)?;
-        self.put_row(key, row)?;
+        self.rows.put(key, row)?;
         Ok(())
     }
 
@@ -93,8 +79,8 @@ impl GatheredTables {
             district,
         };
         self.cards.add(Card::District(card))?;
-        self.put_row(ytd_key, Row::DistrictYtd(ytd))?;
-        self.put_row(next_key, Row::DistrictNext(next))?;
+        self.rows.put(ytd_key, Row::DistrictYtd(ytd))?;
+        self.rows.put(next_key, Row::DistrictNext(next))?;
         Ok(())
     }
 
@@ -102,17 +88,13 @@ impl GatheredTables {
     fn add_row(&mut self, key: RowKey, row: Row) -> Result<(), CatalogError>
         requires { fits key row ≡ true }
         ensures cards { self.new.cards ≡ self.old.cards }
-        ensures rows { OnOk result (gathered self.new.rows ≡ map.insert (gathered self.old.rows) key row) }
-        ensures fresh { OnOk result (map.get (gathered self.old.rows) key ≡ None) }
-        ensures twice { IfErr result (λ e. e ≡ catalog_error.Twice → IsSome (map.get (gathered self.old.rows) key)) }
+        ensures rows { OnOk result (self.new.rows ≡ map.insert self.old.rows key row) }
+        ensures fresh { OnOk result (map.get self.old.rows key ≡ None) }
+        ensures twice { IfErr result (λ e. e ≡ catalog_error.Twice → IsSome (map.get self.old.rows key)) }
     {
-        let Some(late) = self.rows.push(&key, row)? else {
-            return Ok(());
-        };
-        if self.rows.has(&key) {
+        if self.rows.put(key, row)? {
             return Err(CatalogError::Twice);
         }
-        self.rows.insert(self.alloc, key, late)?;
         Ok(())
     }
 

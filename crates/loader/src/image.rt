@@ -23,7 +23,7 @@ use tpcc_rows::memory::Memory;
 /// Maximum size of an image, in bytes.
 const MOST_BYTES: usize = 4_294_967_295;
 
-/// The cards and rows of an image. Its text is freed before the rows are joined into one list.
+/// The cards and rows of an image. Its text is freed before late rows join the others.
 #[inline(never)]
 fn read_text(alloc: Global, text: Vec<u8>) -> Result<(Catalog, UnpagedRows), LoadError>
     requires { length text.items ≤ most_bytes }

@@ -3,14 +3,13 @@
 #![tactic(auto)]
 
 mod addition;
-mod any_order;
 mod gathered;
 pub mod gathered_tables;
 mod image;
+mod joining;
+mod late_rows;
 pub mod laws;
-mod part_lists;
 mod reading;
-mod sorted_rows;
 pub mod unpaged;
 
 pub use gathered_tables::GatheredTables;

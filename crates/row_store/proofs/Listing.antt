@@ -1,23 +1,23 @@
 -- Ranks that stay listed.
-use Rattle.std.proofs.Common.{◌≡◌, ◌&&◌, ℕ, zero, suc, true, false, is_some, List, [], ◌∷◌, ◌++◌, take, drop, Option, Some, None, Result, refl, Ok, Err, inl, inr, sym, ap, subst, ◌∙◌, arith}
-use Rattle.std.proofs.lemmas.List.{reverse-append}
+use Rattle.std.proofs.Common.{◌≡◌, ◌⊎◌, ℕ, zero, suc, cond, true, false, is_some, List, [], ◌∷◌, ◌++◌, take, drop, Option, Some, None, Result, refl, Ok, Err, inl, inr, sym, ap, subst, ◌∙◌, arith}
 use Rattle.std.proofs.lemmas.List.Elements.{All-append, All-cons, All-drop, All-nil, All-take}
 use Rattle.std.specs.FinMap as map
-use Rattle.std.specs.FinMap.{get, get-empty, insert, remove}
-use Rattle.std.specs.List.{list_all, slice_get}
+use Rattle.std.specs.FinMap.{entries, find, get, get-empty, get-entries, insert, remove}
+use Rattle.std.specs.List.{slice_get}
 use Rattle.std.specs.Option.{unwrap_or}
-use Rattle.std.specs.Prelude.{⊤, All, reverse}
+use Rattle.std.specs.Prelude.{⊤, All}
 use Rattle.std.specs.Result.{OnOk, OnErr}
 use Rattle.serializability.specs.Changes.{apply, changed}
-use Rattle.std.specs.Ordering.{nat_cmp}
+use Rattle.std.specs.Ordering.{eq_by_cmp, nat_cmp}
+use Rattle.std.proofs.lemmas.Bool.{cases_Bool}
 use Rattle.rollback.specs.Pointed.{Pointed}
-use Rattle.row_store.specs.Leaves.{AreLeaves, AreListed, AreNewListed, IsListed}
+use Rattle.row_store.specs.Leaves.{AreLeaves, AreListed, AreNewListed, AreRanks, IsListed}
 use Rattle.row_tables.specs.Stored.{IsRank}
+use Rattle.row_tables.proofs.Keyed.{same_key}
 use Rattle.tables.specs.ByRank.{ByRank}
 use Rattle.tables.proofs.Tables.{rank_total, exact_ranks}
-use Rattle.tpcc_rows.specs.Changing.{IsMadeInPart, after, with_each}
+use Rattle.tpcc_rows.specs.Changing.{IsMadeInPart, after}
 use Rattle.tpcc_rows.specs.Ranks.{IsNumbered, rank}
-use Rattle.tpcc_rows.specs.RowKinds.{fits}
 use Rattle.tpcc_rows.specs.RowMap.{Changes, Rows, row_key_cmp}
 use Rattle.tpcc_rows.specs.declared.key.RowKey.{RowKey}
 use Rattle.tpcc_rows.specs.declared.row.Row.{Row}
@@ -156,38 +156,30 @@ module _ (ranks : ByRank ⊤) (a b : Pointed) (h : AreLeaves ranks a) where
         at-point (suc n) (p ∷ ps) hs e = at-point n ps (λ k d lt. hs (suc k) d (omega (arith, lt))) e
     leaves-back (Err e) n m rows points err = leaves-is err
 
--- ---- rows moved to a store one after the other
--- what is still to come, what has been put, and the ranks of its keys
-pub record IsFilling (all left : List (RowKey × Row)) (ranks : ByRank ⊤) (rows : Rows) : Type 0 where
-  pub whole : with_each left rows ≡ with_each all map.empty
-  pub fit : list_all (λ e. fits e.0 e.1) left ≡ true
-  pub keys : (r : ℕ) → is_some (get ranks r) ≡ true → IsRank r
-  pub listed : AreListed ranks rows
+-- ---- rows listed one after the other
+-- each row is still to come, or its rank is listed
+pub record IsListing (left : List (RowKey × Row)) (ranks : ByRank ⊤) (rows : Rows) : Type 0 where
+  pub keys : AreRanks ranks
+  pub listed : (key : RowKey) → is_some (get rows key) ≡ true → IsListed ranks key ⊎ (is_some (find row_key_cmp key left) ≡ true)
 
-pub filled-none : (all : List (RowKey × Row)) (ranks : ByRank ⊤) (rows : Rows) → list_all (λ e. fits e.0 e.1) all ≡ true → ranks ≡ map.empty → rows ≡ map.empty → IsFilling all all ranks rows
-filled-none all ranks rows fit none empty = record {
-  whole = ap (with_each all) empty;
-  fit = fit;
+pub listing-none : (left : List (RowKey × Row)) (ranks : ByRank ⊤) (rows : Rows) → left ≡ entries rows → ranks ≡ map.empty → IsListing left ranks rows
+listing-none left ranks rows all none = record {
   keys = no-ranks ranks none;
-  listed = listed-empty ranks rows empty;
+  listed = λ q there. inr (ap (λ es. is_some (find row_key_cmp q es)) all ∙ ap is_some (sym (get-entries rows q)) ∙ there);
 }
 
-module _ (all old left : List (RowKey × Row)) (k : RowKey) (x : Row) (steps : old ≡ (k, x) ∷ left) (ranks : ByRank ⊤) (rows : Rows) (h : IsFilling all old ranks rows) where
-  fit-all : (fits k x && list_all (λ e. fits e.0 e.1) left) ≡ true
-  fit-all = ap (list_all (λ e. fits e.0 e.1)) (sym steps) ∙ h.fit
-
-  pub filling-more : (next : ByRank ⊤) (rows2 : Rows) → IsNumbered k → next ≡ insert ranks (rank k) tt → rows2 ≡ insert rows k x → IsFilling all left next rows2
-  filling-more next rows2 numbered listed put = record {
-    whole = ap (with_each left) put ∙ ap (λ es. with_each es rows) (sym steps) ∙ h.whole;
-    fit = single.and-right (fits k x) (list_all (λ e. fits e.0 e.1) left) fit-all;
-    keys = subst (λ (m : ByRank ⊤). (r : ℕ) → is_some (get m r) ≡ true → IsRank r) (sym listed) (keys-more ranks k numbered h.keys);
-    listed = subst (λ (m : ByRank ⊤). AreListed m rows2) (sym listed) (subst (AreListed (insert ranks (rank k) tt)) (sym put)
-        (listed-insert (insert ranks (rank k) tt) rows k x (listed-now ranks k numbered) (listed-more ranks k numbered rows h.listed)));
-  }
-
--- the last of a list is the first of the reversed one
-pub last_first : (old new : List (RowKey × Row)) (k : RowKey) (x : Row) → old ≡ new ++ (k, x) ∷ [] → reverse old ≡ (k, x) ∷ reverse new
-last_first old new k x e = ap reverse e ∙ reverse-append new ((k, x) ∷ [])
+pub listing-more : (old left : List (RowKey × Row)) (k : RowKey) (x : Row) (ranks next : ByRank ⊤) (rows : Rows) → old ≡ (k, x) ∷ left → IsListing old ranks rows → IsNumbered k
+    → next ≡ insert ranks (rank k) tt → IsListing left next rows
+listing-more old left k x ranks next rows steps h numbered is = subst (λ (m : ByRank ⊤). IsListing left m rows) (sym is) (record {
+  keys = keys-more ranks k numbered h.keys;
+  listed = λ q there. elim (h.listed q there) [
+    | inl before ↦ inl (still-listed ranks k numbered q before)
+    | inr later ↦ elim (cases_Bool (eq_by_cmp row_key_cmp q k)) [
+      | inl same ↦ inl (subst (IsListed (insert ranks (rank k) tt)) (sym (same_key q k same)) (listed-now ranks k numbered))
+      | inr apart ↦ inr (sym (ap (λ b. is_some (cond b (Some x) (find row_key_cmp q left))) apart) ∙ ap (λ es. is_some (find row_key_cmp q es)) (sym steps) ∙ later)
+    ]
+  ];
+})
 
 pub leaves-none : (ranks : ByRank ⊤) (b : Pointed) → ((r : ℕ) → is_some (get ranks r) ≡ true → IsRank r) → AreListed ranks b.rows → b.points ≡ [] → AreLeaves ranks b
 leaves-none ranks b keys rows points = record { keys = keys; present = rows; before = subst (All (AreListed ranks)) (sym points) (All-nil (AreListed ranks)) }

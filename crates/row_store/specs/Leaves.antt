@@ -23,8 +23,12 @@ AreNewListed ranks (change ∷ changes) = (is_some change.1 ≡ true → IsListe
 pub record AreListed (ranks : ByRank ⊤) (rows : Rows) : Type 0 where
   pub listed : (key : RowKey) → is_some (map.get rows key) ≡ true → IsListed ranks key
 
+-- these are ranks of keys
+abbrev pub AreRanks : ByRank ⊤ → Type 0
+AreRanks ranks = (r : ℕ) → is_some (map.get ranks r) ≡ true → IsRank r
+
 -- these are ranks of keys, among them those of all keys that have a row, or had one at a point
 pub record AreLeaves (ranks : ByRank ⊤) (store : Pointed) : Type 0 where
-  pub keys : (r : ℕ) → is_some (map.get ranks r) ≡ true → IsRank r
+  pub keys : AreRanks ranks
   pub present : AreListed ranks store.rows
   pub before : All (AreListed ranks) store.points

@@ -2,13 +2,12 @@
 use Rattle.std.specs.Prelude.{ℕ, ⊤, List, map as each, Option, option_map, option_and_then}
 use Rattle.std.specs.FinMap as map
 use Rattle.std.specs.List.{filter_map}
+pub use Rattle.row_tables.specs.Parts.{lent}
 use Rattle.row_store.specs.declared.leaf_page.LeafPage.{LeafPage}
 use Rattle.tables.specs.Keys.{key_at}
-use Rattle.tpcc_rows.specs.References.{row_of}
 use Rattle.tpcc_rows.specs.RowMap.{Rows}
 use Rattle.tpcc_rows.specs.declared.key.RowKey.{RowKey}
 use Rattle.tpcc_rows.specs.declared.row.Row.{Row}
-use Rattle.tpcc_rows.specs.declared.row_ref.RowRef.{RowRef}
 
 -- the key and row of a rank, if there is one
 abbrev pub slot : Rows → ℕ × ⊤ → Option (RowKey × Row)
@@ -20,7 +19,3 @@ slots page = each (slot page.tables.now.rows) page.ranks.now
 -- the keys and rows of the slots that are filled
 abbrev pub filled : List (Option (RowKey × Row)) → List (RowKey × Row)
 filled ss = filter_map (λ s. s) ss
-
--- a key, and the row behind a reference
-abbrev pub lent : RowKey × RowRef → RowKey × Row
-lent e = (e.0, row_of e.1)

@@ -1,13 +1,12 @@
 //! Rows in tables and by leaf, the points to which they can go back, and the leaves on which they have changed.
 ghost use Rattle.std.specs.Prelude.{◌≡◌, ◌<◌, ◌≤◌, ◌+◌, ◌↔◌, [], ◌∷◌, ◌++◌, take, drop, IfOk, IfSome, IsErr, Some, OnOk, OnErr, is_some, length, option_map, slice_get, true};
 ghost use Rattle.std.specs.FinMap as map;
-ghost use Rattle.std.specs.List.{list_all};
 ghost use Rattle.serializability.specs.Changes.{changed};
 ghost use Rattle.rollback.specs.Marks.{AreClean, HasAlso, HasAlsoThose};
 ghost use Rattle.rollback.specs.Pointed.{KeepsCleanLeaves};
-ghost use Rattle.row_store.specs.Leaves.{AreLeaves, AreNewListed, IsListed};
+ghost use Rattle.row_store.specs.Leaves.{AreLeaves, AreListed, AreNewListed, AreRanks, IsListed};
 ghost use Rattle.row_store.specs.Slots.{filled, slots};
-ghost use Rattle.tpcc_rows.specs.Changing.{IsMadeInPart, after, new_row_fits, with_each};
+ghost use Rattle.tpcc_rows.specs.Changing.{IsMadeInPart, after, new_row_fits};
 ghost use Rattle.tpcc_rows.specs.Leaves.{leaf, page_rows};
 ghost use Rattle.tpcc_rows.specs.Ranks.{IsNumbered, rank};
 ghost use Rattle.tpcc_rows.specs.References.{row_of};
@@ -18,6 +17,7 @@ use crate::leaf_page::LeafPage;
 use pointed_tables::PointedTables;
 use pointed_tables::roomy::RoomyTables;
 use rollback::{Dirty, NoSuchPoint, POINTS, PointsFull};
+use row_tables::boxed::boxed;
 use row_tables::store::RowTables;
 use std::alloc::Global;
 use std::marker::Model;
@@ -30,9 +30,6 @@ use tpcc_rows::memory::Memory;
 use tpcc_rows::ranks::{rank, stock_rank};
 use tpcc_rows::row::Row;
 use tpcc_rows::row_ref::RowRef;
-
-/// After how many rows of a list the memory that they have left is freed.
-const PIECE: usize = 4096;
 
 /// Rows, points to which they can go back, and the set of the leaves on which they have changed since it was last taken.
 #[derive(Drop)]
@@ -149,13 +146,17 @@ fn read_lists(leaves: &Leaves, changes: &[(RowKey, Option<Row>)]) -> usize {
     sum
 }
 
-fn boxed(alloc: Global, tables: PointedTables) -> Result<Box<PointedTables>, Memory>
-    ensures { IfOk result (λ boxed. boxed.value ≡ tables) }
+/// The ranks of some rows, by leaf.
+fn leaves_of(alloc: Global, tables: &RowTables) -> Result<Leaves, Memory>
+    ensures keys { IfOk result (λ leaves. AreRanks leaves) }
+    ensures listed { IfOk result (λ leaves. AreListed leaves tables.now) }
 {
-    match Box::new(alloc, tables) {
-        Ok(boxed) => Ok(boxed),
-        Err(_) => Err(Memory),
+    let mut leaves = Leaves::new(alloc)?;
+    let mut walk = tables.walk();
+    while let Some((key, _)) = walk.next() {
+        list(&mut leaves, &key)?;
     }
+    Ok(leaves)
 }
 
 impl PointedStore {
@@ -165,31 +166,19 @@ impl PointedStore {
         ensures points { IfOk result (λ store. store.points ≡ []) }
         ensures clean { IfOk result (λ store. AreClean store.dirty) }
     {
-        PointedStore::from_rows(alloc, Vec::new(alloc))
+        PointedStore::from_tables(alloc, boxed(alloc, RowTables::new(alloc)?)?)
     }
 
-    /// The rows of a list, of which a later one replaces an earlier one of its key; there is no point, and no leaf is dirty. The
-    /// list is reversed, so that it can shrink from its end while the tables grow.
-    pub fn from_rows(alloc: Global, rows: Vec<(RowKey, Row)>) -> Result<PointedStore, Memory>
-        requires { list_all (λ row. fits row.0 row.1) rows.items ≡ true }
-        ensures rows { IfOk result (λ store. store.rows ≡ with_each rows.items map.empty) }
+    /// The rows of tables; there is no point, and no leaf is dirty.
+    pub fn from_tables(alloc: Global, tables: Box<RowTables>) -> Result<PointedStore, Memory>
+        ensures rows { IfOk result (λ store. store.rows ≡ tables.value) }
         ensures points { IfOk result (λ store. store.points ≡ []) }
         ensures clean { IfOk result (λ store. AreClean store.dirty) }
     {
-        let mut tables = RowTables::new(alloc)?;
-        let mut leaves = Leaves::new(alloc)?;
-        let mut left = rows;
-        left.reverse();
-        while let Some((key, row)) = left.pop() {
-            list(&mut leaves, &key)?;
-            tables.put(key, row)?;
-            if left.len() % PIECE == 0 {
-                left.shrink_to_fit();
-            }
-        }
-        let tables = boxed(alloc, PointedTables::new(alloc, tables))?;
+        let leaves = leaves_of(alloc, &tables)?;
+        let pointed = PointedTables::new(alloc, Box::into_inner(tables));
         Ok(PointedStore {
-            tables,
+            tables: boxed(alloc, pointed)?,
             leaves,
             prefetched: 0,
         })

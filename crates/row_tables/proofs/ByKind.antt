@@ -57,7 +57,7 @@ module _ {X : Type 0} (make : X → Row) where
   sorted-each [] = refl
   sorted-each (e ∷ es) = ap (λ b. b && is_sorted nat_cmp (each (λ e. (e.0, make e.1)) es)) (below-each e.0 es) ∙ ap (λ b. below_all nat_cmp e.0 es && b) (sorted-each es)
 
-  entries-typed : (t : ByRank X) → entries (typed make t) ≡ each (λ e. (e.0, make e.1)) (entries t)
+  pub entries-typed : (t : ByRank X) → entries (typed make t) ≡ each (λ e. (e.0, make e.1)) (entries t)
   entries-typed t = same_entries nat_cmp rank_total exact_ranks _ _ (entries_sorted (typed make t)) (subst T (sym (sorted-each (entries t))) (entries_sorted t))
       (λ q. sym (get-entries (typed make t) q) ∙ get-typed t q ∙ ap (option_map make) (get-entries t q) ∙ sym (find-each (entries t) q))
 

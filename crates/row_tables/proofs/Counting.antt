@@ -65,7 +65,7 @@ module _ (m : RankRows) (h : AreKept m) where
       omega (arith, is, low, high)
 
   -- no more rows than ranks
-  few : len m ≤ 2 ^ 60
+  pub few : len m ≤ 2 ^ 60
   few =
       let most : length (entries m) + 0 ≤ 2 ^ 60 = within (2 ^ 60) 0 (entries m) (entries_sorted m) (λ r x there. (omega arith, small r x (get-entries m r ∙ there))) (omega arith) in
       let same : len m ≡ length (entries m) = len-entries m in

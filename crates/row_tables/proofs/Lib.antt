@@ -3,3 +3,4 @@ pub mod Keyed
 pub mod NewNumbers
 pub mod Counting
 pub mod OrderNumbers
+pub mod Parts

@@ -3,3 +3,5 @@ pub mod Kinds
 pub mod Stored
 pub mod NewRows
 pub mod LastOrders
+pub mod Parts
+pub mod Walks

@@ -1,8 +1,9 @@
 //! A table for each kind of row.
-ghost use Rattle.std.specs.Prelude.{◌≡◌, IfOk, None, OnErr, OnOk, cond, is_some, option_copied, option_map, unwrap_or};
+ghost use Rattle.std.specs.Prelude.{◌≡◌, ◌/◌, ◌%◌, ◌*◌, ◌<◌, IfOk, None, OnErr, OnOk, cond, is_some, option_copied, option_map, slice_get, unwrap_or};
 ghost use Rattle.std.specs.FinMap as map;
 ghost use Rattle.row_tables.specs.Kinds.{table_of, table_of_row};
 ghost use Rattle.row_tables.specs.LastOrders.{as_orders, order_rows};
+ghost use Rattle.row_tables.specs.Parts.{ranks_in};
 ghost use Rattle.row_tables.specs.NewRows.{as_rows, new_rows};
 ghost use Rattle.tables.specs.Shelves.{place_of};
 ghost use Rattle.tpcc_rows.specs.References.{row_of};
@@ -51,6 +52,24 @@ impl Model for KindTables {
     ghost view = { λ s. union (kinds s.warehouses s.customers s.stocks s.orders s.new_orders s.lines s.history s.ytds s.nexts) };
 
     ghost invariant = { λ s. AreByKind (kinds s.warehouses s.customers s.stocks s.orders s.new_orders s.lines s.history s.ytds s.nexts) };
+}
+
+/// The number of parts of a kind: one for each warehouse and district.
+pub(crate) const PLACES: usize = 2048;
+
+/// The least rank of a part's warehouse and district, without its kind.
+fn first_rank(part: usize) -> u64
+    ensures { place_of result ≡ part % 2048 }
+{
+    (part % PLACES) as u64 * 268_435_456
+}
+
+/// The entry at a place, if there is one.
+fn nth<R>(entries: &[(u64, R)], n: usize) -> Option<(u64, &R)>
+    ensures { option_map (λ e. (e.0, e.1.now)) result ≡ slice_get entries.now n }
+{
+    let (rank, row) = entries.get(n)?;
+    Some((*rank, row))
 }
 
 impl KindTables {
@@ -179,6 +198,126 @@ impl KindTables {
             8 => {
                 let place = self.payments.guess(rank);
                 Some(RowRef::History(self.history.row_at(place)?))
+            }
+            _ => None,
+        }
+    }
+
+    /// The n-th row of a part of this kind, by rank, with its rank.
+    fn nth_warehouse(&self, part: usize, n: usize) -> Option<(u64, &WarehouseRow)>
+        requires { part / 2048 ≡ 0 }
+        ensures { option_map (λ e. (e.0, Warehouse e.1.now)) result ≡ slice_get (map.entries (ranks_in self.now part)) n }
+    {
+        nth(self.warehouses.slice_at(first_rank(part)), n)
+    }
+
+    /// The n-th row of a part of this kind, by rank, with its rank.
+    fn nth_customer(&self, part: usize, n: usize) -> Option<(u64, &CustomerRow)>
+        requires { part / 2048 ≡ 1 }
+        ensures { option_map (λ e. (e.0, Customer e.1.now)) result ≡ slice_get (map.entries (ranks_in self.now part)) n }
+    {
+        nth(self.customers.slice_at(first_rank(part)), n)
+    }
+
+    /// The n-th row of a part of this kind, by rank, with its rank.
+    fn nth_stock(&self, part: usize, n: usize) -> Option<(u64, &StockRow)>
+        requires { part / 2048 ≡ 2 }
+        ensures { option_map (λ e. (e.0, Stock e.1.now)) result ≡ slice_get (map.entries (ranks_in self.now part)) n }
+    {
+        nth(self.stocks.slice_at(first_rank(part)), n)
+    }
+
+    /// The n-th row of a part of this kind, by rank, with its rank.
+    fn nth_order(&self, part: usize, n: usize) -> Option<(u64, &OrderRow)>
+        requires { part / 2048 ≡ 3 }
+        ensures { option_map (λ e. (e.0, Order e.1.now)) result ≡ slice_get (map.entries (ranks_in self.now part)) n }
+    {
+        nth(self.orders.slice_at(first_rank(part)), n)
+    }
+
+    /// The n-th row of a part of this kind, by rank, with its rank.
+    fn nth_new_order(&self, part: usize, n: usize) -> Option<(u64, &())>
+        requires { part / 2048 ≡ 4 }
+        ensures { option_map (λ e. (e.0, NewOrder)) result ≡ slice_get (map.entries (ranks_in self.now part)) n }
+    {
+        nth(self.new_orders.slice_at(first_rank(part)), n)
+    }
+
+    /// The n-th row of a part of this kind, by rank, with its rank.
+    fn nth_order_line(&self, part: usize, n: usize) -> Option<(u64, &OrderLineRow)>
+        requires { part / 2048 ≡ 5 }
+        ensures { option_map (λ e. (e.0, OrderLine e.1.now)) result ≡ slice_get (map.entries (ranks_in self.now part)) n }
+    {
+        nth(self.lines.slice_at(first_rank(part)), n)
+    }
+
+    /// The n-th row of a part of this kind, by rank, with its rank.
+    fn nth_history(&self, part: usize, n: usize) -> Option<(u64, &HistoryRow)>
+        requires { part / 2048 ≡ 6 }
+        ensures { option_map (λ e. (e.0, History e.1.now)) result ≡ slice_get (map.entries (ranks_in self.now part)) n }
+    {
+        if part % PLACES != 0 {
+            return None;
+        }
+        nth(self.history.as_slice(), n)
+    }
+
+    /// The n-th row of a part of this kind, by rank, with its rank.
+    fn nth_district_ytd(&self, part: usize, n: usize) -> Option<(u64, &DistrictYtdRow)>
+        requires { part / 2048 ≡ 7 }
+        ensures { option_map (λ e. (e.0, DistrictYtd e.1.now)) result ≡ slice_get (map.entries (ranks_in self.now part)) n }
+    {
+        nth(self.ytds.slice_at(first_rank(part)), n)
+    }
+
+    /// The n-th row of a part of this kind, by rank, with its rank.
+    fn nth_district_next(&self, part: usize, n: usize) -> Option<(u64, &DistrictNextRow)>
+        requires { part / 2048 ≡ 8 }
+        ensures { option_map (λ e. (e.0, DistrictNext e.1.now)) result ≡ slice_get (map.entries (ranks_in self.now part)) n }
+    {
+        nth(self.nexts.slice_at(first_rank(part)), n)
+    }
+
+    /// The n-th row of a part, by rank, with its rank. The rows of a kind are a part for each warehouse and district, the payments one.
+    pub fn nth(&self, part: usize, n: usize) -> Option<(u64, RowRef<'_>)>
+        ensures { option_map (λ e. (e.0, row_of e.1)) result ≡ slice_get (map.entries (ranks_in self.now part)) n }
+    {
+        match part / PLACES {
+            0 => {
+                let (rank, row) = self.nth_warehouse(part, n)?;
+                Some((rank, RowRef::Warehouse(row)))
+            }
+            1 => {
+                let (rank, row) = self.nth_customer(part, n)?;
+                Some((rank, RowRef::Customer(row)))
+            }
+            2 => {
+                let (rank, row) = self.nth_stock(part, n)?;
+                Some((rank, RowRef::Stock(row)))
+            }
+            3 => {
+                let (rank, row) = self.nth_order(part, n)?;
+                Some((rank, RowRef::Order(row)))
+            }
+            4 => {
+                let (rank, _) = self.nth_new_order(part, n)?;
+                Some((rank, RowRef::NewOrder))
+            }
+            5 => {
+                let (rank, row) = self.nth_order_line(part, n)?;
+                Some((rank, RowRef::OrderLine(row)))
+            }
+            6 => {
+                let (rank, row) = self.nth_history(part, n)?;
+                Some((rank, RowRef::History(row)))
+            }
+            7 => {
+                let (rank, row) = self.nth_district_ytd(part, n)?;
+                Some((rank, RowRef::DistrictYtd(row)))
+            }
+            8 => {
+                let (rank, row) = self.nth_district_next(part, n)?;
+                Some((rank, RowRef::DistrictNext(row)))
             }
             _ => None,
         }

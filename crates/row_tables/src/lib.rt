@@ -1,5 +1,7 @@
 //! The rows of a database, in a table for each kind.
 #![tactic(auto)]
 
+pub mod boxed;
 pub mod kinds;
 pub mod store;
+pub mod walk;

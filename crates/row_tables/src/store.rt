@@ -1,8 +1,11 @@
 //! The rows of a database by key.
 ghost use Rattle.std.specs.Prelude.{◌≡◌, ◌+◌, ◌-◌, ◌<◌, ◌^◌, cond, IfOk, IfSome, None, OnErr, OnOk, is_some, length, option_and_then, option_copied, option_map, slice_get, true, unwrap_or};
 ghost use Rattle.std.specs.FinMap as map;
+ghost use Rattle.std.specs.List.{filter};
 ghost use Rattle.serializability.specs.Changes.{changed};
 ghost use Rattle.row_tables.specs.LastOrders.{last_of};
+ghost use Rattle.row_tables.specs.Parts.{AreInParts, is_of_table, lent, part_rows, rows_between};
+ghost use Rattle.row_tables.specs.Walks.{left};
 ghost use Rattle.tables.specs.Keys.{order_of};
 ghost use Rattle.tpcc_rows.specs.Changing.{new_row_fits};
 ghost use Rattle.tpcc_rows.specs.Picks.{latest, new_pick, oldest, picked};
@@ -10,11 +13,12 @@ ghost use Rattle.tpcc_rows.specs.References.{row_of};
 ghost use Rattle.tpcc_rows.specs.RowKinds.{fits};
 ghost use Rattle.tpcc_rows.specs.Rows.{customer_row, district_next_row, district_ytd_row, order_line_row, order_row, stock_row, warehouse_row};
 
-use crate::kinds::KindTables;
+use crate::kinds::{KindTables, PLACES};
+use crate::walk::Walk;
 use std::alloc::Global;
 use std::marker::Model;
 use std::mem;
-use tables::keys::order_of;
+use tables::keys::{key_at, order_of};
 use tpcc_rows::id::{CustomerId, DistrictId, ItemId, LineNumber, OrderId, WarehouseId};
 use tpcc_rows::key::RowKey;
 use tpcc_rows::memory::Memory;
@@ -27,6 +31,9 @@ use tpcc_rows::row::{
     WarehouseRow,
 };
 use tpcc_rows::row_ref::RowRef;
+
+/// The number of parts: the rows of a kind and, but for payments, of a warehouse and district are one.
+const PARTS: usize = 9 * PLACES;
 
 /// A finite map from keys to rows, each of its key's kind and in that kind's table.
 #[derive(Drop)]
@@ -109,6 +116,65 @@ impl RowTables {
         ensures kind { IfSome (option_map row_of result) (λ row. fits key.now row ≡ true) }
     {
         self.tables.get(rank(key))
+    }
+
+    /// The n-th row of a part in key order, with its key.
+    pub(crate) fn nth(&self, part: usize, n: usize) -> Option<(RowKey, RowRef<'_>)>
+        ensures value { option_map lent result ≡ slice_get (part_rows self.now part) n }
+        ensures parts { AreInParts self.now }
+        ensures few { is_some result ≡ true → n + 1 < 2 ^ 64 }
+    {
+        let Some((rank, row)) = self.tables.nth(part, n) else {
+            return None;
+        };
+        let Some(key) = key_at(rank) else {
+            return None;
+        };
+        Some((key, row))
+    }
+
+    /// A walk through the parts from one up to another.
+    fn walk_between(&self, part: usize, end: usize) -> Walk<'_>
+        ensures left { left result ≡ rows_between self.now part end }
+        ensures parts { AreInParts self.now }
+    {
+        let _ = &self.tables;
+        Walk {
+            rows: self,
+            part,
+            next: 0,
+            end,
+        }
+    }
+
+    /// All rows, in key order.
+    pub fn walk(&self) -> Walk<'_>
+        ensures left { left result ≡ map.entries self.now }
+        ensures few { length (map.entries self.now) < 2 ^ 63 }
+    {
+        self.walk_between(0, PARTS)
+    }
+
+    /// The rows of the warehouses, in key order.
+    pub fn warehouses(&self) -> Walk<'_>
+        ensures { left result ≡ filter (is_of_table 0) (map.entries self.now) }
+    {
+        self.walk_between(0, PLACES)
+    }
+
+    /// The rows of D_YTD, in key order.
+    pub fn district_ytds(&self) -> Walk<'_>
+        ensures left { left result ≡ filter (is_of_table 7) (map.entries self.now) }
+        ensures few { length (map.entries self.now) < 2 ^ 63 }
+    {
+        self.walk_between(7 * PLACES, 8 * PLACES)
+    }
+
+    /// The rows of D_NEXT_O_ID, in key order.
+    pub fn district_nexts(&self) -> Walk<'_>
+        ensures { left result ≡ filter (is_of_table 8) (map.entries self.now) }
+    {
+        self.walk_between(8 * PLACES, PARTS)
     }
 
     /// The row where the rank's is expected, which may be another's: a hint, on which nothing relies. It isn't read yet.

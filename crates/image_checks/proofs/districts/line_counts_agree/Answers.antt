@@ -1,14 +1,23 @@
-use Rattle.std.proofs.Common.{rules, ◌∙◌}
-use Rattle.std.proofs.lemmas.Iterator.{YieldsList-from_slice}
-use Rattle.std.proofs.lemmas.Iterator.Search.{all_from_yields_List}
+use Rattle.std.proofs.Common.{◌&&◌, ◌∙◌, ap, sym}
+use Rattle.std.specs.FinMap.{entries}
+use Rattle.std.specs.List.{list_all}
+use Rattle.row_tables.specs.Parts.{is_of_table}
+use Rattle.row_tables.specs.Walks.{left}
 use Rattle.image_checks.specs.Districts.{line_count_agrees, line_counts_agree}
-use Rattle.image_checks.specs.Sorted.{rows_in}
-use Rattle.image_checks.proofs.InOrder.{all_in}
+use Rattle.image_checks.proofs.OfKinds.{all-filter, of-lines}
 use Rattle.image_checks.proofs.districts.line_counts_agree.Goals as goal
+
+pub returns-then-not-line_count_agrees : goal.returns-then-not-line_count_agrees
+unfolding line_counts_agree
+returns-then-not-line_count_agrees c =
+    let rows = c.args.rows.now in
+    let agrees = line_count_agrees rows in
+    ap (λ b. b && list_all agrees (left c.next.new.self)) (c.if-not-line_count_agrees.ensures rows c.requires) ∙ ap (list_all agrees) (sym c.in-Some.ensures.some)
+    ∙ c.loop-key.invariant ∙ all-filter (is_of_table 8) agrees (of-lines rows) (entries rows)
 
 pub returns : goal.returns
 unfolding line_counts_agree
 returns c =
     let rows = c.args.rows.now in
-    let agrees = line_count_agrees (rows_in rows) in
-    all_from_yields_List agrees _ _ c.all.result c.all.ensures.ran (YieldsList-from_slice rows cc) (λ x b q k. search rules) ∙ all_in agrees rows c.requires.order
+    let agrees = line_count_agrees rows in
+    ap (list_all agrees) (sym c.in_default.ensures.none) ∙ c.loop-key.invariant ∙ all-filter (is_of_table 8) agrees (of-lines rows) (entries rows)

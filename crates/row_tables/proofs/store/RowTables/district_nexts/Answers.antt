@@ -1,0 +1,5 @@
+use Rattle.std.proofs.Common.{◌∙◌}
+use Rattle.row_tables.proofs.store.RowTables.district_nexts.Goals as goal
+
+pub returns : goal.returns
+returns c = c.walk_between.ensures.left ∙ c.walk_between.ensures.parts.of_table 8
