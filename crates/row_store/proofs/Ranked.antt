@@ -11,7 +11,6 @@ use Rattle.tpcc_rows.specs.Ranks.{IsNumbered, rank}
 use Rattle.tpcc_rows.specs.RowMap.{Rows, row_key_cmp}
 use Rattle.tpcc_rows.specs.declared.key.RowKey.{RowKey}
 use Rattle.tpcc_rows.specs.declared.row.Row.{Row}
-use Rattle.tpcc_rows.proofs.KeyRanks.{order_is_of_ranks}
 use Rattle.tpcc_rows.proofs.Keys.{row_key_cmp_total, exact_keys}
 use Rattle.tpcc_rows.proofs.Singles.{first, found_later, second, tied, ties_itself}
 use Rattle.tables.specs.ByRank.{ByRank}
@@ -22,6 +21,7 @@ use Rattle.tables.proofs.RankKeys.{key_at-rank, key_of-rank}
 use Rattle.tables.proofs.Shelved.{get-rows_at}
 use Rattle.tables.proofs.Tables.{rank_total, exact_ranks}
 use Rattle.row_tables.specs.Stored.{IsRank}
+use Rattle.row_tables.proofs.Counting.{same-order}
 use Rattle.row_tables.proofs.Keyed.{rank-back, rank-key, same_key}
 use Rattle.rollback.proofs.Paging.{get-page_rows}
 use Rattle.row_store.specs.Leaves.{AreListed}
@@ -37,14 +37,6 @@ ranks-found [] s h = tt
 ranks-found (e ∷ es) s h =
     let here : find nat_cmp e.0 (e ∷ es) ≡ Some e.1 = ap (λ b. cond b (Some e.1) (find nat_cmp e.0 es)) (ties_itself rank_total exact_ranks e.0) in
     (h e.0 e.1 here, ranks-found es (second (below_all nat_cmp e.0 es) (is_sorted nat_cmp es) s) (λ r x there. h r x (found_later rank_total exact_ranks e es r x s there)))
-
-numbered-of : (r : ℕ) → IsRank r → IsNumbered (key_of r)
-numbered-of r h = subst IsNumbered (sym (rank-key r h)) h.numbered
-
-same-order : (r s : ℕ) → IsRank r → IsRank s → row_key_cmp (key_of r) (key_of s) ≡ nat_cmp r s
-same-order r s h g =
-    order_is_of_ranks (key_of r) (key_of s) (numbered-of r h) (numbered-of s g)
-    ∙ ap (λ x. nat_cmp x (rank (key_of s))) (rank-back r h) ∙ ap (nat_cmp r) (rank-back s g)
 
 same_rank : (q r : ℕ) → eq_by_cmp nat_cmp q r ≡ true → q ≡ r
 same_rank q r t = exact_ranks q r (tied _ t)

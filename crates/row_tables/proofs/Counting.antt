@@ -75,7 +75,7 @@ module _ (m : RankRows) (h : AreKept m) where
 numbered-of : (r : ℕ) → IsRank r → IsNumbered (key_of r)
 numbered-of r h = subst IsNumbered (sym (rank-key r h)) h.numbered
 
-same-order : (r s : ℕ) → IsRank r → IsRank s → row_key_cmp (key_of r) (key_of s) ≡ nat_cmp r s
+pub same-order : (r s : ℕ) → IsRank r → IsRank s → row_key_cmp (key_of r) (key_of s) ≡ nat_cmp r s
 same-order r s h g =
     order_is_of_ranks (key_of r) (key_of s) (numbered-of r h) (numbered-of s g)
     ∙ ap (λ x. nat_cmp x (rank (key_of s))) (rank-back r h) ∙ ap (nat_cmp r) (rank-back s g)

@@ -6,11 +6,13 @@ ghost use Rattle.row_tables.specs.LastOrders.{as_orders, order_rows};
 ghost use Rattle.row_tables.specs.Parts.{ranks_in};
 ghost use Rattle.row_tables.specs.NewRows.{as_rows, new_rows};
 ghost use Rattle.tables.specs.Shelves.{place_of};
+ghost use Rattle.tables.specs.declared.keys.TheConstants.{PLACES};
 ghost use Rattle.tpcc_rows.specs.References.{row_of};
 ghost use Rattle.tpcc_rows.specs.declared.row.Row.TheVariants.{Customer, DistrictNext, DistrictYtd, History, NewOrder, Order, OrderLine, Stock, Warehouse};
 
 use std::alloc::Global;
 use std::marker::Model;
+use tables::keys::PLACES;
 use tables::shelf::Shelf;
 use tables::starts::{HistoryStarts, LineStarts};
 use tables::table::Table;
@@ -54,12 +56,9 @@ impl Model for KindTables {
     ghost invariant = { λ s. AreByKind (kinds s.warehouses s.customers s.stocks s.orders s.new_orders s.lines s.history s.ytds s.nexts) };
 }
 
-/// The number of parts of a kind: one for each warehouse and district.
-pub(crate) const PLACES: usize = 2048;
-
 /// The least rank of a part's warehouse and district, without its kind.
 fn first_rank(part: usize) -> u64
-    ensures { place_of result ≡ part % 2048 }
+    ensures { place_of result ≡ part % PLACES }
 {
     (part % PLACES) as u64 * 268_435_456
 }
@@ -205,7 +204,7 @@ impl KindTables {
 
     /// The n-th row of a part of this kind, by rank, with its rank.
     fn nth_warehouse(&self, part: usize, n: usize) -> Option<(u64, &WarehouseRow)>
-        requires { part / 2048 ≡ 0 }
+        requires { part / PLACES ≡ 0 }
         ensures { option_map (λ e. (e.0, Warehouse e.1.now)) result ≡ slice_get (map.entries (ranks_in self.now part)) n }
     {
         nth(self.warehouses.slice_at(first_rank(part)), n)
@@ -213,7 +212,7 @@ impl KindTables {
 
     /// The n-th row of a part of this kind, by rank, with its rank.
     fn nth_customer(&self, part: usize, n: usize) -> Option<(u64, &CustomerRow)>
-        requires { part / 2048 ≡ 1 }
+        requires { part / PLACES ≡ 1 }
         ensures { option_map (λ e. (e.0, Customer e.1.now)) result ≡ slice_get (map.entries (ranks_in self.now part)) n }
     {
         nth(self.customers.slice_at(first_rank(part)), n)
@@ -221,7 +220,7 @@ impl KindTables {
 
     /// The n-th row of a part of this kind, by rank, with its rank.
     fn nth_stock(&self, part: usize, n: usize) -> Option<(u64, &StockRow)>
-        requires { part / 2048 ≡ 2 }
+        requires { part / PLACES ≡ 2 }
         ensures { option_map (λ e. (e.0, Stock e.1.now)) result ≡ slice_get (map.entries (ranks_in self.now part)) n }
     {
         nth(self.stocks.slice_at(first_rank(part)), n)
@@ -229,7 +228,7 @@ impl KindTables {
 
     /// The n-th row of a part of this kind, by rank, with its rank.
     fn nth_order(&self, part: usize, n: usize) -> Option<(u64, &OrderRow)>
-        requires { part / 2048 ≡ 3 }
+        requires { part / PLACES ≡ 3 }
         ensures { option_map (λ e. (e.0, Order e.1.now)) result ≡ slice_get (map.entries (ranks_in self.now part)) n }
     {
         nth(self.orders.slice_at(first_rank(part)), n)
@@ -237,7 +236,7 @@ impl KindTables {
 
     /// The n-th row of a part of this kind, by rank, with its rank.
     fn nth_new_order(&self, part: usize, n: usize) -> Option<(u64, &())>
-        requires { part / 2048 ≡ 4 }
+        requires { part / PLACES ≡ 4 }
         ensures { option_map (λ e. (e.0, NewOrder)) result ≡ slice_get (map.entries (ranks_in self.now part)) n }
     {
         nth(self.new_orders.slice_at(first_rank(part)), n)
@@ -245,7 +244,7 @@ impl KindTables {
 
     /// The n-th row of a part of this kind, by rank, with its rank.
     fn nth_order_line(&self, part: usize, n: usize) -> Option<(u64, &OrderLineRow)>
-        requires { part / 2048 ≡ 5 }
+        requires { part / PLACES ≡ 5 }
         ensures { option_map (λ e. (e.0, OrderLine e.1.now)) result ≡ slice_get (map.entries (ranks_in self.now part)) n }
     {
         nth(self.lines.slice_at(first_rank(part)), n)
@@ -253,7 +252,7 @@ impl KindTables {
 
     /// The n-th row of a part of this kind, by rank, with its rank.
     fn nth_history(&self, part: usize, n: usize) -> Option<(u64, &HistoryRow)>
-        requires { part / 2048 ≡ 6 }
+        requires { part / PLACES ≡ 6 }
         ensures { option_map (λ e. (e.0, History e.1.now)) result ≡ slice_get (map.entries (ranks_in self.now part)) n }
     {
         if part % PLACES != 0 {
@@ -264,7 +263,7 @@ impl KindTables {
 
     /// The n-th row of a part of this kind, by rank, with its rank.
     fn nth_district_ytd(&self, part: usize, n: usize) -> Option<(u64, &DistrictYtdRow)>
-        requires { part / 2048 ≡ 7 }
+        requires { part / PLACES ≡ 7 }
         ensures { option_map (λ e. (e.0, DistrictYtd e.1.now)) result ≡ slice_get (map.entries (ranks_in self.now part)) n }
     {
         nth(self.ytds.slice_at(first_rank(part)), n)
@@ -272,7 +271,7 @@ impl KindTables {
 
     /// The n-th row of a part of this kind, by rank, with its rank.
     fn nth_district_next(&self, part: usize, n: usize) -> Option<(u64, &DistrictNextRow)>
-        requires { part / 2048 ≡ 8 }
+        requires { part / PLACES ≡ 8 }
         ensures { option_map (λ e. (e.0, DistrictNext e.1.now)) result ≡ slice_get (map.entries (ranks_in self.now part)) n }
     {
         nth(self.nexts.slice_at(first_rank(part)), n)

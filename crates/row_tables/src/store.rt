@@ -13,12 +13,12 @@ ghost use Rattle.tpcc_rows.specs.References.{row_of};
 ghost use Rattle.tpcc_rows.specs.RowKinds.{fits};
 ghost use Rattle.tpcc_rows.specs.Rows.{customer_row, district_next_row, district_ytd_row, order_line_row, order_row, stock_row, warehouse_row};
 
-use crate::kinds::{KindTables, PLACES};
+use crate::kinds::KindTables;
 use crate::walk::Walk;
 use std::alloc::Global;
 use std::marker::Model;
 use std::mem;
-use tables::keys::{key_at, order_of};
+use tables::keys::{PLACES, key_at, order_of};
 use tpcc_rows::id::{CustomerId, DistrictId, ItemId, LineNumber, OrderId, WarehouseId};
 use tpcc_rows::key::RowKey;
 use tpcc_rows::memory::Memory;

@@ -2,10 +2,11 @@
 use Rattle.std.specs.Prelude.{◌≡◌, ℕ, ◌/◌, ◌%◌, ◌^◌, eqb, false, List, [], ◌∷◌, ◌++◌, length, get_or, None}
 use Rattle.std.specs.FinMap as map
 use Rattle.tables.specs.ByRank.{ByRank}
+use Rattle.tables.specs.declared.keys.TheConstants.{PLACES}
 
 -- the place of a rank: its warehouse's and district's
 abbrev pub place_of : ℕ → ℕ
-place_of r = r / 2 ^ 28 % 2048
+place_of r = r / 2 ^ 28 % PLACES
 
 module _ {X : Type 0} where
   -- all entries, table after table

@@ -7,6 +7,9 @@ use tpcc_rows::id::{
 };
 use tpcc_rows::key::RowKey;
 
+/// The number of places of ranks, one for each warehouse and district.
+pub const PLACES: usize = 2048;
+
 fn warehouse_of(number: u64) -> Option<WarehouseId>
     ensures { result ≡ warehouse_of number }
 {

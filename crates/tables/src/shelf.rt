@@ -2,21 +2,20 @@
 ghost use Rattle.std.specs.Prelude.{◌≡◌, ◌<◌, IfOk, None, OnErr, OnOk, cond, is_some, option_copied, option_map, slice_get, unwrap_or};
 ghost use Rattle.std.specs.FinMap as map;
 ghost use Rattle.tables.specs.Shelves.{place_of, rows_at};
+ghost use Rattle.tables.specs.declared.keys.TheConstants.{PLACES};
 
+use crate::keys::PLACES;
 use crate::table::Table;
 use std::alloc::Global;
 use std::marker::Model;
 use tpcc_rows::memory::Memory;
 
-/// The number of tables.
-const PLACES: usize = 2048;
-
 /// The place of a rank's table: its warehouse's and district's.
-fn place_of(rank: u64) -> usize
+pub(crate) fn place_of(rank: u64) -> usize
     ensures value { result ≡ place_of rank }
-    ensures below { result < 2048 }
+    ensures below { result < PLACES }
 {
-    (rank / 268_435_456 % 2048) as usize
+    (rank / 268_435_456 % PLACES as u64) as usize
 }
 
 /// A finite map from ranks to rows, each in the table of its district.
@@ -28,6 +27,7 @@ pub struct Shelf<R> {
 impl<R> Model for Shelf<R> {
     ghost use Rattle.tables.specs.ByRank.{ByRank, by_rank_code};
     ghost use Rattle.tables.specs.Shelves.{IsShelf, place_of, union};
+    ghost use Rattle.tables.specs.declared.keys.TheConstants.{PLACES};
 
     ghost Value = { ByRank R };
 
@@ -35,7 +35,7 @@ impl<R> Model for Shelf<R> {
 
     ghost view = { λ s. union s.tables.items };
 
-    ghost invariant = { λ s. IsShelf 2048 place_of s.tables.items };
+    ghost invariant = { λ s. IsShelf PLACES place_of s.tables.items };
 }
 
 impl<R> Shelf<R> {
