@@ -2,3 +2,4 @@ pub mod Sums
 pub mod TotalsLemmas
 pub mod DistrictLemmas
 pub mod OfKinds
+pub mod ConditionLemmas

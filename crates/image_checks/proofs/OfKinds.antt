@@ -11,7 +11,8 @@ use Rattle.tpcc_rows.specs.declared.key.RowKey.TheVariants as key
 use Rattle.tpcc_rows.specs.declared.row.Row.{Row}
 use Rattle.row_tables.specs.Parts.{is_of_table}
 use Rattle.image_checks.specs.Checks.{ytd_agrees}
-use Rattle.image_checks.specs.Districts.{line_count_agrees, next_order_agrees, span_agrees}
+use Rattle.image_checks.specs.Districts.{conditions_at}
+use Rattle.image_checks.specs.declared.districts.OrderConditions.{OrderConditions}
 
 -- a test that all others pass
 pub all-filter : (p test : RowKey × Row → Bool) → ((e : RowKey × Row) → p e ≡ false → test e ≡ true) → (es : List (RowKey × Row)) → list_all test (filter p es) ≡ list_all test es
@@ -51,6 +52,9 @@ no-share w (key.OrderLine v d o n, x) h = refl
 no-share w (key.History n, x) h = refl
 no-share w (key.DistrictNext v d, x) h = refl
 
+abbrev pub all_hold : OrderConditions
+all_hold = record { next_order = true; new_orders = true; lines = true }
+
 module _ (rows : Rows) where
   pub no-warehouse : (e : RowKey × Row) → is_of_table 0 e ≡ false → ytd_agrees rows e ≡ true
   no-warehouse (key.Warehouse v, x) h = cc
@@ -63,39 +67,14 @@ module _ (rows : Rows) where
   no-warehouse (key.DistrictYtd v d, x) h = refl
   no-warehouse (key.DistrictNext v d, x) h = refl
 
-  -- the three tests of a district pass on all other rows
-  abbrev pub IsOfDistricts : (RowKey × Row → Bool) → Type 0
-  IsOfDistricts test = (e : RowKey × Row) → is_of_table 8 e ≡ false → test e ≡ true
-
-  pub of-next : IsOfDistricts (next_order_agrees rows)
-  of-next (key.DistrictNext v d, x) h = cc
-  of-next (key.Warehouse v, x) h = refl
-  of-next (key.Customer v d c, x) h = refl
-  of-next (key.Stock v i, x) h = refl
-  of-next (key.Order v d o, x) h = refl
-  of-next (key.NewOrder v d o, x) h = refl
-  of-next (key.OrderLine v d o n, x) h = refl
-  of-next (key.History n, x) h = refl
-  of-next (key.DistrictYtd v d, x) h = refl
-
-  pub of-span : IsOfDistricts (span_agrees rows)
-  of-span (key.DistrictNext v d, x) h = cc
-  of-span (key.Warehouse v, x) h = refl
-  of-span (key.Customer v d c, x) h = refl
-  of-span (key.Stock v i, x) h = refl
-  of-span (key.Order v d o, x) h = refl
-  of-span (key.NewOrder v d o, x) h = refl
-  of-span (key.OrderLine v d o n, x) h = refl
-  of-span (key.History n, x) h = refl
-  of-span (key.DistrictYtd v d, x) h = refl
-
-  pub of-lines : IsOfDistricts (line_count_agrees rows)
-  of-lines (key.DistrictNext v d, x) h = cc
-  of-lines (key.Warehouse v, x) h = refl
-  of-lines (key.Customer v d c, x) h = refl
-  of-lines (key.Stock v i, x) h = refl
-  of-lines (key.Order v d o, x) h = refl
-  of-lines (key.NewOrder v d o, x) h = refl
-  of-lines (key.OrderLine v d o n, x) h = refl
-  of-lines (key.History n, x) h = refl
-  of-lines (key.DistrictYtd v d, x) h = refl
+  -- the conditions of a district hold at all other rows
+  pub no-district : (e : RowKey × Row) → is_of_table 8 e ≡ false → conditions_at rows e ≡ all_hold
+  no-district (key.DistrictNext v d, x) h = cc
+  no-district (key.Warehouse v, x) h = refl
+  no-district (key.Customer v d c, x) h = refl
+  no-district (key.Stock v i, x) h = refl
+  no-district (key.Order v d o, x) h = refl
+  no-district (key.NewOrder v d o, x) h = refl
+  no-district (key.OrderLine v d o n, x) h = refl
+  no-district (key.History n, x) h = refl
+  no-district (key.DistrictYtd v d, x) h = refl

@@ -12,6 +12,7 @@ use Rattle.tpcc_rows.specs.declared.key.RowKey.{RowKey}
 use Rattle.tpcc_rows.specs.declared.key.RowKey.TheVariants as key
 use Rattle.tpcc_rows.specs.declared.row.Row.{Row}
 use Rattle.tpcc_rows.specs.declared.row.Row.TheVariants as row
+use Rattle.image_checks.specs.declared.districts.OrderConditions.{OrderConditions}
 
 -- the number of an order of the district
 abbrev pub district_order_pick : ℕ → ℕ → RowKey → Row → Option ℕ
@@ -60,3 +61,11 @@ spans_agree rows = list_all (span_agrees rows) (map.entries rows)
 
 unfoldable pub line_counts_agree : Rows → Bool
 line_counts_agree rows = list_all (line_count_agrees rows) (map.entries rows)
+
+-- the conditions that hold at a row
+abbrev pub conditions_at : Rows → RowKey × Row → OrderConditions
+conditions_at rows e = record { next_order = next_order_agrees rows e; new_orders = span_agrees rows e; lines = line_count_agrees rows e }
+
+-- the conditions that hold in both
+abbrev pub both_hold : OrderConditions → OrderConditions → OrderConditions
+both_hold a b = record { next_order = a.next_order && b.next_order; new_orders = a.new_orders && b.new_orders; lines = a.lines && b.lines }

@@ -9,7 +9,7 @@ ghost use Rattle.image_checks.specs.Checks.{AreSums, AreWithin, IsShare, checked
 ghost use Rattle.image_records.specs.Faults.{IsOfText, StopsBy};
 ghost use Rattle.tpcc_model.specs.Database.{database};
 
-use crate::districts::{line_counts_agree, next_orders_agree, spans_agree};
+use crate::districts::order_conditions;
 use crate::parents::parents_there;
 use crate::totals::totals_of;
 use catalog::Catalog;
@@ -107,13 +107,14 @@ pub fn check(alloc: Global, catalog: &Catalog, rows: &RowTables) -> Result<(), L
         return Err(LoadError::Inconsistent(1));
     }
     let totals = totals_of(alloc, rows)?;
-    if !next_orders_agree(&totals, rows) {
+    let orders = order_conditions(&totals, rows);
+    if !orders.next_order {
         return Err(LoadError::Inconsistent(2));
     }
-    if !spans_agree(&totals, rows) {
+    if !orders.new_orders {
         return Err(LoadError::Inconsistent(3));
     }
-    if !line_counts_agree(&totals, rows) {
+    if !orders.lines {
         return Err(LoadError::Inconsistent(4));
     }
     Ok(())

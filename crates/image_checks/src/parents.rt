@@ -1,11 +1,12 @@
 //! Checks that the parents of cards and rows are there.
-ghost use Rattle.std.specs.Prelude.{◌≡◌, ◌&&◌, option_copied};
+ghost use Rattle.std.specs.Prelude.{◌≡◌, ◌&&◌, ℕ, option_copied};
 ghost use Rattle.std.specs.FinMap as map;
 ghost use Rattle.std.specs.List.{list_all};
 ghost use Rattle.catalog.specs.declared.card.CardKey.TheVariants as card_key;
 ghost use Rattle.tpcc_rows.specs.Limits.{ten};
 ghost use Rattle.tpcc_rows.specs.References.{row_of};
 ghost use Rattle.tpcc_rows.specs.RowMap.{Rows};
+ghost use Rattle.tpcc_rows.specs.declared.key.RowKey.TheVariants as row_key;
 ghost use Rattle.image_checks.specs.Checks.{card_has_parents, has_line, has_own_rows, parents_there, row_has_parents};
 ghost use Rattle.image_records.specs.Databases.{has_card, has_row};
 ghost use Rattle.tpcc_model.specs.Database.{database};
@@ -13,9 +14,9 @@ ghost use Rattle.tpcc_model.specs.Database.{database};
 use catalog::Catalog;
 use catalog::card::{Card, CardKey};
 use row_tables::store::RowTables;
-use tpcc_rows::id::{CustomerId, DistrictId, ItemId, LineNumber, WarehouseId};
+use tpcc_rows::id::{CustomerId, DistrictId, ItemId, LineNumber, OrderId, WarehouseId};
 use tpcc_rows::key::RowKey;
-use tpcc_rows::row::{HistoryRow, OrderRow};
+use tpcc_rows::row::OrderRow;
 use tpcc_rows::row_ref::RowRef;
 
 fn has_card(catalog: &Catalog, key: CardKey) -> bool
@@ -104,77 +105,88 @@ fn has_line(order: Option<&OrderRow>, number: LineNumber) -> bool
     }
 }
 
-/// Whether a payment's customer, and the district where it was paid, are there.
-fn has_payment(catalog: &Catalog, row: &HistoryRow) -> bool
-    ensures { result ≡ (has_card catalog.now (card_key.Customer row.now.customer_warehouse row.now.customer_district row.now.customer)
-        && has_card catalog.now (card_key.District row.now.warehouse row.now.district)) }
+fn has_order(rows: &RowTables, warehouse: WarehouseId, district: DistrictId, order: OrderId) -> bool
+    ensures { result ≡ has_row rows.now (row_key.Order warehouse district order) }
 {
-    has_customer(
-        catalog,
-        row.customer_warehouse,
-        row.customer_district,
-        row.customer,
-    ) && has_district(catalog, row.warehouse, row.district)
+    let key = RowKey::Order {
+        warehouse,
+        district,
+        order,
+    };
+    has_row(rows, &key)
+}
+
+/// Whether an order's district and customer are there.
+fn order_has_parents(
+    catalog: &Catalog,
+    warehouse: WarehouseId,
+    district: DistrictId,
+    row: RowRef<'_>,
+) -> bool
+    ensures { (rows : Rows) (o : ℕ) → result ≡ row_has_parents (database catalog.now rows) (row_key.Order warehouse district o, row_of row.entry) }
+{
+    match row {
+        RowRef::Order(row) => {
+            has_district(catalog, warehouse, district)
+                && has_customer(catalog, warehouse, district, row.customer)
+        }
+        _ => true,
+    }
+}
+
+/// Whether a payment's customer, and the district where it was paid, are there.
+fn payment_has_parents(catalog: &Catalog, row: RowRef<'_>) -> bool
+    ensures { (rows : Rows) (n : ℕ) → result ≡ row_has_parents (database catalog.now rows) (row_key.History n, row_of row.entry) }
+{
+    match row {
+        RowRef::History(row) => {
+            has_customer(
+                catalog,
+                row.customer_warehouse,
+                row.customer_district,
+                row.customer,
+            ) && has_district(catalog, row.warehouse, row.district)
+        }
+        _ => true,
+    }
 }
 
 /// Whether a row's parents are there, apart from a card in its own record.
 fn row_has_parents(catalog: &Catalog, rows: &RowTables, key: &RowKey, row: RowRef<'_>) -> bool
     ensures { result ≡ row_has_parents (database catalog.now rows.now) (key.now, row_of row.entry) }
 {
-    match (key, row) {
-        (
-            RowKey::Order {
-                warehouse,
-                district,
-                ..
-            },
-            RowRef::Order(row),
-        ) => {
-            has_district(catalog, *warehouse, *district)
-                && has_customer(catalog, *warehouse, *district, row.customer)
+    match *key {
+        RowKey::Order {
+            warehouse,
+            district,
+            ..
+        } => order_has_parents(catalog, warehouse, district, row),
+        RowKey::NewOrder {
+            warehouse,
+            district,
+            order,
+        } => has_order(rows, warehouse, district, order),
+        RowKey::OrderLine {
+            warehouse,
+            district,
+            order,
+            number,
+        } => match row {
+            RowRef::OrderLine(row) => {
+                has_line(rows.order(warehouse, district, order), number)
+                    && has_stock(catalog, row.supply, row.item)
+            }
+            _ => true,
+        },
+        RowKey::History { .. } => payment_has_parents(catalog, row),
+        RowKey::DistrictYtd {
+            warehouse,
+            district,
         }
-        (
-            RowKey::NewOrder {
-                warehouse,
-                district,
-                order,
-            },
-            _,
-        ) => {
-            let order = RowKey::Order {
-                warehouse: *warehouse,
-                district: *district,
-                order: *order,
-            };
-            has_row(rows, &order)
-        }
-        (
-            RowKey::OrderLine {
-                warehouse,
-                district,
-                order,
-                number,
-            },
-            RowRef::OrderLine(row),
-        ) => {
-            has_line(rows.order(*warehouse, *district, *order), *number)
-                && has_stock(catalog, row.supply, row.item)
-        }
-        (RowKey::History { .. }, RowRef::History(row)) => has_payment(catalog, row),
-        (
-            RowKey::DistrictYtd {
-                warehouse,
-                district,
-            },
-            _,
-        )
-        | (
-            RowKey::DistrictNext {
-                warehouse,
-                district,
-            },
-            _,
-        ) => has_district(catalog, *warehouse, *district),
+        | RowKey::DistrictNext {
+            warehouse,
+            district,
+        } => has_district(catalog, warehouse, district),
         _ => true,
     }
 }

@@ -149,8 +149,8 @@ impl Totals {
     }
 
     /// Whether `next` is one more than the last order (or 1 without one), and than the last new order, if there is one.
-    pub(crate) fn goes_before(self, next: OrderId) -> bool
-        ensures { result ≡ follows_on next self.last_order self.last_new_order }
+    pub(crate) fn goes_before(&self, next: OrderId) -> bool
+        ensures { result ≡ follows_on next self.now.last_order self.now.last_new_order }
     {
         let last = next.number() - 1;
         if self.last_order.map_or(0, |order| order.number()) != last {
@@ -161,8 +161,8 @@ impl Totals {
     }
 
     /// Whether there are as many new orders as their numbers span.
-    pub(crate) fn has_no_gap(self) -> bool
-        ensures { result ≡ are_without_gap self.first_new_order self.last_new_order self.new_orders }
+    pub(crate) fn has_no_gap(&self) -> bool
+        ensures { result ≡ are_without_gap self.now.first_new_order self.now.last_new_order self.now.new_orders }
     {
         match (self.first_new_order, self.last_new_order) {
             (Some(first), Some(last)) => {
@@ -174,8 +174,8 @@ impl Totals {
     }
 
     /// Whether there are as many order lines as the orders' O_OL_CNT say.
-    pub(crate) fn has_all_lines(self) -> bool
-        ensures { result ≡ int_eq self.promised_lines self.lines }
+    pub(crate) fn has_all_lines(&self) -> bool
+        ensures { result ≡ int_eq self.now.promised_lines self.now.lines }
     {
         self.promised_lines == self.lines
     }
