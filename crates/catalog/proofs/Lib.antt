@@ -7,6 +7,7 @@ pub mod Keyed
 pub mod Late
 pub mod Middles
 pub mod NameOrders
+mod NumberedTexts
 pub mod Naming
 pub mod Packing
 pub mod Tables

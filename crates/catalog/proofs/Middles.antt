@@ -1,5 +1,5 @@
 -- The customer in the middle of those of one last name, by its place among the names in order.
-use Rattle.std.proofs.Common.{◌≡◌, ℕ, ◌+◌, ◌-◌, ◌/◌, ◌<◌, ◌≤◌, List, length, length-drop, drop, get_or, Bool, true, false, ◌&&◌, Some, None, refl, sym, ap, subst, ◌∙◌, inl, inr, arith, nat_eq, eq-eqb}
+use Rattle.std.proofs.Common.{◌≡◌, ℕ, ◌+◌, ◌-◌, ◌/◌, ◌<◌, ◌≤◌, List, length, length-drop, length-take-le, drop, take, get_or, Bool, true, false, ◌&&◌, Some, None, refl, sym, ap, subst, ◌∙◌, inl, inr, arith, nat_eq, eq-eqb}
 use Rattle.std.specs.Cmp.{first_so, second_so}
 use Rattle.std.specs.Cmp.Lexicographic.{slice_cmp}
 use Rattle.std.specs.List.{count_by, filter, find}
@@ -7,15 +7,15 @@ use Rattle.std.specs.List.Sorted.{IsPartitionPoint, IsPartitionedBy}
 use Rattle.std.specs.Option.{option_map}
 use Rattle.std.specs.Ordering.{eq_by_cmp, is_eq, is_lt, nat_cmp, ordering_then}
 use Rattle.std.specs.declared.cmp.Ordering.TheVariants.{Equal}
-use Rattle.std.proofs.lemmas.Bool.{cases_lt, true≢false}
-use Rattle.std.proofs.lemmas.List.{get_or_default, get_or-drop}
+use Rattle.std.proofs.lemmas.Bool.{cases_lt, false_from_ne_true, true≢false}
+use Rattle.std.proofs.lemmas.List.{get_or_default, get_or-drop, get_or-take}
 use Rattle.std.proofs.lemmas.Cmp.{tied_itself}
 use Rattle.std.proofs.lemmas.List.Sums.{length-filter}
 use Rattle.std.proofs.lemmas.Map.Views.{exact_unsigned_eq}
 use Rattle.catalog.specs.declared.card.CustomerCard.{CustomerCard}
 use Rattle.catalog.specs.declared.last_names.NamedCustomer.{NamedCustomer}
 use Rattle.catalog.specs.LastNames.{is_holder, is_middle, middle_of, stands_before}
-use Rattle.catalog.specs.NameOrder.{AreInOrder, Name, StandsAt, has_name, name_cmp, name_of, named, named_cmp}
+use Rattle.catalog.specs.NameOrder.{AreInOrder, EndsAt, Name, StandsAt, has_name, name_cmp, name_of, named, named_cmp}
 use Rattle.catalog.proofs.Counts.{count_by-filter, count_by-range, counted_at, find-filter, find-none, find-value, one_counted}
 use Rattle.catalog.proofs.NameOrders.{exact_named, exact_names, holder_ties, is_equal, less_not_equal, name_cmp_total, named_cmp_total, ordered, partitioned_at, partitioned_below, strictly}
 
@@ -119,6 +119,20 @@ module _ (cards : List CustomerCard) (names : List NamedCustomer) (are : AreInOr
       let there = exact_named _ _ (is_equal _ (at.passes x)) in
       let place = place_of at.place x at.within (sym (ap middle there) ∙ g) in
       ap (λ c. c.customer) (there ∙ ap (λ n. get_or names n x) place.1 ∙ sym is))
+
+-- where those who have the name come first, but not number n, the search among the first n answers for all
+pub ends_among_first : (t : Name) (names : List NamedCustomer) (n count : ℕ) → n < length names → ((d : NamedCustomer) → has_name t (get_or names n d) ≡ false) → count ≤ n
+    → EndsAt t (take n names) count → EndsAt t names count
+ends_among_first t names n count short past few ends parted =
+    let front : length (take n names) ≡ n = length-take-le n names (omega arith) in
+    let same : (i : ℕ) (d : NamedCustomer) → i < n → get_or (take n names) i d ≡ get_or names i d = λ i d below. get_or-take n names i d below in
+    let (first, rest) = ends (λ i j d rising below h. ap (has_name t) (same i d (omega arith)) ∙ parted i j d rising (omega arith) (sym (ap (has_name t) (same j d (omega arith))) ∙ h)) in (
+      (λ i d from below. sym (ap (has_name t) (same i d (omega arith))) ∙ first i d from below),
+      (λ i d from below. elim (cases_lt i n) [
+        | inl inside ↦ sym (ap (has_name t) (same i d inside)) ∙ rest i d from (omega arith)
+        | inr outside ↦ false_from_ne_true (has_name t (get_or names i d)) (λ h. true≢false (sym (parted n i d outside below h) ∙ past d))
+      ]),
+    )
 
 -- a search for the place where a name begins, and another from there on for how many have it
 module _ (cards : List CustomerCard) (names : List NamedCustomer) (are : AreInOrder cards names) (t : Name) (start : ℕ) (reached : start ≤ length names)

@@ -1,7 +1,7 @@
 -- The customers, sorted for the search by last name.
 use Rattle.std.specs.Prelude.{◌≡◌, ℕ, ◌+◌, ◌<◌, ◌≤◌, Bool, true, false, List, length, slice_index_or, count_by}
 use Rattle.std.specs.Cmp.Lexicographic.{slice_cmp}
-use Rattle.std.specs.List.Sorted.{IsSorted}
+use Rattle.std.specs.List.Sorted.{IsPartitionPoint, IsPartitionedBy, IsSorted}
 use Rattle.std.specs.Ordering.{eq_by_cmp, nat_cmp, ordering_then}
 use Rattle.std.specs.declared.cmp.Ordering.{Ordering}
 use Rattle.catalog.specs.declared.card.CustomerCard.{CustomerCard}
@@ -33,6 +33,10 @@ pub record AreInOrder (cards : List CustomerCard) (names : List NamedCustomer) :
 
 abbrev pub has_name : Name → NamedCustomer → Bool
 has_name t c = eq_by_cmp name_cmp (name_of c) t
+
+-- where all who have the name come first, they are exactly the first `count`
+abbrev pub EndsAt : Name → List NamedCustomer → ℕ → Type 0
+EndsAt t names count = IsPartitionedBy (has_name t) names → IsPartitionPoint (λ c. has_name t c ≡ true) (λ c. has_name t c ≡ false) names count
 
 -- exactly the `count` customers from `start` on have the name
 pub record StandsAt (names : List NamedCustomer) (t : Name) (start count : ℕ) : Type 0 where

@@ -1,9 +1,11 @@
 //! The customers by last name (TPC-C clauses 2.5.2.2 and 2.6.2.2).
 ghost use Rattle.std.specs.Prelude.{◌≡◌, ◌+◌, ◌≤◌, IfOk, List, filter, length, map as mapped, true};
+ghost use Rattle.std.specs.Cmp.Lexicographic.{slice_cmp};
+ghost use Rattle.std.specs.Ordering.{nat_cmp};
 ghost use Rattle.catalog.specs.CardMap.{AreKeyed, card_key_cmp, cards_in};
 ghost use Rattle.catalog.specs.declared.card.CustomerCard.{CustomerCard};
 ghost use Rattle.catalog.specs.LastNames.{customer_cards, customers_among, is_holder, middle_of};
-ghost use Rattle.catalog.specs.NameOrder.{AreInOrder, StandsAt, name_cmp, name_of, named, named_cmp};
+ghost use Rattle.catalog.specs.NameOrder.{AreInOrder, EndsAt, StandsAt, has_name, name_cmp, name_of, named, named_cmp};
 ghost use Rattle.tpcc_rows.specs.Places.{are_in_order};
 
 use crate::card::{Card, CardKey, CustomerCard};
@@ -13,6 +15,15 @@ use std::marker::Model;
 use tpcc_rows::id::{CustomerId, DistrictId, WarehouseId};
 use tpcc_rows::memory::Memory;
 use tpcc_rows::text::Text;
+
+/// The order of two texts, byte by byte.
+fn cmp_texts(one: &Text<16>, other: &Text<16>) -> Ordering
+    ensures { result ≡ slice_cmp nat_cmp one.now other.now }
+{
+    let (one, other) = (one.as_padded(), other.as_padded());
+    // Zeros fill up the arrays, and are less than any byte of a text.
+    u128::from_be_bytes(*one).cmp(&u128::from_be_bytes(*other))
+}
 
 /// A customer's names and number.
 #[derive(Drop)]
@@ -45,7 +56,13 @@ impl NamedCustomer {
             .warehouse
             .cmp(&warehouse)
             .then(self.district.cmp(&district));
-        place.then_with(|| self.last.as_bytes().cmp(last.as_bytes()))
+        place.then_with(|| cmp_texts(&self.last, last))
+    }
+
+    fn has_name(&self, warehouse: WarehouseId, district: DistrictId, last: &Text<16>) -> bool
+        ensures { result ≡ has_name (warehouse, district, last.now) self.now }
+    {
+        self.cmp_name(warehouse, district, last).is_eq()
     }
 
     // Then by C_FIRST and C_ID.
@@ -53,7 +70,7 @@ impl NamedCustomer {
         ensures { result ≡ named_cmp self.now other.now }
     {
         self.cmp_name(other.warehouse, other.district, &other.last)
-            .then_with(|| self.first.as_bytes().cmp(other.first.as_bytes()))
+            .then_with(|| cmp_texts(&self.first, &other.first))
             .then(self.customer.cmp(&other.customer))
     }
 }
@@ -68,6 +85,27 @@ fn named_customers(alloc: Global, cards: &[(CardKey, Card)]) -> Result<Vec<Named
         }
     }
     Ok(customers)
+}
+
+/// A last name mostly has fewer holders in a district, so the end of them is first searched for among so many customers.
+const FEW: usize = 16;
+
+/// The number of customers with this last name, all of whom come first.
+fn holders_in_front(
+    customers: &[NamedCustomer],
+    warehouse: WarehouseId,
+    district: DistrictId,
+    last: &Text<16>,
+) -> usize
+    ensures bound { result ≤ length customers.now }
+    ensures point { EndsAt (warehouse, district, last.now) customers.now result }
+{
+    if let Some(customer) = customers.get(FEW) {
+        if !customer.has_name(warehouse, district, last) {
+            return customers[..FEW].partition_point(|c| c.has_name(warehouse, district, last));
+        }
+    }
+    customers.partition_point(|c| c.has_name(warehouse, district, last))
 }
 
 /// The customers, sorted by warehouse, district, C_LAST, C_FIRST and C_ID.
@@ -111,8 +149,10 @@ impl LastNames {
             .customers
             .partition_point(|c| c.cmp_name(warehouse, district, last).is_lt());
         let from_start = &self.customers[start..];
-        let count = from_start.partition_point(|c| c.cmp_name(warehouse, district, last).is_eq());
-        (start, count)
+        (
+            start,
+            holders_in_front(from_start, warehouse, district, last),
+        )
     }
 
     /// Finds a customer of the district by last name.
