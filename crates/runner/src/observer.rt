@@ -8,7 +8,7 @@ use workers::{Gate, NoGate};
 pub enum Phase {
     /// Loading the image.
     Load,
-    /// Reading batches or commands, or waiting for them.
+    /// Reading batches or commands, or waiting for them, but for a batch that is read while another is served.
     Read,
     /// Executing a batch.
     Execute,

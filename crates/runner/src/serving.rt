@@ -70,36 +70,7 @@ fn pays_beside<R: Threads, G>(runtime: &Runtime<'_, R, G>, batch: &Batch) -> boo
         && available_parallelism(runtime.rt).map_or(1, NonZeroUsize::get) > 1
 }
 
-/// Serves a batch, and reads the next one meanwhile, on a new thread if one can be started.
-fn serve_beside<R: Threads + Sync, S: Sink, G: Observer>(
-    runtime: &Runtime<'_, R, G>,
-    executor: &mut Executor,
-    batch: &Batch,
-    sink: &mut S,
-    reader: &mut BatchReader<'_>,
-) -> (Result<Option<Batch>, ReadError>, Result<(), RunFault>)
-    requires alone { executor.old.earlier ≡ [] }
-    requires low { 1 ≤ executor.old.present.next }
-    requires few { length batch.now.requests ≤ MOST_REQUESTS }
-    requires count { S.failed sink.old < 2 ^ 63 }
-    ensures next { IsNext reader.old.left reader.new.left result.0 }
-    ensures served { IsServed executor.old executor.new batch.now (S.taken sink.old) (S.taken sink.new) result.1 }
-    ensures failures { S.failed sink.new ≡ S.failed sink.old + (if is_write result.1 then 1 else 0) }
-{
-    let alloc = runtime.alloc;
-    let mut read = || -> Result<Option<Batch>, ReadError>
-        ensures { IsNext reader.entry.now.left reader.exit.now.left result }
-    { reader.next_batch(alloc) };
-    let mut serve = || -> Result<(), RunFault>
-        requires { IsSync R.row × (executor.now.earlier ≡ []) × (1 ≤ executor.now.present.next) × (length batch.now.requests ≤ MOST_REQUESTS)
-            × (S.failed sink.now < 2 ^ 63) }
-        ensures { IsServed executor.entry.now executor.exit.now batch.entry.now (S.taken sink.entry.now) (S.taken sink.exit.now) result
-            × (S.failed sink.exit.now ≡ S.failed sink.entry.now + (if is_write result then 1 else 0)) }
-    { serve_batch(runtime, executor, batch, sink) };
-    join_mut(runtime.rt, &mut read, &mut serve)
-}
-
-/// Serves a batch, and reads the next one: meanwhile where that pays, else afterwards.
+/// Serves a batch, and reads the next one: meanwhile, on a new thread if one can be started, where that pays, else afterwards.
 fn serve_and_read<R: Threads + Sync, S: Sink, G: Observer>(
     runtime: &Runtime<'_, R, G>,
     executor: &mut Executor,
@@ -115,14 +86,24 @@ fn serve_and_read<R: Threads + Sync, S: Sink, G: Observer>(
     ensures served { IsServed executor.old executor.new batch.now (S.taken sink.old) (S.taken sink.new) result }
     ensures failures { S.failed sink.new ≡ S.failed sink.old + (if is_write result then 1 else 0) }
 {
-    if pays_beside(runtime, batch) {
-        let (next, served) = serve_beside(runtime, executor, batch, sink, reader);
-        served?;
-        return Ok(next);
+    if !pays_beside(runtime, batch) {
+        serve_batch(runtime, executor, batch, sink)?;
+        runtime.gate.begins(Phase::Read);
+        return Ok(reader.next_batch(runtime.alloc));
     }
-    serve_batch(runtime, executor, batch, sink)?;
-    runtime.gate.begins(Phase::Read);
-    Ok(reader.next_batch(runtime.alloc))
+    let alloc = runtime.alloc;
+    let mut read = || -> Result<Option<Batch>, ReadError>
+        ensures { IsNext reader.entry.now.left reader.exit.now.left result }
+    { reader.next_batch(alloc) };
+    let mut serve = || -> Result<(), RunFault>
+        requires { IsSync R.row × (executor.now.earlier ≡ []) × (1 ≤ executor.now.present.next) × (length batch.now.requests ≤ MOST_REQUESTS)
+            × (S.failed sink.now < 2 ^ 63) }
+        ensures { IsServed executor.entry.now executor.exit.now batch.entry.now (S.taken sink.entry.now) (S.taken sink.exit.now) result
+            × (S.failed sink.exit.now ≡ S.failed sink.entry.now + (if is_write result then 1 else 0)) }
+    { serve_batch(runtime, executor, batch, sink) };
+    let (next, served) = join_mut(runtime.rt, &mut read, &mut serve);
+    served?;
+    Ok(next)
 }
 
 /// Parses, executes, commits and writes the batches of a text. Returns the number of batches.
