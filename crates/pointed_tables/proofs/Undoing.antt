@@ -14,7 +14,7 @@ use Rattle.tpcc_rows.proofs.Keys.{row_key_cmp_total, exact_keys}
 use Rattle.tpcc_rows.proofs.Singles.{gone, here, tied}
 use Rattle.rollback.specs.Marks.{HasAlso, is_dirty}
 use Rattle.rollback.proofs.Marking.{or-left, or-right, page-changed}
-use Rattle.pointed_tables.specs.Logs.{AreOlds, KeepsOthers, Olds, needed, undone, wants}
+use Rattle.pointed_tables.specs.Logs.{AreOlds, KeepsOthers, LeadBack, Olds, needed, undone, wants}
 
 pub undone-more : (os : Olds) (o : RowKey × Option Row) (m : Rows) → undone (os ++ o ∷ []) m ≡ undone os (changed m o.0 o.1)
 undone-more [] o m = refl
@@ -56,6 +56,14 @@ wants-removed (Some y) m k = ap (λ (z : Option Row). cond (is_some z) 0 1) (gon
 pub wants-changed : (c o : Option Row) (m : Rows) (k : RowKey) → wants k o (changed m k c) ≡ cond (is_none c) (cond (is_some o) 1 0) 0
 wants-changed None o m k = wants-removed o m k
 wants-changed (Some x) o m k = wants-replaced o m k x
+
+-- a row that was put leads back to what its key had, without room
+pub back-put : (old new : Rows) (k : RowKey) (x : Row) (was : Option Row) → was ≡ get old k → new_row_fits k was ≡ true → new ≡ insert old k x → LeadBack ((k, was) ∷ []) 0 old new
+back-put old new k x was is fit e = record {
+  back = ap (λ (m : Rows). changed m k was) e ∙ ap (λ (o : Option Row). changed (insert old k x) k o) is ∙ changed-back old k (Some x);
+  fit = (fit, tt);
+  counted = (let none : wants k was new ≡ 0 = ap (λ (m : Rows). wants k was m) e ∙ wants-replaced was old k x in omega (arith, none));
+}
 
 -- ---- taking back
 -- what is left of a log leads back to the same rows

@@ -1,13 +1,16 @@
 //! A log of what keys had, by which changes are taken back.
-ghost use Rattle.std.specs.Prelude.{◌≡◌, ◌<◌, ◌≤◌, ◌+◌, ◌^◌, ◌++◌, [], IfOk, OnErr, OnOk, cond, is_some, length, vec_capacity, vec_len, true};
+ghost use Rattle.std.specs.Prelude.{◌≡◌, ◌<◌, ◌≤◌, ◌+◌, ◌^◌, ◌++◌, ◌∷◌, [], IfOk, OnErr, OnOk, cond, is_some, length, vec_capacity, vec_len, true};
+ghost use Rattle.std.specs.FinMap as map;
 ghost use Rattle.std.specs.List.{list_all};
 ghost use Rattle.tpcc_rows.specs.Changing.{change_fits};
 ghost use Rattle.tpcc_rows.specs.Leaves.{leaf};
+ghost use Rattle.tpcc_rows.specs.RowKinds.{fits};
 ghost use Rattle.rollback.specs.Marks.{HasAlso};
 ghost use Rattle.pointed_tables.specs.Logs.{AreMade, IsExchanged, IsLogOf, IsSame, IsStep, KeepsOthers, LeadBack, undone};
 
 use crate::roomy::RoomyTables;
 use rollback::Dirty;
+use row_tables::table_row::TableRow;
 use std::alloc::Global;
 use std::default::MadeWith;
 use tpcc_rows::codes::leaf;
@@ -81,6 +84,15 @@ impl Log {
         let Log { mut olds, removals } = later;
         let _ = self.olds.append(&mut olds);
         self.removals += removals;
+    }
+
+    /// Adds what a key had, for which there is room, before its row was inserted or replaced.
+    fn note(&mut self, key: RowKey, was: Option<Row>)
+        requires { vec_len self.old.olds + 1 ≤ vec_capacity self.old.olds }
+        ensures olds { self.new.olds.items ≡ self.old.olds.items ++ (key, was) ∷ [] }
+        ensures removals { self.new.removals ≡ self.old.removals }
+    {
+        self.olds.push_reserved((key, was));
     }
 }
 
@@ -163,6 +175,25 @@ pub(crate) fn exchange_noting(
     let made = later.len();
     log.append(later);
     made
+}
+
+/// Inserts or replaces the key's row, of whose kind it is, and notes what the key had.
+pub(crate) fn put_noting<R: TableRow>(
+    store: &mut RoomyTables,
+    key: &RowKey,
+    row: R,
+    log: &mut Log,
+) -> Result<(), Memory>
+    requires { fits key.now (R.row_of row) ≡ true }
+    ensures ok { OnOk result (store.new.rows ≡ map.insert store.old.rows key.now (R.row_of row)) }
+    ensures err { OnErr result (store.new ≡ store.old) }
+    ensures step { IsStep log.old log.new store.old.rows store.new.rows }
+    ensures room { log.new.removals + store.old.room ≡ log.old.removals + store.new.room }
+{
+    log.prepare(1)?;
+    let was = store.put_row(key, row)?;
+    log.note(*key, was);
+    Ok(())
 }
 
 /// Takes the changes of the log back, the newest first, without allocating. Their leaves are dirty from now on.

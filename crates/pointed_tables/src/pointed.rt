@@ -5,15 +5,17 @@ ghost use Rattle.std.specs.List.{list_all};
 ghost use Rattle.serializability.specs.Changes.{changed};
 ghost use Rattle.tpcc_rows.specs.Changing.{IsMadeInPart, after, change_fits, new_row_fits};
 ghost use Rattle.tpcc_rows.specs.Leaves.{leaf};
+ghost use Rattle.tpcc_rows.specs.RowKinds.{fits};
 ghost use Rattle.rollback.specs.Marks.{AreClean, HasAlso, HasAlsoThose};
 ghost use Rattle.rollback.specs.Pointed.{KeepsCleanLeaves};
 ghost use Rattle.pointed_tables.specs.Logs.{AreMade, IsPointed, points_of};
 
-use crate::log::{Log, exchange_all, exchange_noting, undo_all};
+use crate::log::{Log, exchange_all, exchange_noting, put_noting, undo_all};
 use crate::roomy::RoomyTables;
 use arrayvec::ArrayVec;
 use rollback::{Dirty, NoSuchPoint, POINTS, PointsFull};
 use row_tables::store::RowTables;
+use row_tables::table_row::TableRow;
 use std::alloc::Global;
 use std::marker::Model;
 use std::mem;
@@ -71,6 +73,27 @@ fn exchange_noting_newest(
     log.len()
 }
 
+/// Inserts or replaces the key's row, of whose kind it is, and notes what the key had in the newest log, if there is one.
+fn put_noting_newest<R: TableRow>(
+    store: &mut RoomyTables,
+    key: &RowKey,
+    row: R,
+    points: &mut [Log],
+) -> Result<(), Memory>
+    requires { fits key.now (R.row_of row) ≡ true }
+    ensures ok { OnOk result (store.new.rows ≡ map.insert store.old.rows key.now (R.row_of row)) }
+    ensures err { OnErr result (store.new ≡ store.old) }
+    ensures points { points_of points.new store.new.rows ≡ points_of points.old store.old.rows }
+    ensures pointed { IsPointed points.old store.old.rows store.old.room → IsPointed points.new store.new.rows store.new.room }
+{
+    let len = points.len();
+    if len > 0 {
+        return put_noting(store, key, row, &mut points[len - 1]);
+    }
+    store.put_row(key, row)?;
+    Ok(())
+}
+
 impl PointedTables {
     /// The rows of a store; there is no point, and no leaf is dirty.
     pub fn new(alloc: Global, tables: RowTables) -> PointedTables
@@ -118,6 +141,21 @@ impl PointedTables {
         if self.make(changes) == 0 {
             return Err(Memory);
         }
+        Ok(())
+    }
+
+    /// Inserts or replaces the key's row, of whose kind it is; its leaf is dirty from now on.
+    pub fn put_row<R: TableRow>(&mut self, key: &RowKey, row: R) -> Result<(), Memory>
+        requires { fits key.now (R.row_of row) ≡ true }
+        ensures rows { OnOk result (self.new.rows ≡ map.insert self.old.rows key.now (R.row_of row)) }
+        ensures dirty { OnOk result (HasAlso self.old.dirty (leaf key.now) self.new.dirty) }
+        ensures points { self.new.points ≡ self.old.points }
+        ensures err { OnErr result (self.new ≡ self.old) }
+        ensures clean { KeepsCleanLeaves self.old self.new }
+    {
+        let points = self.points.as_mut_slice();
+        put_noting_newest(&mut self.store, key, row, points)?;
+        self.dirty.add(leaf(key));
         Ok(())
     }
 

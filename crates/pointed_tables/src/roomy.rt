@@ -12,6 +12,7 @@ ghost use Rattle.pointed_tables.specs.Logs.{wants};
 use crate::aside::Aside;
 use crate::picks::{greatest_order, least_new};
 use row_tables::store::RowTables;
+use row_tables::table_row::TableRow;
 use std::alloc::Global;
 use std::marker::Model;
 use std::mem;
@@ -53,6 +54,16 @@ fn put_copy(tables: &mut RowTables, key: &RowKey, row: &Row) -> Result<(), Memor
     let copy = RowRef::of(row).copied()?;
     tables.put(*key, copy)?;
     Ok(())
+}
+
+/// A row of one kind as one of any kind.
+fn into_any<R: TableRow>(row: Option<R>) -> Option<Row>
+    ensures { result ≡ option_map R.row_of row }
+{
+    match row {
+        Some(row) => Some(row.into_row()),
+        None => None,
+    }
 }
 
 impl RoomyTables {
@@ -241,6 +252,22 @@ impl RoomyTables {
             return Ok(self.aside.put(key, row));
         }
         self.tables.put(key, row)
+    }
+
+    /// Inserts or replaces the key's row, of whose kind it is, and returns the old one.
+    pub fn put_row<R: TableRow>(&mut self, key: &RowKey, row: R) -> Result<Option<Row>, Memory>
+        requires { fits key.now (R.row_of row) ≡ true }
+        ensures value { IfOk result (λ was. was ≡ map.get self.old.rows key.now) }
+        ensures kind { IfOk result (λ was. new_row_fits key.now was ≡ true) }
+        ensures ok { OnOk result (self.new.rows ≡ map.insert self.old.rows key.now (R.row_of row)) }
+        ensures room { self.new.room ≡ self.old.room }
+        ensures err { OnErr result (self.new ≡ self.old) }
+    {
+        if !self.aside.is_empty() {
+            return self.put(*key, row.into_row());
+        }
+        let was = self.tables.put_row(key, row)?;
+        Ok(into_any(was))
     }
 
     /// Removes the key's row, and returns it.

@@ -19,6 +19,7 @@ use pointed_tables::roomy::RoomyTables;
 use rollback::{Dirty, NoSuchPoint, POINTS, PointsFull};
 use row_tables::boxed::boxed;
 use row_tables::store::RowTables;
+use row_tables::table_row::TableRow;
 use std::alloc::Global;
 use std::marker::Model;
 use tables::leaves::Leaves;
@@ -86,7 +87,19 @@ fn is_often_new(key: &RowKey) -> bool {
     )
 }
 
-/// Lists the key's rank, if the key gets a row and may have none. Listing it again changes nothing.
+/// Lists the rank of a key that gets a row, if it may have none. Listing it again changes nothing.
+fn list_row(leaves: &mut Leaves, tables: &PointedTables, key: &RowKey) -> Result<(), Memory>
+    ensures kept { AreLeaves leaves.old tables.now → AreLeaves leaves.new tables.now }
+    ensures ok { OnOk result (AreLeaves leaves.old tables.now → IsListed leaves.new key.now) }
+    ensures others { (k : RowKey) → IsListed leaves.old k → IsListed leaves.new k }
+{
+    if !is_often_new(key) && tables.rows().get(key).is_some() {
+        return Ok(());
+    }
+    list(leaves, key)
+}
+
+/// Lists the key's rank, if the key gets a row and may have none.
 fn list_new(
     leaves: &mut Leaves,
     tables: &PointedTables,
@@ -100,10 +113,7 @@ fn list_new(
     if new_row.is_none() {
         return Ok(());
     }
-    if !is_often_new(key) && tables.rows().get(key).is_some() {
-        return Ok(());
-    }
-    list(leaves, key)
+    list_row(leaves, tables, key)
 }
 
 /// Lists the ranks of the keys that get a row and may have none.
@@ -234,6 +244,19 @@ impl PointedStore {
         ensures clean { KeepsCleanLeaves self.old self.new }
     {
         self.change(key, Some(row))
+    }
+
+    /// Inserts or replaces the key's row, of whose kind it is, in its place; its leaf is dirty from now on.
+    pub fn put_row<R: TableRow>(&mut self, key: &RowKey, row: R) -> Result<(), Memory>
+        requires { fits key.now (R.row_of row) ≡ true }
+        ensures rows { OnOk result (self.new.rows ≡ map.insert self.old.rows key.now (R.row_of row)) }
+        ensures dirty { OnOk result (HasAlso self.old.dirty (leaf key.now) self.new.dirty) }
+        ensures points { self.new.points ≡ self.old.points }
+        ensures err { OnErr result (self.new ≡ self.old) }
+        ensures clean { KeepsCleanLeaves self.old self.new }
+    {
+        list_row(&mut self.leaves, &self.tables, key)?;
+        self.tables.put_row(key, row)
     }
 
     /// Removes the key's row, and returns it; its leaf is dirty from now on.

@@ -4,4 +4,5 @@
 pub mod boxed;
 pub mod kinds;
 pub mod store;
+pub mod table_row;
 pub mod walk;

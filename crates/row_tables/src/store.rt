@@ -14,6 +14,7 @@ ghost use Rattle.tpcc_rows.specs.RowKinds.{fits};
 ghost use Rattle.tpcc_rows.specs.Rows.{customer_row, district_next_row, district_ytd_row, order_line_row, order_row, stock_row, warehouse_row};
 
 use crate::kinds::KindTables;
+use crate::table_row::TableRow;
 use crate::walk::Walk;
 use std::alloc::Global;
 use std::marker::Model;
@@ -55,12 +56,12 @@ impl Model for RowTables {
     ghost invariant = { λ s. IsCounted s.tables s.len };
 }
 
-/// The number of rows after an insertion or replacement that returned this.
-fn more(len: u64, was: &Option<Row>) -> u64
+/// The number of rows after an insertion, or a replacement if there was a row.
+fn more(len: u64, was: bool) -> u64
     requires { len < 2 ^ 63 }
-    ensures { result ≡ cond (is_some was.now) len (len + 1) }
+    ensures { result ≡ cond was len (len + 1) }
 {
-    if was.is_some() { len } else { len + 1 }
+    if was { len } else { len + 1 }
 }
 
 /// The number of rows after a removal that returned this.
@@ -299,7 +300,20 @@ impl RowTables {
         ensures new { OnErr result (map.get self.old key ≡ None) }
     {
         let was = self.tables.put(rank(&key), row)?;
-        self.len = more(self.len, &was);
+        self.len = more(self.len, was.is_some());
+        Ok(was)
+    }
+
+    /// Inserts or replaces the key's row, of whose kind it is, and returns the old one.
+    pub fn put_row<R: TableRow>(&mut self, key: &RowKey, row: R) -> Result<Option<R>, Memory>
+        requires { fits key.now (R.row_of row) ≡ true }
+        ensures value { IfOk result (λ was. option_map R.row_of was ≡ map.get self.old key.now) }
+        ensures kind { IfOk result (λ was. new_row_fits key.now (option_map R.row_of was) ≡ true) }
+        ensures ok { OnOk result (self.new ≡ map.insert self.old key.now (R.row_of row)) }
+        ensures err { OnErr result (self.new ≡ self.old) }
+    {
+        let was = row.put(&mut self.tables, rank(key))?;
+        self.len = more(self.len, was.is_some());
         Ok(was)
     }
 

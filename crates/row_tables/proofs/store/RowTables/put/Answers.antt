@@ -1,4 +1,4 @@
-use Rattle.std.proofs.Common.{sym, ap, ◌∙◌}
+use Rattle.std.proofs.Common.{cond, ◌+◌, sym, ap, ◌∙◌}
 use Rattle.std.specs.FinMap as map
 use Rattle.tables.proofs.Tables.{on_err}
 use Rattle.row_tables.proofs.Counting.{counted-more, room-more}
@@ -14,7 +14,8 @@ more-self-inside-requires c = room-more _ _ c.self.invariant
 pub invariant_of-self-2 : goal.invariant_of-self-2
 invariant_of-self-2 c = record {
   are_kept = kept-put _ c.self.invariant.are_kept c.args.key c.rank.ensures.limits c.rank.result c.rank.ensures.value _ c.args.row c.requires c.in_ok-was.ensures.ok;
-  counted = counted-more _ _ c.self.invariant c.rank.result c.args.row _ _ _ c.in_ok-was.ensures.value c.in_ok-was.ensures.ok c.more-self-inside.ensures;
+  counted = counted-more _ _ c.self.invariant c.rank.result c.args.row _ _ _ c.in_ok-was.ensures.value c.in_ok-was.ensures.ok
+      (c.more-self-inside.ensures ∙ ap (λ b. cond b c.self.inside.len (c.self.inside.len + 1)) c.is_some.ensures);
 }
 
 pub returns-clause-value : goal.returns-clause-value
