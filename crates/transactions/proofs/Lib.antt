@@ -8,5 +8,9 @@ pub mod HeldItems
 pub mod LowItemFacts
 pub mod DeliverySteps
 pub mod Within
+pub mod InPlace
+pub mod DecidedOutcomes
+pub mod OtherDistricts
 pub mod DeliveredOrders
+pub mod NewStocks
 pub mod PlacedOrders

@@ -182,11 +182,8 @@ module _ (rows : Rows) (p : NewOrder) (o : ℕ) where
       pub placed-refused : (why : RequestRefusal) → stocks_done rows p lines made ≡ Err why → lines_done rows p o 1 lines (opened p moment o next) ≡ Err why
       placed-refused why h = opened-first ∙ ap (λ r. r >>= finished opening 1 lines) h
 
-      pub placed-well : (last : OrderSoFar) → stocks_done rows p lines made ≡ Ok last → (ordered with_all whole : Changes) → ordered ≡ with_order p moment o last.changes → with_all ≡ with_lines p o 1 lines ordered → whole ≡ insert with_all next_key next_row
-          → lines_done rows p o 1 lines (opened p moment o next) ≡ Ok (record { changes = whole; lines = last.lines })
-      placed-well last h ordered with_all whole a b c =
-          let is : whole ≡ in_key_order lines last.changes = c ∙ ap (λ (z : Changes). insert z next_key next_row) (b ∙ ap (with_lines p o 1 lines) a) in
-          opened-first ∙ ap (λ r. r >>= finished opening 1 lines) h ∙ ap (λ (z : Changes). Ok (record { changes = z; lines = last.lines })) (next-last lines last.changes ∙ sym is)
+      pub placed-well : (last : OrderSoFar) → stocks_done rows p lines made ≡ Ok last → lines_done rows p o 1 lines (opened p moment o next) ≡ Ok (record { changes = in_key_order lines last.changes; lines = last.lines })
+      placed-well last h = opened-first ∙ ap (λ r. r >>= finished opening 1 lines) h ∙ ap (λ (z : Changes). Ok (record { changes = z; lines = last.lines })) (next-last lines last.changes)
 
       pub placed-amounts : (last : OrderSoFar) → stocks_done rows p lines made ≡ Ok last → amounts_of last.lines ≡ map amount_of lines
       placed-amounts last h = stocks-amounts rows p lines made last h ∙ ap (λ (ls : List LineReply). amounts_of ls ++ map amount_of lines) no_lines

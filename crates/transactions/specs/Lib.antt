@@ -3,6 +3,7 @@ pub use Rattle.tpcc_laws.specs.Laws
 pub mod Lending
 pub mod Outcomes
 pub mod Faults
+pub mod InPlace
 pub mod NewOrderParts
 pub mod DeliveryParts
 pub mod LowItems

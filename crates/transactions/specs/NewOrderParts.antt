@@ -1,12 +1,11 @@
 -- What the code's parts of a new order stand for.
-use Rattle.std.specs.Prelude.{◌≡◌, ℕ, ◌+◌, ◌*◌, ℤ, pos, List, [], ◌∷◌, ◌++◌, Option, Some, None, Result, Ok, Err}
-use Rattle.std.specs.FinMap.{insert}
+use Rattle.std.specs.Prelude.{◌≡◌, ◌≤◌, ℕ, ◌+◌, ◌*◌, ℤ, pos, List, [], ◌∷◌, ◌++◌, length, map, Option, Some, None, Result, Ok, Err}
+use Rattle.std.specs.FinMap.{empty, insert}
 use Rattle.std.specs.List.{sum_by}
 use Rattle.catalog.specs.CardMap.{Cards}
 use Rattle.catalog.specs.Lookups.{customer_card, district_card, warehouse_card}
 use Rattle.requests.specs.declared.request.NewOrder.{NewOrder}
 use Rattle.requests.specs.declared.reply.LineReply.{LineReply}
-use Rattle.requests.specs.declared.reply.NewOrderReply.{NewOrderReply}
 use Rattle.requests.specs.declared.reply.RequestRefusal.{RequestRefusal}
 use Rattle.requests.specs.declared.reply.RequestRefusal.TheVariants.{UnknownKey}
 use Rattle.tpcc_model.specs.NewOrders as model
@@ -18,8 +17,10 @@ use Rattle.tpcc_rows.specs.Rows.{stock_row}
 use Rattle.tpcc_rows.specs.declared.key.RowKey.TheVariants as key
 use Rattle.tpcc_rows.specs.declared.row.Row.TheVariants as row
 use Rattle.tpcc_rows.specs.declared.row.StockRow.{StockRow}
+use Rattle.transactions.specs.declared.new_order.NewStock.{NewStock}
 use Rattle.transactions.specs.declared.new_order.OrderSoFar.{OrderSoFar}
 use Rattle.transactions.specs.declared.new_order.OwnCards.{OwnCards}
+use Rattle.transactions.specs.declared.new_order.PlacedOrder.{PlacedOrder}
 use Rattle.transactions.specs.declared.order_line.LineCards.{LineCards}
 use Rattle.transactions.specs.declared.order_line.LineItem.{LineItem}
 
@@ -29,11 +30,16 @@ line_item_of line = record { ordered = line.ordered.now; item = line.item.now }
 abbrev pub line_cards_of : LineCards → model.LineCards
 line_cards_of line = record { ordered = line.ordered.now; item = line.item.now; stock = line.stock.now }
 
-abbrev pub so_far_of : OrderSoFar → model.OrderSoFar
-so_far_of order = record { changes = order.changes; lines = order.lines }
+-- these rows of the stocks, put in turn
+abbrev pub with_stocks : List NewStock → Changes → Changes
+with_stocks [] changes = changes
+with_stocks (stock ∷ stocks) changes = with_stocks stocks (insert changes (key.Stock stock.warehouse stock.item) (Some (row.Stock stock.row)))
 
-abbrev pub placed_order_of : NewOrderReply × Changes → model.PlacedOrder
-placed_order_of placed = record { reply = placed.0; changes = placed.1 }
+abbrev pub stock_changes : List NewStock → Changes
+stock_changes stocks = with_stocks stocks empty
+
+abbrev pub so_far_of : OrderSoFar → model.OrderSoFar
+so_far_of order = record { changes = stock_changes order.stocks.items; lines = order.lines }
 
 -- the cards of the order's own keys; where one is unknown, so are the order's cards
 abbrev pub AreOwnCards : Cards → NewOrder → Option OwnCards → Type 0
@@ -80,3 +86,23 @@ abbrev pub with_lines : NewOrder → ℕ → ℕ → List model.LineCards → Ch
 with_lines p o n [] changes = changes
 with_lines p o n (line ∷ lines) changes =
     with_lines p o (n + 1) lines (insert changes (key.OrderLine p.warehouse p.district o n) (Some (row.OrderLine (model.order_line_of p line (amount_of line)))))
+
+-- ---- an order that is decided
+-- its rows: those of the stocks, the order, the new order, the lines, and the district's next number
+abbrev pub with_placed : PlacedOrder → Changes → Changes
+with_placed placed changes =
+    insert
+    (with_lines placed.p.now placed.reply.order 1 (map line_cards_of placed.lines.items)
+    (with_order placed.p.now placed.moment placed.reply.order (with_stocks placed.stocks.items changes))) (key.DistrictNext placed.p.now.warehouse placed.p.now.district) (Some (row.DistrictNext placed.next_row))
+
+abbrev pub placed_order_of : PlacedOrder → model.PlacedOrder
+placed_order_of placed = record { reply = placed.reply; changes = with_placed placed empty }
+
+-- its changes, and the replies to its lines
+abbrev pub order_done_of : PlacedOrder → model.OrderSoFar
+order_done_of placed = record { changes = with_placed placed empty; lines = placed.reply.lines }
+
+-- it has at most 15 lines, and the replies to them have their amounts
+pub record IsPlaced (placed : PlacedOrder) : Type 0 where
+  pub few : length placed.lines.items ≤ 15
+  pub amounts : map (λ reply. reply.amount) placed.reply.lines ≡ map amount_of (map line_cards_of placed.lines.items)

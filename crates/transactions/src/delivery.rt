@@ -1,92 +1,124 @@
-//! Delivery (TPC-C clause 2.7): the card of the warehouse is found, then the oldest new order of each district is
-//! delivered in turn, on the rows as the earlier districts leave them. All of it is one transaction.
-ghost use Rattle.std.specs.Prelude.{◌≡◌, ◌≤◌, is_ok, map, option_copied, IfOk, OnOk};
-ghost use Rattle.std.specs.List.{list_all};
+//! Delivery (TPC-C clause 2.7): the card of the warehouse is found, then the oldest new order of each district, what its lines
+//! come to and its customer. No district reads what another one writes, so all of it is read before anything is written.
+ghost use Rattle.std.specs.Prelude.{◌≡◌, ◌≤◌, ◌++◌, is_ok, length, map, option_copied, option_map, IfOk, OnOk};
+ghost use Rattle.std.specs.FinMap as map;
+ghost use Rattle.std.specs.List.{list_all, sum_by};
 ghost use Rattle.requests.specs.declared.request.RequestKind.TheVariants as kind;
-ghost use Rattle.tpcc_model.specs.Deliveries.{amount_of, carried, credited, delivery, districts_delivered, lines_amount, lines_dated, oldest_delivered, order_delivered};
+ghost use Rattle.tpcc_model.specs.Deliveries.{credited, delivery, districts_delivered};
 ghost use Rattle.tpcc_model.specs.Staging.{within};
 ghost use Rattle.tpcc_model.specs.Steps.{delivery_outcome};
 ghost use Rattle.tpcc_model.specs.Touches.{credited_touch, delivery_touch, district_touch, delivered_touch};
-ghost use Rattle.tpcc_rows.specs.Changing.{after};
 ghost use Rattle.tpcc_rows.specs.Limits.{ten};
 ghost use Rattle.tpcc_rows.specs.Picks.{oldest};
-ghost use Rattle.tpcc_rows.specs.Rows.{customer_row, order_row};
-ghost use Rattle.transactions.specs.DeliveryParts.{credited_customer, dated_at, delivered_of, written};
+ghost use Rattle.tpcc_rows.specs.RowMap.{Changes, Rows};
+ghost use Rattle.transactions.specs.DeliveryParts.{credited_customer, dated_line, dated_lines, delivered_of, found_oldest, found_order, found_order_of, one_dated};
+ghost use Rattle.transactions.specs.DeliveryParts.{carried_as, lines_written, oldest_written, order_written, orders_of, orders_written};
 ghost use Rattle.transactions.specs.Faults.{AnswersBy};
+ghost use Rattle.transactions.specs.InPlace.{AnswersInPlace, loaned, whole};
 ghost use Rattle.transactions.specs.Lending.{lent};
 ghost use Rattle.transactions.specs.OnViews.{AnswersOn, ExecutesOn};
 ghost use Rattle.transactions.specs.Outcomes.{concluded};
 ghost use Rattle.worker_rows.specs.Views.{covers};
+ghost use Rattle.worker_rows.specs.Writers.{KeepsPoints};
 
 use crate::fault::Fault;
-use crate::lent::{self, Lent, Seen};
+use crate::lent::{self, Lent};
 use catalog::Catalog;
 use requests::reply::{DeliveryReply, Reply, RequestRefusal};
 use requests::request::Delivery;
+use row_store::PointedStore;
 use std::alloc::Global;
 use tpcc_model::number::line_number;
 use tpcc_rows::delta::Delta;
+use tpcc_rows::footprint::Footprint;
 use tpcc_rows::granule::Granule;
-use tpcc_rows::id::{CustomerId, DistrictId, LineNumber, OrderId};
+use tpcc_rows::id::{CustomerId, DistrictId, LineNumber, OrderId, WarehouseId};
 use tpcc_rows::key::RowKey;
 use tpcc_rows::memory::Memory;
 use tpcc_rows::number::Moment;
-use tpcc_rows::row::{CustomerRow, OrderLineRow, OrderRow, Row};
-use worker_rows::{KeyedRows, RowView, Strayed, customer_row, order_row};
+use tpcc_rows::row::{CustomerRow, OrderLineRow, OrderRow};
+use worker_rows::{KeyedRows, Loan, RowView, RowWriter, Strayed, Whole, customer_row, order_row};
 
 /// Room for what a delivery changes: in each of ten districts an order, its mark as new, its customer and at most fifteen lines.
 const ROOM: usize = 10 * (3 + 15);
 
-fn amount_of(line: Option<&OrderLineRow>) -> u32
-    ensures value { result ≡ amount_of (option_copied line.entry) }
-    ensures small { result ≤ 999999 }
-{
-    match line {
-        Some(line) => line.amount.cents(),
-        None => 0,
-    }
+/// A line of an order that is delivered: its number, and its row with the date.
+#[derive(Drop)]
+pub(crate) struct DatedLine {
+    pub number: LineNumber,
+    pub row: OrderLineRow,
 }
 
-/// The sum of OL_AMOUNT of the order's lines, as many as these.
-fn lines_amount<V: RowView>(
+/// An order that is delivered: its row with the carrier, its customer's new row, and its lines.
+#[derive(Drop)]
+pub(crate) struct DeliveredOrder {
+    pub district: DistrictId,
+    pub order: OrderId,
+    pub row: OrderRow,
+    pub customer: CustomerRow,
+    pub lines: Vec<DatedLine>,
+}
+
+/// What a delivery writes: what is delivered in each district.
+#[derive(Drop)]
+pub(crate) struct DeliveredOrders {
+    pub warehouse: WarehouseId,
+    pub orders: Vec<Option<DeliveredOrder>>,
+}
+
+fn dated_line(line: &OrderLineRow, number: LineNumber, moment: Moment) -> DatedLine
+    ensures { result ≡ dated_line moment number line.now }
+{
+    let mut dated = line.copied();
+    dated.delivery = Some(moment);
+    DatedLine { number, row: dated }
+}
+
+/// Adds the line, where it is there.
+fn add_dated(
+    lines: &mut Vec<DatedLine>,
+    line: Option<&OrderLineRow>,
+    number: LineNumber,
+    moment: Moment,
+) -> Result<(), Memory>
+    ensures { OnOk result (lines.new.items ≡ lines.old.items ++ one_dated moment number (option_copied line.entry)) }
+{
+    if let Some(line) = line {
+        lines.push(dated_line(line, number, moment))?;
+    }
+    Ok(())
+}
+
+/// The order's lines, as many as these, each where it is there.
+fn dated_lines<V: RowView>(
+    alloc: Global,
     view: &V,
-    changes: &Delta,
     p: &Delivery,
+    moment: Moment,
     district: DistrictId,
     order: OrderId,
     count: LineNumber,
-) -> u32
-    ensures { result ≡ lines_amount (after (lent (V.sees view.now)) changes.now) p.now district order count }
+) -> Result<Vec<DatedLine>, Memory>
+    ensures lines { IfOk result (λ lines. lines.items ≡ dated_lines (lent (V.sees view.now)) p.now moment district order count) }
+    ensures few { IfOk result (λ lines. length lines.items ≤ 15) }
 {
-    let rows = Seen {
-        lent: Lent { view },
-        changes,
-    };
-    let mut amount = 0;
-    for index in 0..usize::from(count.number()) {
+    let rows = Lent { view };
+    let count = usize::from(count.number());
+    let mut lines = Vec::with_capacity(alloc, count)?;
+    for index in 0..count {
         let number = line_number(index + 1);
         let line = rows.order_line_row(p.warehouse, district, order, number);
-        amount += amount_of(line);
+        add_dated(&mut lines, line, number, moment)?;
     }
-    amount
+    Ok(lines)
 }
 
-/// The order as the changes leave it.
-fn seen_order<V: RowView>(
-    view: &V,
-    changes: &Delta,
-    p: &Delivery,
-    district: DistrictId,
-    order: OrderId,
-) -> Option<OrderRow>
-    ensures { result ≡ order_row (after (lent (V.sees view.now)) changes.now) p.now.warehouse district order }
+/// The sum of OL_AMOUNT.
+fn amount_of(lines: &[DatedLine]) -> u32
+    requires { length lines.now ≤ 15 }
+    ensures { result ≡ sum_by (λ line. line.row.amount) lines.now }
 {
-    let rows = Seen {
-        lent: Lent { view },
-        changes,
-    };
-    let row = order_row(&rows, p.warehouse, district, order)?;
-    Some(*row)
+    lines.iter().map(|line| line.row.amount.cents()).sum()
 }
 
 /// None where a limit is passed.
@@ -105,22 +137,18 @@ fn credited(old: CustomerRow, amount: u32) -> Option<CustomerRow>
     })
 }
 
-/// The customer's row as the changes leave it, with this amount more.
+/// The customer's row, with this amount more.
 #[tactic(auto, unfolding(crate::specs::DeliveryParts::credited_customer))]
 fn credited_customer<V: RowView>(
     view: &V,
-    changes: &Delta,
     p: &Delivery,
     district: DistrictId,
     customer: CustomerId,
     amount: u32,
 ) -> Result<CustomerRow, Fault>
-    ensures { AnswersBy (λ row. row) (credited_customer (after (lent (V.sees view.now)) changes.now) p.now district customer amount) result }
+    ensures { AnswersBy (λ row. row) (credited_customer (lent (V.sees view.now)) p.now district customer amount) result }
 {
-    let rows = Seen {
-        lent: Lent { view },
-        changes,
-    };
+    let rows = Lent { view };
     let Some(row) = customer_row(&rows, p.warehouse, district, customer) else {
         return Err(Fault::Refused(RequestRefusal::UnknownKey));
     };
@@ -131,159 +159,52 @@ fn credited_customer<V: RowView>(
     }
 }
 
-/// One line, which gets the moment as its delivery date where it is there.
-fn line_dated<V: RowView>(
+/// What delivering the order writes.
+#[tactic(auto, using(crate::proofs::DeliveredOrders::finds, crate::proofs::DeliveredOrders::refuses, crate::proofs::DeliveredOrders::unknown))]
+fn found_order<V: RowView>(
+    alloc: Global,
     view: &V,
     p: &Delivery,
     moment: Moment,
     district: DistrictId,
     order: OrderId,
-    number: LineNumber,
-    changes: &mut Delta,
-) -> Result<(), Memory>
-    ensures { OnOk result (changes.new ≡ dated_at (lent (V.sees view.now)) p.now moment district order number changes.old) }
+) -> Result<DeliveredOrder, Fault>
+    ensures { AnswersBy found_order_of (found_order (lent (V.sees view.now)) p.now moment district order) result }
 {
-    let rows = Seen {
-        lent: Lent { view },
-        changes: &*changes,
+    let rows = Lent { view };
+    let Some(row) = order_row(&rows, p.warehouse, district, order) else {
+        return Err(Fault::Refused(RequestRefusal::UnknownKey));
     };
-    let line = rows.order_line_row(p.warehouse, district, order, number);
-    if let Some(line) = line {
-        let mut dated = line.copied();
-        dated.delivery = Some(moment);
-        let key = RowKey::OrderLine {
-            warehouse: p.warehouse,
-            district,
-            order,
-            number,
-        };
-        changes.put(key, Row::OrderLine(dated))?;
-    }
-    Ok(())
-}
-
-/// The order's lines, as many as these, each on the rows as the earlier ones leave them.
-fn lines_dated<V: RowView>(
-    view: &V,
-    p: &Delivery,
-    moment: Moment,
-    district: DistrictId,
-    order: OrderId,
-    count: LineNumber,
-    changes: &mut Delta,
-) -> Result<(), Memory>
-    ensures { OnOk result (changes.new ≡ lines_dated (lent (V.sees view.now)) p.now moment district order count changes.old) }
-{
-    for index in 0..usize::from(count.number()) {
-        let number = line_number(index + 1);
-        line_dated(view, p, moment, district, order, number, changes)?;
-    }
-    Ok(())
-}
-
-/// The order is no new order any more, and has the carrier.
-#[tactic(auto, unfolding(tpcc_model::specs::Deliveries::carried))]
-fn carried(
-    p: &Delivery,
-    district: DistrictId,
-    order: OrderId,
-    row: &OrderRow,
-    changes: &mut Delta,
-) -> Result<(), Memory>
-    ensures { OnOk result (changes.new ≡ carried p.now district order row.now changes.old) }
-{
-    let warehouse = p.warehouse;
-    let new_order_key = RowKey::NewOrder {
-        warehouse,
-        district,
-        order,
-    };
-    changes.remove(new_order_key)?;
-    let order_key = RowKey::Order {
-        warehouse,
-        district,
-        order,
-    };
-    let order_row = OrderRow {
+    let lines = dated_lines(alloc, view, p, moment, district, order, row.line_count)?;
+    let amount = amount_of(&lines);
+    let customer = credited_customer(view, p, district, row.customer, amount)?;
+    let row = OrderRow {
         carrier: Some(p.carrier),
         ..*row
     };
-    changes.put(order_key, Row::Order(order_row))
-}
-
-/// An order that is delivered: its row, and its customer's new one.
-#[derive(Clone, Copy)]
-pub(crate) struct DeliveredOrder<'a> {
-    pub order: OrderId,
-    pub row: OrderRow,
-    pub customer: &'a CustomerRow,
-}
-
-/// Writes the order, its lines and its customer.
-fn write_delivered<V: RowView>(
-    view: &V,
-    p: &Delivery,
-    moment: Moment,
-    district: DistrictId,
-    delivered: &DeliveredOrder<'_>,
-    changes: &mut Delta,
-) -> Result<(), Memory>
-    ensures { OnOk result (changes.new ≡ written (lent (V.sees view.now)) p.now moment district delivered.now.order delivered.now.row delivered.now.customer.now changes.old) }
-{
-    let order = delivered.order;
-    let count = delivered.row.line_count;
-    carried(p, district, order, &delivered.row, changes)?;
-    lines_dated(view, p, moment, district, order, count, changes)?;
-    let key = RowKey::Customer {
-        warehouse: p.warehouse,
+    Ok(DeliveredOrder {
         district,
-        customer: delivered.row.customer,
-    };
-    let customer = delivered.customer.copied()?;
-    changes.put(key, Row::Customer(customer))
-}
-
-#[tactic(auto, using(crate::proofs::DeliveredOrders::delivers, crate::proofs::DeliveredOrders::refuses, crate::proofs::DeliveredOrders::unknown))]
-fn order_delivered<V: RowView>(
-    view: &V,
-    p: &Delivery,
-    moment: Moment,
-    district: DistrictId,
-    order: OrderId,
-    changes: &mut Delta,
-) -> Result<(), Fault>
-    ensures { AnswersBy (λ done. changes.new) (order_delivered (lent (V.sees view.now)) p.now moment district order changes.old) result }
-{
-    let Some(row) = seen_order(view, changes, p, district, order) else {
-        return Err(Fault::Refused(RequestRefusal::UnknownKey));
-    };
-    let amount = lines_amount(view, changes, p, district, order, row.line_count);
-    let customer = credited_customer(view, changes, p, district, row.customer, amount)?;
-    let delivered = DeliveredOrder {
         order,
         row,
-        customer: &customer,
-    };
-    match write_delivered(view, p, moment, district, &delivered, changes) {
-        Ok(()) => Ok(()),
-        Err(Memory) => Err(Fault::Memory),
-    }
+        customer,
+        lines,
+    })
 }
 
 /// A district without a new order is skipped.
-fn oldest_delivered<V: RowView>(
+fn found_oldest<V: RowView>(
+    alloc: Global,
     view: &V,
     p: &Delivery,
     moment: Moment,
     district: DistrictId,
     oldest: Option<OrderId>,
-    changes: &mut Delta,
-) -> Result<(), Fault>
-    ensures { AnswersBy (λ done. changes.new) (oldest_delivered (lent (V.sees view.now)) p.now moment district oldest changes.old) result }
+) -> Result<Option<DeliveredOrder>, Fault>
+    ensures { AnswersBy (option_map found_order_of) (found_oldest (lent (V.sees view.now)) p.now moment district oldest) result }
 {
     match oldest {
-        Some(order) => order_delivered(view, p, moment, district, order, changes),
-        None => Ok(()),
+        Some(order) => Ok(Some(found_order(alloc, view, p, moment, district, order)?)),
+        None => Ok(None),
     }
 }
 
@@ -356,40 +277,174 @@ fn oldest_orders<V: RowView>(view: &V, p: &Delivery) -> Result<[Option<OrderId>;
     Ok(orders)
 }
 
-/// The districts in turn, each on the rows as the earlier ones leave them.
-fn districts_delivered<V: RowView>(
+/// What delivering these orders, one of each district, writes.
+fn found_orders<V: RowView>(
+    alloc: Global,
     view: &V,
     p: &Delivery,
     moment: Moment,
     orders: &[Option<OrderId>; 10],
-    changes: &mut Delta,
-) -> Result<(), Fault>
+) -> Result<Vec<Option<DeliveredOrder>>, Fault>
     requires { orders.now ≡ map (oldest (lent (V.sees view.now)) p.now.warehouse) ten }
-    ensures { AnswersBy (λ done. changes.new) (districts_delivered (lent (V.sees view.now)) p.now moment ten changes.old) result }
+    ensures { AnswersBy (λ found. orders_written p.now.warehouse (orders_of found.items) map.empty)
+        (districts_delivered (lent (V.sees view.now)) p.now moment ten map.empty) result }
 {
+    let mut found = Vec::with_capacity(alloc, orders.len())?;
     for (index, district) in DistrictId::all().iter().enumerate() {
-        oldest_delivered(view, p, moment, *district, orders[index], changes)?;
+        let delivered = found_oldest(alloc, view, p, moment, *district, orders[index])?;
+        found.push(delivered)?;
     }
-    Ok(())
+    Ok(found)
 }
 
+/// The reply to a delivery, and what is to be written.
 #[tactic(auto, using(crate::proofs::LentTouches::covers_ten), unfolding(tpcc_model::specs::Touches::delivery_touch, tpcc_model::specs::Deliveries::delivery))]
-fn delivery<V: RowView>(
+pub(crate) fn delivery<V: RowView>(
     alloc: Global,
     catalog: &Catalog,
     p: &Delivery,
     moment: Moment,
     view: &V,
-) -> Result<(DeliveryReply, Delta), Fault>
+) -> Result<(DeliveryReply, DeliveredOrders), Fault>
     ensures { AnswersOn delivered_of (λ db. delivery_touch db p.now) (λ db. delivery db p.now moment) catalog.now (V.sees view.now) result }
 {
     let Some(_) = catalog.warehouse(p.warehouse) else {
         return Err(Fault::Refused(RequestRefusal::UnknownKey));
     };
     let orders = oldest_orders(view, p)?;
-    let mut changes = Delta::with_room(alloc, ROOM)?;
-    districts_delivered(view, p, moment, &orders, &mut changes)?;
-    Ok((DeliveryReply { orders }, changes))
+    let delivered = DeliveredOrders {
+        warehouse: p.warehouse,
+        orders: found_orders(alloc, view, p, moment, &orders)?,
+    };
+    Ok((DeliveryReply { orders }, delivered))
+}
+
+/// The order is no new order any more, and has its new row.
+fn write_carried<W: RowWriter>(
+    warehouse: WarehouseId,
+    delivered: &DeliveredOrder,
+    writer: &mut W,
+) -> Result<(), Memory>
+    ensures made { (rows : Rows) (changes : Changes) → W.Stands rows changes writer.old
+        → OnOk result (W.Stands rows (carried_as warehouse delivered.now.district delivered.now.order delivered.now.row changes) writer.new) }
+    ensures kept { (first : W) → W.Keeps first writer.old → W.Keeps first writer.new }
+{
+    let DeliveredOrder {
+        district,
+        order,
+        ..
+    } = *delivered;
+    let new_order_key = RowKey::NewOrder {
+        warehouse,
+        district,
+        order,
+    };
+    writer.remove(new_order_key)?;
+    let order_key = RowKey::Order {
+        warehouse,
+        district,
+        order,
+    };
+    writer.put(order_key, delivered.row)
+}
+
+fn write_lines<W: RowWriter>(
+    warehouse: WarehouseId,
+    district: DistrictId,
+    order: OrderId,
+    lines: Vec<DatedLine>,
+    writer: &mut W,
+) -> Result<(), Memory>
+    ensures made { (rows : Rows) (changes : Changes) → W.Stands rows changes writer.old
+        → OnOk result (W.Stands rows (lines_written warehouse district order lines.items changes) writer.new) }
+    ensures kept { (first : W) → W.Keeps first writer.old → W.Keeps first writer.new }
+{
+    for line in lines {
+        let key = RowKey::OrderLine {
+            warehouse,
+            district,
+            order,
+            number: line.number,
+        };
+        writer.put(key, line.row)?;
+    }
+    Ok(())
+}
+
+fn customer_key(warehouse: WarehouseId, delivered: &DeliveredOrder) -> RowKey
+    ensures { result ≡ RowKey.Customer warehouse delivered.now.district delivered.now.row.customer }
+{
+    RowKey::Customer {
+        warehouse,
+        district: delivered.district,
+        customer: delivered.row.customer,
+    }
+}
+
+/// Writes the order, its lines and its customer.
+fn write_order<W: RowWriter>(
+    warehouse: WarehouseId,
+    delivered: DeliveredOrder,
+    writer: &mut W,
+) -> Result<(), Memory>
+    ensures made { (rows : Rows) (changes : Changes) → W.Stands rows changes writer.old
+        → OnOk result (W.Stands rows (order_written warehouse (found_order_of delivered) changes) writer.new) }
+    ensures kept { (first : W) → W.Keeps first writer.old → W.Keeps first writer.new }
+{
+    write_carried(warehouse, &delivered, writer)?;
+    let key = customer_key(warehouse, &delivered);
+    let DeliveredOrder {
+        district,
+        order,
+        customer,
+        lines,
+        ..
+    } = delivered;
+    write_lines(warehouse, district, order, lines, writer)?;
+    writer.put(key, customer)
+}
+
+/// Where nothing is delivered, nothing is written.
+fn write_oldest<W: RowWriter>(
+    warehouse: WarehouseId,
+    delivered: Option<DeliveredOrder>,
+    writer: &mut W,
+) -> Result<(), Memory>
+    ensures made { (rows : Rows) (changes : Changes) → W.Stands rows changes writer.old
+        → OnOk result (W.Stands rows (oldest_written warehouse (option_map found_order_of delivered) changes) writer.new) }
+    ensures kept { (first : W) → W.Keeps first writer.old → W.Keeps first writer.new }
+{
+    match delivered {
+        Some(order) => write_order(warehouse, order, writer),
+        None => Ok(()),
+    }
+}
+
+/// Writes what is delivered in each district, in turn.
+fn write_orders<W: RowWriter>(
+    warehouse: WarehouseId,
+    delivered: Vec<Option<DeliveredOrder>>,
+    writer: &mut W,
+) -> Result<(), Memory>
+    ensures made { (rows : Rows) (changes : Changes) → W.Stands rows changes writer.old
+        → OnOk result (W.Stands rows (orders_written warehouse (orders_of delivered.items) changes) writer.new) }
+    ensures kept { (first : W) → W.Keeps first writer.old → W.Keeps first writer.new }
+{
+    for order in delivered {
+        write_oldest(warehouse, order, writer)?;
+    }
+    Ok(())
+}
+
+impl DeliveredOrders {
+    /// Writes the changes.
+    pub(crate) fn write<W: RowWriter>(self, writer: &mut W) -> Result<(), Memory>
+        ensures made { (rows : Rows) (changes : Changes) → W.Stands rows changes writer.old
+            → OnOk result (W.Stands rows (orders_written self.warehouse (orders_of self.orders.items) changes) writer.new) }
+        ensures kept { (first : W) → W.Keeps first writer.old → W.Keeps first writer.new }
+    {
+        write_orders(self.warehouse, self.orders, writer)
+    }
 }
 
 /// The reply to a delivery, and the rows that it changes.
@@ -403,6 +458,62 @@ pub(crate) fn execute<V: RowView>(
     ensures { ExecutesOn (λ db. delivery_touch db p.now) (λ db. delivery_outcome (delivery db p.now moment)) catalog.now (V.sees view.now)
         (concluded kind.Delivery result) }
 {
-    let (reply, changes) = delivery(alloc, catalog, p, moment, view)?;
+    let (reply, delivered) = delivery(alloc, catalog, p, moment, view)?;
+    let mut changes = Delta::with_room(alloc, ROOM)?;
+    delivered.write(&mut changes)?;
     Ok((Reply::Delivery(reply), changes))
+}
+
+/// The reply to a delivery on all rows of a store, whose changes are made in their places.
+pub(crate) fn execute_in_place(
+    alloc: Global,
+    catalog: &Catalog,
+    p: &Delivery,
+    moment: Moment,
+    store: &mut PointedStore,
+) -> Result<Reply, Fault>
+    ensures answer { AnswersInPlace (λ answer. ExecutesOn (λ db. delivery_touch db p.now) (λ db. delivery_outcome (delivery db p.now moment))
+        catalog.now (whole store.old.rows) (concluded kind.Delivery answer)) store.old.rows store.new.rows result }
+    ensures kept { KeepsPoints store.old store.new }
+{
+    let view = Whole { store: &*store };
+    let (reply, delivered) = delivery(alloc, catalog, p, moment, &view)?;
+    delivered.write(store)?;
+    Ok(Reply::Delivery(reply))
+}
+
+/// The reply to a delivery, and what is to be written, on the rows that a footprint lends. A loan is large, so it has a function of
+/// its own.
+#[inline(never)]
+fn delivery_on_loan(
+    alloc: Global,
+    catalog: &Catalog,
+    p: &Delivery,
+    moment: Moment,
+    footprint: &Footprint,
+    store: &PointedStore,
+) -> Result<(DeliveryReply, DeliveredOrders), Fault>
+    ensures { AnswersOn delivered_of (λ db. delivery_touch db p.now) (λ db. delivery db p.now moment) catalog.now
+        (loaned store.now.rows footprint.now) result }
+{
+    let loan = Loan::new(store, footprint);
+    delivery(alloc, catalog, p, moment, &loan)
+}
+
+/// The reply to a delivery on the rows that a footprint lends, whose changes are made in their places.
+pub(crate) fn execute_in_place_within(
+    alloc: Global,
+    catalog: &Catalog,
+    p: &Delivery,
+    moment: Moment,
+    footprint: &Footprint,
+    store: &mut PointedStore,
+) -> Result<Reply, Fault>
+    ensures answer { AnswersInPlace (λ answer. ExecutesOn (λ db. delivery_touch db p.now) (λ db. delivery_outcome (delivery db p.now moment))
+        catalog.now (loaned store.old.rows footprint.now) (concluded kind.Delivery answer)) store.old.rows store.new.rows result }
+    ensures kept { KeepsPoints store.old store.new }
+{
+    let (reply, delivered) = delivery_on_loan(alloc, catalog, p, moment, footprint, store)?;
+    delivered.write(store)?;
+    Ok(Reply::Delivery(reply))
 }

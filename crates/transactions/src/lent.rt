@@ -1,14 +1,12 @@
-//! What a view lends: rows that may be read, also as the changes of a step leave them, and granules that may be written.
+//! What a view lends: rows that may be read, and granules that may be written.
 ghost use Rattle.std.specs.Prelude.{◌≡◌, is_ok, option_copied, IfOk};
 ghost use Rattle.std.specs.FinMap as map;
 ghost use Rattle.serializability.specs.Footprints.{writing};
-ghost use Rattle.tpcc_rows.specs.Changing.{after};
 ghost use Rattle.tpcc_rows.specs.Picks.{latest, oldest};
 ghost use Rattle.tpcc_rows.specs.Rows.{customer_row, district_next_row, order_line_row, stock_row};
 ghost use Rattle.transactions.specs.Lending.{lent};
 ghost use Rattle.worker_rows.specs.Views.{covers, may_read};
 
-use tpcc_rows::delta::Delta;
 use tpcc_rows::granule::Granule;
 use tpcc_rows::id::{CustomerId, DistrictId, ItemId, LineNumber, OrderId, WarehouseId};
 use tpcc_rows::key::RowKey;
@@ -52,56 +50,6 @@ impl<V: RowView> KeyedRows for Lent<'_, V> {
         match self.view.order_line_row(warehouse, district, order, number) {
             Ok(row) => row,
             Err(Strayed) => None,
-        }
-    }
-}
-
-/// Rows as the changes of a step leave them so far.
-#[derive(Drop)]
-pub(crate) struct Seen<'a, V> {
-    pub lent: Lent<'a, V>,
-    pub changes: &'a Delta,
-}
-
-impl<V: RowView> KeyedRows for Seen<'_, V> {
-    ghost rows = { λ s. after (lent (V.sees s.lent.view.now)) s.changes.now };
-
-    #[tactic(auto, using(tpcc_rows::proofs::Changes::seen))]
-    fn row(&self, key: &RowKey) -> Option<RowRef<'_>> {
-        match self.changes.get(key) {
-            Some(Some(row)) => Some(RowRef::of(row)),
-            Some(None) => None,
-            None => self.lent.row(key),
-        }
-    }
-
-    #[tactic(auto, using(tpcc_rows::proofs::Changes::seen))]
-    fn stock_row(&self, warehouse: WarehouseId, item: ItemId) -> Option<&StockRow> {
-        match self.changes.get(&RowKey::Stock { warehouse, item }) {
-            Some(Some(row)) => RowRef::of(row).as_stock(),
-            Some(None) => None,
-            None => self.lent.stock_row(warehouse, item),
-        }
-    }
-
-    #[tactic(auto, using(tpcc_rows::proofs::Changes::seen))]
-    fn order_line_row(
-        &self,
-        warehouse: WarehouseId,
-        district: DistrictId,
-        order: OrderId,
-        number: LineNumber,
-    ) -> Option<&OrderLineRow> {
-        let key = RowKey::OrderLine {
-            warehouse,
-            district,
-            order,
-            number,
-        };
-        match self.changes.get(&key) {
-            Some(Some(row)) => RowRef::of(row).as_order_line(),
-            Some(None) => None,
-            None => self.lent.order_line_row(warehouse, district, order, number),
         }
     }
 }

@@ -14,4 +14,4 @@ pub mod stop;
 mod transaction;
 
 pub use stop::Stop;
-pub use transaction::execute;
+pub use transaction::{execute, execute_in_place, execute_in_place_within};

@@ -1,18 +1,22 @@
 //! Payment (TPC-C clause 2.5): the cards of its keys are found, then their rows, then the new rows are made. What can
 //! fail for want of memory comes last.
-ghost use Rattle.std.specs.Prelude.{◌≡◌, ◌++◌, IfOk};
+ghost use Rattle.std.specs.Prelude.{◌≡◌, ◌++◌, IfOk, OnOk};
+ghost use Rattle.std.specs.FinMap as map;
 ghost use Rattle.std.specs.Option.{option_map};
 ghost use Rattle.requests.specs.declared.request.RequestKind.TheVariants as kind;
 ghost use Rattle.tpcc_model.specs.Payments.{field, found_cards, found_rows, history_of, paid_customer, paid_data, paid_district, paid_rows, paid_warehouse, payment, payment_changes, payment_note, payment_reply};
 ghost use Rattle.tpcc_model.specs.Staging.{known};
 ghost use Rattle.tpcc_model.specs.Steps.{payment_outcome};
 ghost use Rattle.tpcc_model.specs.Touches.{paid_touch, payment_touch};
+ghost use Rattle.tpcc_rows.specs.RowMap.{Rows};
 ghost use Rattle.tpcc_rows.specs.Texts.{IsPrintable, clip};
 ghost use Rattle.transactions.specs.Faults.{AnswersBy};
+ghost use Rattle.transactions.specs.InPlace.{AnswersInPlace, whole};
 ghost use Rattle.transactions.specs.OnViews.{AnswersOn, ExecutesOn};
 ghost use Rattle.transactions.specs.Outcomes.{concluded};
 ghost use Rattle.transactions.specs.PaymentParts.{paid_of, payment_cards_of, payment_rows_of};
 ghost use Rattle.worker_rows.specs.Views.{covers};
+ghost use Rattle.worker_rows.specs.Writers.{KeepsPoints};
 
 use crate::fault::{Fault, limited};
 use crate::lent::{self, Lent};
@@ -20,6 +24,7 @@ use catalog::{Catalog, Credit, CustomerCard, DistrictCard, WarehouseCard};
 use requests::number::PaymentAmount;
 use requests::reply::{PaymentReply, Reply, RequestRefusal, ShownCredit};
 use requests::request::Payment;
+use row_store::PointedStore;
 use std::alloc::Global;
 use tpcc_model::choice::chosen_customer;
 use tpcc_rows::delta::Delta;
@@ -28,10 +33,12 @@ use tpcc_rows::id::{CustomerId, RequestNumber};
 use tpcc_rows::key::RowKey;
 use tpcc_rows::memory::Memory;
 use tpcc_rows::number::{Amount, Moment};
-use tpcc_rows::row::{CustomerRow, DistrictYtdRow, HistoryRow, Row, WarehouseRow};
+use tpcc_rows::row::{CustomerRow, DistrictYtdRow, HistoryRow, WarehouseRow};
 use tpcc_rows::shared_text::SharedText;
 use tpcc_rows::text::Text;
-use worker_rows::{KeyedRows, RowView, customer_row, district_ytd_row, warehouse_row};
+use worker_rows::{
+    KeyedRows, RowView, RowWriter, Whole, customer_row, district_ytd_row, warehouse_row,
+};
 
 /// The customer who pays, and the cards of a payment's keys.
 #[derive(Drop)]
@@ -310,33 +317,35 @@ fn payment_reply(rows: &NewRows) -> PaymentReply
     }
 }
 
+/// Writes the new rows in their places.
 #[tactic(auto, unfolding(tpcc_model::specs::Payments::payment_changes))]
-fn payment_changes(
-    alloc: Global,
+fn write<W: RowWriter>(
     p: &Payment,
     number: RequestNumber,
     rows: NewRows,
-) -> Result<Delta, Memory>
-    ensures { IfOk result (λ delta. delta ≡ payment_changes p.now number (paid_of rows)) }
+    writer: &mut W,
+) -> Result<(), Memory>
+    ensures made { (before : Rows) → W.Stands before map.empty writer.old →
+        OnOk result (W.Stands before (payment_changes p.now number (paid_of rows)) writer.new) }
+    ensures kept { (first : W) → W.Keeps first writer.old → W.Keeps first writer.new }
 {
-    let mut delta = Delta::with_room(alloc, 4)?;
     let warehouse = RowKey::Warehouse {
         warehouse: p.warehouse,
     };
-    delta.put(warehouse, Row::Warehouse(rows.warehouse))?;
+    writer.put(warehouse, rows.warehouse)?;
     let district = RowKey::DistrictYtd {
         warehouse: p.warehouse,
         district: p.district,
     };
-    delta.put(district, Row::DistrictYtd(rows.district))?;
+    writer.put(district, rows.district)?;
     let customer = RowKey::Customer {
         warehouse: p.customer_warehouse,
         district: p.customer_district,
         customer: rows.customer_id,
     };
-    delta.put(customer, Row::Customer(rows.customer))?;
-    delta.put(RowKey::History { number }, Row::History(rows.history))?;
-    Ok(delta)
+    writer.put(customer, rows.customer)?;
+    writer.put(RowKey::History { number }, rows.history)?;
+    Ok(())
 }
 
 /// The reply to a payment, and the rows that it changes.
@@ -353,6 +362,26 @@ pub(crate) fn execute<V: RowView>(
 {
     let rows = payment(alloc, catalog, p, moment, view)?;
     let reply = payment_reply(&rows);
-    let changes = payment_changes(alloc, p, number, rows)?;
+    let mut changes = Delta::with_room(alloc, 4)?;
+    write(p, number, rows, &mut changes)?;
     Ok((Reply::Payment(reply), changes))
+}
+
+/// The reply to a payment on all rows of a store, whose changes are made in their places.
+pub(crate) fn execute_in_place(
+    alloc: Global,
+    catalog: &Catalog,
+    p: &Payment,
+    number: RequestNumber,
+    moment: Moment,
+    store: &mut PointedStore,
+) -> Result<Reply, Fault>
+    ensures answer { AnswersInPlace (λ answer. ExecutesOn (λ db. payment_touch db p.now) (λ db. payment_outcome p.now number (payment db p.now moment))
+        catalog.now (whole store.old.rows) (concluded kind.Payment answer)) store.old.rows store.new.rows result }
+    ensures kept { KeepsPoints store.old store.new }
+{
+    let rows = payment(alloc, catalog, p, moment, &Whole { store: &*store })?;
+    let reply = payment_reply(&rows);
+    write(p, number, rows, store)?;
+    Ok(Reply::Payment(reply))
 }

@@ -30,18 +30,22 @@ as_many replies lines amounts =
 
 -- one line less to put
 with_lines-drop : (p : NewOrder) (o n number : ℕ) → number ≡ n → (lines : List LineCards) (i : ℕ) (line : LineCards) → i < length lines → line ≡ get_or lines i line → (amount : ℕ) → amount ≡ amount_of (line_cards_of line)
-    → (line_row : OrderLineRow) → line_row ≡ order_line_of p (line_cards_of line) amount → (changes more : Changes) → more ≡ insert changes (key.OrderLine p.warehouse p.district o number) (Some (row.OrderLine line_row))
-    → with_lines p o (n + 1) (map line_cards_of (drop (i + 1) lines)) more ≡ with_lines p o n (map line_cards_of (drop i lines)) changes
-with_lines-drop p o n number same lines i line below is amount its line_row row_is changes more put =
+    → (line_row : OrderLineRow) → line_row ≡ order_line_of p (line_cards_of line) amount → (changes : Changes)
+    → with_lines p o (n + 1) (map line_cards_of (drop (i + 1) lines)) (insert changes (key.OrderLine p.warehouse p.district o number) (Some (row.OrderLine line_row))) ≡ with_lines p o n (map line_cards_of (drop i lines)) changes
+with_lines-drop p o n number same lines i line below is amount its line_row row_is changes =
     let here : drop i lines ≡ line ∷ drop (suc i) lines = drop-cons lines i line below ∙ ap (λ (x : LineCards). x ∷ drop (suc i) lines) (sym is) in
-    ap (λ k. with_lines p o (n + 1) (map line_cards_of (drop k lines)) more) (add-one i)
-    ∙ ap (with_lines p o (n + 1) (map line_cards_of (drop (suc i) lines))) (put ∙ ap₂ (λ (k : ℕ) (r : OrderLineRow). insert changes (key.OrderLine p.warehouse p.district o k) (Some (row.OrderLine r))) same (row_is ∙ ap (order_line_of p (line_cards_of line)) its))
+    ap (λ k. with_lines p o (n + 1) (map line_cards_of (drop k lines)) (insert changes (key.OrderLine p.warehouse p.district o number) (Some (row.OrderLine line_row)))) (add-one i)
+    ∙ ap (with_lines p o (n + 1) (map line_cards_of (drop (suc i) lines))) (ap₂ (λ (k : ℕ) (r : OrderLineRow). insert changes (key.OrderLine p.warehouse p.district o k) (Some (row.OrderLine r))) same (row_is ∙ ap (order_line_of p (line_cards_of line)) its))
     ∙ sym (ap (λ (ls : List LineCards). with_lines p o n (map line_cards_of ls) changes) here)
 
 pub loop-index-preserved : goal.loop-index-preserved
-loop-index-preserved c =
+loop-index-preserved g c =
     let below = c.loop-index-test.true in
     let below_replies = subst (λ n. c.loop-index.index < n) (as_many c.args.replies.now c.args.lines.now c.requires.amounts) below in
-    let amount = same_amount c.args.replies.now c.args.lines.now c.loop-index.index c.index-replies-index.result c.index-lines-index.result c.requires.amounts below below_replies c.index-lines-index.is in
-    with_lines-drop _ _ _ _ c.line_number.ensures _ _ c.index-lines-index.result below c.index-lines-index.is _ amount _ c.order_line_of-line_row.ensures _ _ c.in_ok-put.ensures.ok
-    ∙ c.loop-index.invariant
+    let amount = same_amount c.args.replies.now c.args.lines.now c.loop-index.index c.index-replies-index.result c.index-lines-index.result c.requires.amounts below below_replies c.index-lines-index.is in (
+      λ rows changes stood. (
+          let (now, stands, leads) = c.loop-index.invariant.0 rows changes stood in
+          (_, c.in_ok-put.ensures.made rows now stands, with_lines-drop _ _ _ _ c.line_number.ensures _ _ c.index-lines-index.result below c.index-lines-index.is _ amount _ c.order_line_of-line_row.ensures now ∙ leads)
+          ),
+      λ first keeps. c.in_ok-put.ensures.kept first (c.loop-index.invariant.1 first keeps),
+    )
