@@ -1,5 +1,5 @@
 -- What is told of the requests of a batch that is executed in order.
-use Rattle.std.proofs.Common.{◌≡◌, ◌||◌, ◌&&◌, ◌+◌, ℕ, Bool, true, false, if◌then◌else◌, List, [], ◌∷◌, Option, None, Some, Result, Ok, Err, OnOk, map, refl, ap, ap₂, sym}
+use Rattle.std.proofs.Common.{◌≡◌, ◌||◌, ◌&&◌, ◌+◌, ℕ, Bool, true, false, if◌then◌else◌, List, [], ◌∷◌, None, Some, Result, Ok, Err, OnOk, map, refl, ap, ap₂, sym}
 use Rattle.catalog.specs.CardMap.{Cards}
 use Rattle.serializability.specs.Folds.{after}
 use Rattle.serializability.specs.Footprints.{Footprint}

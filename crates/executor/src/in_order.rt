@@ -6,21 +6,17 @@ ghost use Rattle.rollback.specs.Pointed.{KeepsCleanLeaves};
 ghost use Rattle.tpcc_model.specs.Database.{database};
 ghost use Rattle.tpcc_model.specs.Machine.{tpcc};
 ghost use Rattle.tpcc_model.specs.Steps.{step};
-ghost use Rattle.transactions.specs.Outcomes.{IsOutcome};
+ghost use Rattle.tpcc_rows.specs.Changing.{after};
 ghost use Rattle.workers.specs.LevelEnds.{job_of};
 
-use crate::sequential::{executed, settle};
 use crate::turn::{PlanInTurn, Told};
 use catalog::Catalog;
 use requests::reply::Reply;
 use row_store::PointedStore;
 use std::thread::Threads;
-use tpcc_rows::delta::Delta;
 use tpcc_rows::id::RequestNumber;
 use tpcc_rows::memory::Memory;
-use tpcc_rows::number::Moment;
-use transactions::{Stop, execute};
-use worker_rows::Loan;
+use transactions::{Stop, execute_in_place, execute_in_place_within};
 use workers::{Db, Gate, Job, Runtime, tell_stray};
 
 /// The replies to a batch, in order, and whether a request strayed.
@@ -30,16 +26,20 @@ pub(crate) struct Pass {
     pub strayed: bool,
 }
 
-/// The outcome of a request: on the rows that it declared, or on all rows, once this or an earlier one has strayed.
-fn executed_within<R: Threads + Sync, G: Gate>(
+/// The reply to a request, whose changes are made: on the rows that it declared, or on all rows, once this or an earlier one has
+/// strayed. If an allocation fails, some of the changes may have been made.
+fn execute_within<R: Threads + Sync, G: Gate>(
     runtime: &Runtime<'_, R, G>,
     catalog: &Catalog,
     job: &Job<'_>,
-    store: &PointedStore,
+    store: &mut PointedStore,
     strayed: &mut bool,
-) -> Result<(Reply, Delta), Memory>
-    ensures outcome { IfOk result (IsOutcome (step (database catalog.now store.now.rows) job.now.request.now job.now.number job.now.moment)) }
-    ensures strayed { OnOk result (strayed.new ≡ (strayed.old || job_strays (tpcc catalog.now job.now.moment) store.now.rows (job_of job.now))) }
+) -> Result<Reply, Memory>
+    ensures reply { IfOk result (λ reply. reply ≡ (step (database catalog.now store.old.rows) job.now.request.now job.now.number job.now.moment).reply) }
+    ensures rows { OnOk result (store.new.rows ≡ after store.old.rows (step (database catalog.now store.old.rows) job.now.request.now job.now.number job.now.moment).changes) }
+    ensures strayed { OnOk result (strayed.new ≡ (strayed.old || job_strays (tpcc catalog.now job.now.moment) store.old.rows (job_of job.now))) }
+    ensures points { store.new.points ≡ store.old.points }
+    ensures clean { KeepsCleanLeaves store.old store.new }
 {
     let Job {
         number,
@@ -50,9 +50,8 @@ fn executed_within<R: Threads + Sync, G: Gate>(
     } = *job;
     let alloc = runtime.alloc;
     if !*strayed {
-        let loan = Loan::new(store, footprint);
-        match execute(alloc, catalog, request, number, moment, &loan) {
-            Ok(done) => return Ok(done),
+        match execute_in_place_within(alloc, catalog, request, number, moment, footprint, store) {
+            Ok(reply) => return Ok(reply),
             Err(Stop::Memory) => return Err(Memory),
             Err(Stop::Strayed) => {
                 *strayed = true;
@@ -60,19 +59,23 @@ fn executed_within<R: Threads + Sync, G: Gate>(
             }
         }
     }
-    executed(alloc, catalog, request, number, moment, store)
+    execute_in_place(alloc, catalog, request, number, moment, store)
 }
 
-/// The outcome of a request: on the rows that it declared, or on all rows, if it can't stray or once one has strayed.
-fn executed_as_told<R: Threads + Sync, G: Gate>(
+/// The reply to a request, whose changes are made: on the rows that it declared, or on all rows, if it can't stray or once one has
+/// strayed. If an allocation fails, some of the changes may have been made.
+fn execute_as_told<R: Threads + Sync, G: Gate>(
     runtime: &Runtime<'_, R, G>,
     catalog: &Catalog,
     told: &Told<'_>,
-    store: &PointedStore,
+    store: &mut PointedStore,
     strayed: &mut bool,
-) -> Result<(Reply, Delta), Memory>
-    ensures outcome { IfOk result (IsOutcome (step (database catalog.now store.now.rows) told.now.request.now told.now.number told.now.moment)) }
-    ensures strayed { OnOk result (strayed.new ≡ (strayed.old || told_strays catalog.now store.now.rows told.now)) }
+) -> Result<Reply, Memory>
+    ensures reply { IfOk result (λ reply. reply ≡ (step (database catalog.now store.old.rows) told.now.request.now told.now.number told.now.moment).reply) }
+    ensures rows { OnOk result (store.new.rows ≡ after store.old.rows (step (database catalog.now store.old.rows) told.now.request.now told.now.number told.now.moment).changes) }
+    ensures strayed { OnOk result (strayed.new ≡ (strayed.old || told_strays catalog.now store.old.rows told.now)) }
+    ensures points { store.new.points ≡ store.old.points }
+    ensures clean { KeepsCleanLeaves store.old store.new }
 {
     let Told {
         place,
@@ -90,14 +93,14 @@ fn executed_as_told<R: Threads + Sync, G: Gate>(
                 request,
                 footprint,
             };
-            executed_within(runtime, catalog, &job, store, strayed)
+            execute_within(runtime, catalog, &job, store, strayed)
         }
-        None => executed(runtime.alloc, catalog, request, number, moment, store),
+        None => execute_in_place(runtime.alloc, catalog, request, number, moment, store),
     }
 }
 
-/// Executes the requests of a batch one after the other, and applies the changes of each before the next. If an allocation
-/// fails, some of the changes may have been applied.
+/// Executes the requests of a batch one after the other, each on the rows as the earlier ones leave them. If an allocation
+/// fails, some of the changes may have been made.
 #[tactic(auto, unfolding(tpcc_rows::specs::Changing::after))]
 pub(crate) fn execute_in_order<R: Threads + Sync, G: Gate>(
     runtime: &Runtime<'_, R, G>,
@@ -121,8 +124,8 @@ pub(crate) fn execute_in_order<R: Threads + Sync, G: Gate>(
             request,
             footprint: &plan.told[place],
         };
-        let outcome = executed_as_told(runtime, catalog, &told, store, &mut strayed)?;
-        settle(store, &mut replies, outcome)?;
+        let reply = execute_as_told(runtime, catalog, &told, store, &mut strayed)?;
+        replies.push(reply)?;
     }
     Ok(Pass { replies, strayed })
 }
