@@ -2,7 +2,7 @@
 use Rattle.std.proofs.Common.{◌≡◌, ◌<◌, ◌+◌, ◌-◌, ℕ, Bool, true, false, cond, is_some, List, [], ◌∷◌, ◌++◌, length, Option, Some, None, Result, Ok, Err, inl, inr, refl, sym, ap, ap₂, subst, ◌∙◌, arith}
 use Rattle.std.specs.FinMap as map
 use Rattle.std.specs.FinMap.{entries, find, get, get-empty, get-entries, get-from_entries, len, len-empty, len-entries, len-insert, len-remove, remove, same_map}
-use Rattle.std.specs.Option.{option_or}
+use Rattle.std.specs.Option.{option_or, unwrap_or}
 use Rattle.std.specs.Result.{OnOk, OnErr}
 use Rattle.std.specs.Ordering.{eq_by_cmp}
 use Rattle.std.proofs.lemmas.Bool.{cases_Bool}
@@ -191,6 +191,24 @@ module _ (a m : Rows) where
         omega (arith, none, whole)
         );
   }
+
+-- ---- a row of the tables and another have changed places, or neither has
+module _ (a m : Rows) (k : RowKey) (x : Row) (none : get a k ≡ None) where
+  pub beside-swapped : IsBeside a m → (b : Bool) (m2 : Rows) → m2 ≡ cond b (map.insert m k x) m → IsBeside a m2
+  beside-swapped h true m2 e = subst (λ (z : Rows). IsBeside a z) (sym e) (beside-tables a m k (Some x) h none)
+  beside-swapped h false m2 e = subst (λ (z : Rows). IsBeside a z) (sym e) h
+
+  pub both-swapped : (b : Bool) (m2 : Rows) → m2 ≡ cond b (map.insert m k x) m → both a m2 ≡ cond b (map.insert (both a m) k x) (both a m)
+  both-swapped true m2 e = ap (λ (z : Rows). both a z) e ∙ both-tables a m k (Some x) none
+  both-swapped false m2 e = ap (λ (z : Rows). both a z) e
+
+pub given-back : (o : Option Row) (x y : Row) → y ≡ unwrap_or o x → is_some o ≡ true → o ≡ Some y
+given-back None x y e h = cc
+given-back (Some z) x y e h = ap Some (sym e)
+
+pub not-taken : (o : Option Row) (x y : Row) → y ≡ unwrap_or o x → is_some o ≡ false → y ≡ x
+not-taken None x y e h = e
+not-taken (Some z) x y e h = cc
 
 -- ---- what is shown of both
 module _ (a m : Rows) (room : ℕ) (s : Roomy) (is : record { rows = both a m; room = room } ≡ s) where

@@ -16,6 +16,20 @@ use Rattle.pointed_tables.specs.declared.log.Log.{Log}
 use Rattle.pointed_tables.specs.Logs.{AreMade, AreOlds, IsExchanged, IsLogOf, IsSame, IsStep, LeadBack, Olds, needed, undone, wants}
 use Rattle.pointed_tables.proofs.Undoing.{changed-back, clean-more, needed-more, olds-more, undone-more}
 
+-- a change made in exchange for what its key had leads back to it
+module _ (x y : RowKey × Option Row) (old new : Rows) (removed : ℕ) (h : IsExchanged x y old new removed) where
+  exchanged-back : changed new y.0 y.1 ≡ old
+  exchanged-back =
+      ap (λ (z : Rows). changed z y.0 y.1) h.made ∙ ap (λ k. changed (changed old x.0 x.1) k y.1) h.key
+      ∙ ap (λ (o : Option Row). changed (changed old x.0 x.1) x.0 o) h.was ∙ changed-back old x.0 x.1
+
+  pub back-exchanged : LeadBack (y ∷ []) removed old new
+  back-exchanged = record {
+    back = exchanged-back;
+    fit = (h.fit, tt);
+    counted = (let same : wants y.0 y.1 new ≡ removed = ap (λ k. wants k y.1 new) h.key ∙ sym h.counted in omega (arith, same));
+  }
+
 -- n of the changes are made, in exchange for what stands in their places now, and the others are left
 pub record IsExchangedTo (cs es : Olds) (n removals : ℕ) (old new : Rows) (before after : List ℕ) (room now : ℕ) : Type 0 where
   pub made : AreMade cs n old new before after
@@ -67,9 +81,7 @@ module _ (cs es : Olds) (n removals : ℕ) (old new : Rows) (before after : List
 
   module _ (new2 : Rows) (after2 : List ℕ) (removed now2 : ℕ) (one : IsExchanged x y new new2 removed) (place : ℕ) (at : place ≡ leaf x.0) (also : HasAlso after place after2) (room_is : now2 ≡ now + removed) (few : removed ≤ 1) where
     was : changed new2 y.0 y.1 ≡ new
-    was =
-        ap (λ (z : Rows). changed z y.0 y.1) one.made ∙ ap (λ k. changed (changed new x.0 x.1) k y.1) one.key
-        ∙ ap (λ (o : Option Row). changed (changed new x.0 x.1) x.0 o) one.was ∙ changed-back new x.0 x.1
+    was = exchanged-back x y new new2 removed one
 
     made-more : AreMade cs (n + 1) old new2 before after2
     made-more = record {

@@ -2,5 +2,6 @@ mod Besides
 mod Picking
 mod Placing
 mod Undoing
+mod Replacing
 mod Exchanging
 mod Pointing

@@ -1,11 +1,27 @@
 -- What points stand for after a change, and after going back.
-use Rattle.std.proofs.Common.{◌≡◌, ℕ, zero, suc, ◌<◌, ◌≤◌, ◌+◌, ◌-◌, List, [], ◌∷◌, ◌++◌, length, get_or, set, take, drop, Some, refl, sym, ap, subst, ◌∙◌, arith}
+use Rattle.std.proofs.Common.{◌≡◌, ℕ, zero, suc, ◌<◌, ◌≤◌, ◌+◌, ◌-◌, List, [], ◌∷◌, ◌++◌, length, get_or, set, take, drop, Option, Some, Result, Ok, Err, refl, sym, ap, subst, ◌∙◌, arith}
 use Rattle.std.proofs.lemmas.List.{take-append-le, take_all}
 use Rattle.std.specs.List.{refill, slice_get}
+use Rattle.std.specs.Result.{OnOk, OnErr}
+use Rattle.serializability.specs.Changes.{changed}
+use Rattle.tpcc_rows.specs.Leaves.{leaf, page_rows}
 use Rattle.tpcc_rows.specs.RowMap.{Rows}
-use Rattle.rollback.specs.Pointed.{first_or}
+use Rattle.tpcc_rows.specs.declared.key.RowKey.{RowKey}
+use Rattle.tpcc_rows.specs.declared.row.Row.{Row}
+use Rattle.rollback.specs.Marks.{HasAlso, is_dirty}
+use Rattle.rollback.specs.Pointed.{KeepsCleanLeaves, Pointed, first_or}
+use Rattle.rollback.proofs.Marking.{keeps-changed}
 use Rattle.pointed_tables.specs.declared.log.Log.{Log}
 use Rattle.pointed_tables.specs.Logs.{AreLogs, AreOlds, IsLogOf, IsPointed, IsStep, Olds, held, needed, points_of, undone}
+
+-- ---- a change that was made or refused
+pub keeps-tried : {A E : Type 0} (r : Result A E) (before old new : Pointed) (k : RowKey) (c : Option Row) → before ≡ old → OnOk r (new.rows ≡ changed before.rows k c) → OnOk r (HasAlso before.dirty (leaf k) new.dirty)
+    → OnErr r (new.rows ≡ before.rows) → OnErr r (new.dirty ≡ before.dirty) → KeepsCleanLeaves old new
+keeps-tried (Ok u) before old new k c view rows dirty err same = keeps-changed before old new k (leaf k) c view refl rows dirty
+keeps-tried (Err e) before old new k c view rows dirty err same = λ n clean. (
+  ap (λ (p : Pointed). is_dirty p.dirty n) (sym view) ∙ ap (λ d. is_dirty d n) (sym same) ∙ clean,
+  ap (λ (r : Rows). page_rows r n) err ∙ ap (λ (p : Pointed). page_rows p.rows n) view,
+)
 
 -- ---- the newest log replaced
 pub points-set : (ls : List Log) (l d : Log) (m m2 : Rows) (n : ℕ) → n + 1 ≡ length ls → IsStep (get_or ls n d) l m m2 → points_of (set ls n l) m2 ≡ points_of ls m

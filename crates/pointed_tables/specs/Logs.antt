@@ -1,5 +1,5 @@
 -- Rows as they were before the changes of logs.
-use Rattle.std.specs.Prelude.{◌≡◌, ◌≤◌, ◌+◌, ◌||◌, ℕ, ⊤, true, false, cond, eqb, is_some, length, take, List, [], ◌∷◌, Option, Some, None}
+use Rattle.std.specs.Prelude.{◌≡◌, ◌≤◌, ◌+◌, ◌||◌, ℕ, Bool, ⊤, true, false, cond, eqb, is_some, length, take, List, [], ◌∷◌, Option, Some, None}
 use Rattle.std.specs.FinMap as map
 use Rattle.std.specs.List.{list_any}
 use Rattle.serializability.specs.Changes.{apply, changed}
@@ -7,6 +7,7 @@ use Rattle.tpcc_rows.specs.declared.key.RowKey.{RowKey}
 use Rattle.tpcc_rows.specs.declared.row.Row.{Row}
 use Rattle.tpcc_rows.specs.Changing.{new_row_fits}
 use Rattle.tpcc_rows.specs.Leaves.{leaf, page_rows}
+use Rattle.tpcc_rows.specs.RowKinds.{fits}
 use Rattle.tpcc_rows.specs.RowMap.{Rows}
 use Rattle.rollback.specs.Marks.{is_dirty}
 use Rattle.rollback.specs.Pointed.{first_or}
@@ -58,6 +59,18 @@ pub record IsExchanged (change old : RowKey × Option Row) (before after : Rows)
   pub fit : new_row_fits old.0 old.1 ≡ true
   pub made : after ≡ changed before change.0 change.1
   pub counted : removed ≡ wants change.0 old.1 after
+
+-- a key's row and another of its kind have changed places; or neither has
+pub record IsSwapped (key : RowKey) (given left : Row) (swapped : Bool) (before after : Rows) : Type 0 where
+  pub was : swapped ≡ true → map.get before key ≡ Some left
+  pub fit : fits key left ≡ true
+  pub made : after ≡ cond swapped (map.insert before key given) before
+  pub kept : swapped ≡ false → left ≡ given
+
+-- a row has taken the place of its key's; or it comes back, and no row has changed
+abbrev pub IsReplaced : RowKey → Row → Option Row → Rows → Rows → Type 0
+IsReplaced key row None before after = (is_some (map.get before key) ≡ true) × (after ≡ map.insert before key row)
+IsReplaced key row (Some back) before after = (back ≡ row) × (after ≡ before)
 
 -- the first n of these changes have been made, and the marked leaves are those that were and theirs
 pub record AreMade (changes : Olds) (n : ℕ) (old new : Rows) (before after : List ℕ) : Type 0 where

@@ -1,12 +1,13 @@
 //! A log of what keys had, by which changes are taken back.
-ghost use Rattle.std.specs.Prelude.{◌≡◌, ◌<◌, ◌≤◌, ◌+◌, ◌^◌, ◌++◌, ◌∷◌, [], IfOk, OnErr, OnOk, cond, is_some, length, vec_capacity, vec_len, true};
+ghost use Rattle.std.specs.Prelude.{◌≡◌, ◌<◌, ◌≤◌, ◌+◌, ◌^◌, ◌++◌, ◌∷◌, [], IfOk, OnErr, OnOk, cond, is_some, length, option_map, vec_capacity, vec_len, true};
 ghost use Rattle.std.specs.FinMap as map;
 ghost use Rattle.std.specs.List.{list_all};
+ghost use Rattle.serializability.specs.Changes.{changed};
 ghost use Rattle.tpcc_rows.specs.Changing.{change_fits};
 ghost use Rattle.tpcc_rows.specs.Leaves.{leaf};
 ghost use Rattle.tpcc_rows.specs.RowKinds.{fits};
 ghost use Rattle.rollback.specs.Marks.{HasAlso};
-ghost use Rattle.pointed_tables.specs.Logs.{AreMade, IsExchanged, IsLogOf, IsSame, IsStep, KeepsOthers, LeadBack, undone};
+ghost use Rattle.pointed_tables.specs.Logs.{AreMade, IsExchanged, IsLogOf, IsReplaced, IsSame, IsStep, KeepsOthers, LeadBack, undone};
 
 use crate::roomy::RoomyTables;
 use rollback::Dirty;
@@ -86,13 +87,15 @@ impl Log {
         self.removals += removals;
     }
 
-    /// Adds what a key had, for which there is room, before its row was inserted or replaced.
-    fn note(&mut self, key: RowKey, was: Option<Row>)
-        requires { vec_len self.old.olds + 1 ≤ vec_capacity self.old.olds }
-        ensures olds { self.new.olds.items ≡ self.old.olds.items ++ (key, was) ∷ [] }
-        ensures removals { self.new.removals ≡ self.old.removals }
+    /// Adds what a key had, for which there is room, before a change that removed so many rows.
+    fn note(&mut self, was: (RowKey, Option<Row>), removed: usize)
+        requires room { vec_len self.old.olds + 1 ≤ vec_capacity self.old.olds }
+        requires few { self.old.removals + removed < 2 ^ 64 }
+        ensures olds { self.new.olds.items ≡ self.old.olds.items ++ was ∷ [] }
+        ensures removals { self.new.removals ≡ self.old.removals + removed }
     {
-        self.olds.push_reserved((key, was));
+        self.olds.push_reserved(was);
+        self.removals += removed;
     }
 }
 
@@ -110,7 +113,7 @@ fn rows_removed(is_removal: bool, was: &Option<Row>) -> usize
 }
 
 /// Gives the key its row, or none, in exchange for what it had; its leaf is dirty from now on. Returns how many rows were removed.
-fn exchange(
+pub(crate) fn exchange(
     store: &mut RoomyTables,
     dirty: &mut Dirty,
     change: &mut (RowKey, Option<Row>),
@@ -177,6 +180,51 @@ pub(crate) fn exchange_noting(
     made
 }
 
+/// Gives the key its row, or none, and notes what it had; its leaf is dirty from now on.
+pub(crate) fn change_noting(
+    store: &mut RoomyTables,
+    dirty: &mut Dirty,
+    change: (RowKey, Option<Row>),
+    log: &mut Log,
+) -> Result<(), Memory>
+    requires { change_fits change ≡ true }
+    ensures ok { OnOk result (store.new.rows ≡ changed store.old.rows change.0 change.1) }
+    ensures dirty { OnOk result (HasAlso dirty.old (leaf change.0) dirty.new) }
+    ensures err { OnErr result (store.new ≡ store.old) }
+    ensures same { OnErr result (dirty.new ≡ dirty.old) }
+    ensures step { IsStep log.old log.new store.old.rows store.new.rows }
+    ensures room { log.new.removals + store.old.room ≡ log.old.removals + store.new.room }
+{
+    let mut change = change;
+    log.prepare(1)?;
+    let removed = exchange(store, dirty, &mut change)?;
+    log.note(change, removed);
+    Ok(())
+}
+
+/// Puts the row, of whose kind it is, in the place of the key's, and notes the old one. Returns it if the key has none, or if rows
+/// stand aside.
+pub(crate) fn replace_noting<R: TableRow>(
+    store: &mut RoomyTables,
+    key: &RowKey,
+    row: R,
+    log: &mut Log,
+) -> Result<Option<R>, Memory>
+    requires { fits key.now (R.row_of row) ≡ true }
+    ensures ok { IfOk result (λ back. IsReplaced key.now (R.row_of row) (option_map R.row_of back) store.old.rows store.new.rows) }
+    ensures err { OnErr result (store.new ≡ store.old) }
+    ensures step { IsStep log.old log.new store.old.rows store.new.rows }
+    ensures room { log.new.removals + store.old.room ≡ log.old.removals + store.new.room }
+{
+    let mut row = row;
+    log.prepare(1)?;
+    if !store.swap_row(key, &mut row) {
+        return Ok(Some(row));
+    }
+    log.note((*key, Some(row.into_row())), 0);
+    Ok(None)
+}
+
 /// Inserts or replaces the key's row, of whose kind it is, and notes what the key had.
 pub(crate) fn put_noting<R: TableRow>(
     store: &mut RoomyTables,
@@ -192,7 +240,7 @@ pub(crate) fn put_noting<R: TableRow>(
 {
     log.prepare(1)?;
     let was = store.put_row(key, row)?;
-    log.note(*key, was);
+    log.note((*key, was), 0);
     Ok(())
 }
 

@@ -1,5 +1,5 @@
 //! Rows in tables, the points to which they can go back, and the leaves on which they have changed.
-ghost use Rattle.std.specs.Prelude.{◌≡◌, ◌<◌, ◌≤◌, ◌+◌, ◌↔◌, [], ◌∷◌, ◌++◌, take, drop, IfOk, IsErr, None, Some, OnOk, OnErr, length, slice_get, true};
+ghost use Rattle.std.specs.Prelude.{◌≡◌, ◌<◌, ◌≤◌, ◌+◌, ◌↔◌, [], ◌∷◌, ◌++◌, take, drop, IfOk, IsErr, None, Some, OnOk, OnErr, is_none, is_some, length, option_map, slice_get, true};
 ghost use Rattle.std.specs.FinMap as map;
 ghost use Rattle.std.specs.List.{list_all};
 ghost use Rattle.serializability.specs.Changes.{changed};
@@ -8,9 +8,12 @@ ghost use Rattle.tpcc_rows.specs.Leaves.{leaf};
 ghost use Rattle.tpcc_rows.specs.RowKinds.{fits};
 ghost use Rattle.rollback.specs.Marks.{AreClean, HasAlso, HasAlsoThose};
 ghost use Rattle.rollback.specs.Pointed.{KeepsCleanLeaves};
-ghost use Rattle.pointed_tables.specs.Logs.{AreMade, IsPointed, points_of};
+ghost use Rattle.pointed_tables.specs.Logs.{AreMade, IsPointed, IsReplaced, points_of};
 
-use crate::log::{Log, exchange_all, exchange_noting, put_noting, undo_all};
+use crate::log::{
+    Log, change_noting, exchange, exchange_all, exchange_noting, put_noting, replace_noting,
+    undo_all,
+};
 use crate::roomy::RoomyTables;
 use arrayvec::ArrayVec;
 use rollback::{Dirty, NoSuchPoint, POINTS, PointsFull};
@@ -94,6 +97,56 @@ fn put_noting_newest<R: TableRow>(
     Ok(())
 }
 
+/// Gives the key its row, or none, and notes what it had in the newest log, if there is one; its leaf is dirty from now on.
+fn change_noting_newest(
+    store: &mut RoomyTables,
+    dirty: &mut Dirty,
+    change: (RowKey, Option<Row>),
+    points: &mut [Log],
+) -> Result<(), Memory>
+    requires { change_fits change ≡ true }
+    ensures ok { OnOk result (store.new.rows ≡ changed store.old.rows change.0 change.1) }
+    ensures dirty { OnOk result (HasAlso dirty.old (leaf change.0) dirty.new) }
+    ensures err { OnErr result (store.new.rows ≡ store.old.rows) }
+    ensures same { OnErr result (dirty.new ≡ dirty.old) }
+    ensures points { points_of points.new store.new.rows ≡ points_of points.old store.old.rows }
+    ensures pointed { IsPointed points.old store.old.rows store.old.room → IsPointed points.new store.new.rows store.new.room }
+{
+    let len = points.len();
+    if len > 0 {
+        return change_noting(store, dirty, change, &mut points[len - 1]);
+    }
+    let mut change = change;
+    let removed = exchange(store, dirty, &mut change)?;
+    store.release(removed);
+    Ok(())
+}
+
+/// Puts the row, of whose kind it is, in the place of the key's, and notes the old one in the newest log, if there is one. Returns it
+/// if the key has none, or if rows stand aside.
+fn replace_noting_newest<R: TableRow>(
+    store: &mut RoomyTables,
+    key: &RowKey,
+    row: R,
+    points: &mut [Log],
+) -> Result<Option<R>, Memory>
+    requires { fits key.now (R.row_of row) ≡ true }
+    ensures ok { IfOk result (λ back. IsReplaced key.now (R.row_of row) (option_map R.row_of back) store.old.rows store.new.rows) }
+    ensures err { OnErr result (store.new.rows ≡ store.old.rows) }
+    ensures points { points_of points.new store.new.rows ≡ points_of points.old store.old.rows }
+    ensures pointed { IsPointed points.old store.old.rows store.old.room → IsPointed points.new store.new.rows store.new.room }
+{
+    let len = points.len();
+    if len > 0 {
+        return replace_noting(store, key, row, &mut points[len - 1]);
+    }
+    let mut row = row;
+    if store.swap_row(key, &mut row) {
+        return Ok(None);
+    }
+    Ok(Some(row))
+}
+
 impl PointedTables {
     /// The rows of a store; there is no point, and no leaf is dirty.
     pub fn new(alloc: Global, tables: RowTables) -> PointedTables
@@ -136,12 +189,8 @@ impl PointedTables {
         ensures err { OnErr result (self.new ≡ self.old) }
         ensures clean { KeepsCleanLeaves self.old self.new }
     {
-        let mut changes = Vec::with_capacity(self.alloc, 1)?;
-        changes.push((key, new_row))?;
-        if self.make(changes) == 0 {
-            return Err(Memory);
-        }
-        Ok(())
+        let points = self.points.as_mut_slice();
+        change_noting_newest(&mut self.store, &mut self.dirty, (key, new_row), points)
     }
 
     /// Inserts or replaces the key's row, of whose kind it is; its leaf is dirty from now on.
@@ -157,6 +206,27 @@ impl PointedTables {
         put_noting_newest(&mut self.store, key, row, points)?;
         self.dirty.add(leaf(key));
         Ok(())
+    }
+
+    /// Puts the row, of whose kind it is, in the place of the key's; its leaf is dirty from now on. Returns it if the key has none, or
+    /// if rows stand aside.
+    pub fn replace_row<R: TableRow>(&mut self, key: &RowKey, row: R) -> Result<Option<R>, Memory>
+        requires { fits key.now (R.row_of row) ≡ true }
+        ensures value { IfOk result (λ back. IsReplaced key.now (R.row_of row) (option_map R.row_of back) self.old.rows self.new.rows) }
+        ensures dirty { IfOk result (λ back. is_none back ≡ true → HasAlso self.old.dirty (leaf key.now) self.new.dirty) }
+        ensures same { IfOk result (λ back. is_some back ≡ true → self.new ≡ self.old) }
+        ensures points { self.new.points ≡ self.old.points }
+        ensures err { OnErr result (self.new ≡ self.old) }
+        ensures clean { KeepsCleanLeaves self.old self.new }
+    {
+        let points = self.points.as_mut_slice();
+        match replace_noting_newest(&mut self.store, key, row, points)? {
+            Some(row) => Ok(Some(row)),
+            None => {
+                self.dirty.add(leaf(key));
+                Ok(None)
+            }
+        }
     }
 
     /// A row equal to the key's, if it has one.

@@ -7,7 +7,7 @@ ghost use Rattle.tpcc_rows.specs.Changing.{new_row_fits};
 ghost use Rattle.tpcc_rows.specs.Picks.{latest, oldest};
 ghost use Rattle.tpcc_rows.specs.RowKinds.{fits};
 ghost use Rattle.tpcc_rows.specs.Rows.{customer_row, district_next_row, district_ytd_row, order_line_row, order_row, stock_row, warehouse_row};
-ghost use Rattle.pointed_tables.specs.Logs.{wants};
+ghost use Rattle.pointed_tables.specs.Logs.{IsSwapped, wants};
 
 use crate::aside::Aside;
 use crate::picks::{greatest_order, least_new};
@@ -268,6 +268,19 @@ impl RoomyTables {
         }
         let was = self.tables.put_row(key, row)?;
         Ok(into_any(was))
+    }
+
+    /// Exchanges the key's row, of whose kind this one is, for it, and returns true; or returns false if it has none, or if rows stand
+    /// aside.
+    pub fn swap_row<R: TableRow>(&mut self, key: &RowKey, row: &mut R) -> bool
+        requires { fits key.now (R.row_of row.old) ≡ true }
+        ensures value { IsSwapped key.now (R.row_of row.old) (R.row_of row.new) result self.old.rows self.new.rows }
+        ensures room { self.new.room ≡ self.old.room }
+    {
+        if !self.aside.is_empty() {
+            return false;
+        }
+        self.tables.swap_row(key, row)
     }
 
     /// Removes the key's row, and returns it.

@@ -6,11 +6,12 @@ use Rattle.std.specs.FinMap.{entries, find, get, get-empty, get-entries, insert,
 use Rattle.std.specs.List.{slice_get}
 use Rattle.std.specs.Option.{unwrap_or}
 use Rattle.std.specs.Prelude.{⊤, All}
-use Rattle.std.specs.Result.{OnOk, OnErr}
+use Rattle.std.specs.Result.{IfOk, OnOk, OnErr}
 use Rattle.serializability.specs.Changes.{apply, changed}
 use Rattle.std.specs.Ordering.{eq_by_cmp, nat_cmp}
 use Rattle.std.proofs.lemmas.Bool.{cases_Bool}
 use Rattle.rollback.specs.Pointed.{Pointed}
+use Rattle.pointed_tables.specs.Logs.{IsReplaced}
 use Rattle.row_store.specs.Leaves.{AreLeaves, AreListed, AreNewListed, AreRanks, IsListed}
 use Rattle.row_tables.specs.Stored.{IsRank}
 use Rattle.row_tables.proofs.Keyed.{same_key}
@@ -123,6 +124,15 @@ module _ (ranks : ByRank ⊤) (a b : Pointed) (h : AreLeaves ranks a) where
     pub leaves-put : (r : Result A E) (k : RowKey) (x : Row) → IsListed ranks k → OnOk r (b.rows ≡ insert a.rows k x) → b.points ≡ a.points → OnErr r (b ≡ a) → AreLeaves ranks b
     leaves-put (Ok u) k x here rows points err = leaves-with (subst (AreListed ranks) (sym rows) (listed-insert ranks a.rows k x here h.present)) (same-points points)
     leaves-put (Err e) k x here rows points err = leaves-is err
+
+    -- of a row in the place of its key's, or of one that came back
+    pub leaves-replaced : (r : Result A E) (back_of : A → Option Row) (k : RowKey) (x : Row) → IfOk r (λ back. IsReplaced k x (back_of back) a.rows b.rows) → b.points ≡ a.points → OnErr r (b ≡ a) → AreLeaves ranks b
+    leaves-replaced (Ok u) back_of k x rows points err = by (back_of u) rows
+      where
+        by : (back : Option Row) → IsReplaced k x back a.rows b.rows → AreLeaves ranks b
+        by None (there, e) = leaves-with (subst (AreListed ranks) (sym e) (listed-insert ranks a.rows k x (h.present.listed k there) h.present)) (same-points points)
+        by (Some y) (same, e) = leaves-same e points
+    leaves-replaced (Err e) back_of k x rows points err = leaves-is err
 
     pub leaves-removed : (r : Result A E) (k : RowKey) → OnOk r (b.rows ≡ remove a.rows k) → b.points ≡ a.points → OnErr r (b ≡ a) → AreLeaves ranks b
     leaves-removed (Ok u) k rows points err = leaves-with (subst (AreListed ranks) (sym rows) (listed-remove ranks a.rows k h.present)) (same-points points)

@@ -87,19 +87,7 @@ fn is_often_new(key: &RowKey) -> bool {
     )
 }
 
-/// Lists the rank of a key that gets a row, if it may have none. Listing it again changes nothing.
-fn list_row(leaves: &mut Leaves, tables: &PointedTables, key: &RowKey) -> Result<(), Memory>
-    ensures kept { AreLeaves leaves.old tables.now → AreLeaves leaves.new tables.now }
-    ensures ok { OnOk result (AreLeaves leaves.old tables.now → IsListed leaves.new key.now) }
-    ensures others { (k : RowKey) → IsListed leaves.old k → IsListed leaves.new k }
-{
-    if !is_often_new(key) && tables.rows().get(key).is_some() {
-        return Ok(());
-    }
-    list(leaves, key)
-}
-
-/// Lists the key's rank, if the key gets a row and may have none.
+/// Lists the key's rank, if the key gets a row and may have none. Listing it again changes nothing.
 fn list_new(
     leaves: &mut Leaves,
     tables: &PointedTables,
@@ -113,7 +101,10 @@ fn list_new(
     if new_row.is_none() {
         return Ok(());
     }
-    list_row(leaves, tables, key)
+    if !is_often_new(key) && tables.rows().get(key).is_some() {
+        return Ok(());
+    }
+    list(leaves, key)
 }
 
 /// Lists the ranks of the keys that get a row and may have none.
@@ -255,7 +246,23 @@ impl PointedStore {
         ensures err { OnErr result (self.new ≡ self.old) }
         ensures clean { KeepsCleanLeaves self.old self.new }
     {
-        list_row(&mut self.leaves, &self.tables, key)?;
+        match self.tables.replace_row(key, row)? {
+            Some(row) => self.put_new_row(key, row),
+            None => Ok(()),
+        }
+    }
+
+    /// Inserts or replaces the key's row, of whose kind it is; its leaf is dirty from now on. It is quicker than `put_row` where the key
+    /// has no row.
+    pub fn put_new_row<R: TableRow>(&mut self, key: &RowKey, row: R) -> Result<(), Memory>
+        requires { fits key.now (R.row_of row) ≡ true }
+        ensures rows { OnOk result (self.new.rows ≡ map.insert self.old.rows key.now (R.row_of row)) }
+        ensures dirty { OnOk result (HasAlso self.old.dirty (leaf key.now) self.new.dirty) }
+        ensures points { self.new.points ≡ self.old.points }
+        ensures err { OnErr result (self.new ≡ self.old) }
+        ensures clean { KeepsCleanLeaves self.old self.new }
+    {
+        list(&mut self.leaves, key)?;
         self.tables.put_row(key, row)
     }
 

@@ -462,7 +462,7 @@ impl KindTables {
     }
 
     /// Exchanges the rank's row for this one, and returns true; or returns false if it has none.
-    fn swap_warehouse(&mut self, rank: u64, row: &mut WarehouseRow) -> bool
+    pub fn swap_warehouse(&mut self, rank: u64, row: &mut WarehouseRow) -> bool
         requires { table_of rank ≡ 0 }
         ensures found { result ≡ is_some (map.get self.old rank) }
         ensures row { Warehouse row.new ≡ unwrap_or (map.get self.old rank) (Warehouse row.old) }
@@ -472,7 +472,7 @@ impl KindTables {
     }
 
     /// Exchanges the rank's row for this one, and returns true; or returns false if it has none.
-    fn swap_customer(&mut self, rank: u64, row: &mut CustomerRow) -> bool
+    pub fn swap_customer(&mut self, rank: u64, row: &mut CustomerRow) -> bool
         requires { table_of rank ≡ 1 }
         ensures found { result ≡ is_some (map.get self.old rank) }
         ensures row { Customer row.new ≡ unwrap_or (map.get self.old rank) (Customer row.old) }
@@ -482,7 +482,7 @@ impl KindTables {
     }
 
     /// Exchanges the rank's row for this one, and returns true; or returns false if it has none.
-    fn swap_stock(&mut self, rank: u64, row: &mut StockRow) -> bool
+    pub fn swap_stock(&mut self, rank: u64, row: &mut StockRow) -> bool
         requires { table_of rank ≡ 2 }
         ensures found { result ≡ is_some (map.get self.old rank) }
         ensures row { Stock row.new ≡ unwrap_or (map.get self.old rank) (Stock row.old) }
@@ -492,7 +492,7 @@ impl KindTables {
     }
 
     /// Exchanges the rank's row for this one, and returns true; or returns false if it has none.
-    fn swap_order(&mut self, rank: u64, row: &mut OrderRow) -> bool
+    pub fn swap_order(&mut self, rank: u64, row: &mut OrderRow) -> bool
         requires { table_of rank ≡ 3 }
         ensures found { result ≡ is_some (map.get self.old rank) }
         ensures row { Order row.new ≡ unwrap_or (map.get self.old rank) (Order row.old) }
@@ -502,7 +502,7 @@ impl KindTables {
     }
 
     /// Whether the rank has a row, which is as any other new order's.
-    fn swap_new_order(&mut self, rank: u64) -> bool
+    pub fn swap_new_order(&mut self, rank: u64) -> bool
         requires { table_of rank ≡ 4 }
         ensures found { result ≡ is_some (map.get self.old rank) }
         ensures row { NewOrder ≡ unwrap_or (map.get self.old rank) NewOrder }
@@ -512,7 +512,7 @@ impl KindTables {
     }
 
     /// Exchanges the rank's row for this one, and returns true; or returns false if it has none.
-    fn swap_order_line(&mut self, rank: u64, row: &mut OrderLineRow) -> bool
+    pub fn swap_order_line(&mut self, rank: u64, row: &mut OrderLineRow) -> bool
         requires { table_of rank ≡ 5 }
         ensures found { result ≡ is_some (map.get self.old rank) }
         ensures row { OrderLine row.new ≡ unwrap_or (map.get self.old rank) (OrderLine row.old) }
@@ -523,7 +523,7 @@ impl KindTables {
     }
 
     /// Exchanges the rank's row for this one, and returns true; or returns false if it has none.
-    fn swap_history(&mut self, rank: u64, row: &mut HistoryRow) -> bool
+    pub fn swap_history(&mut self, rank: u64, row: &mut HistoryRow) -> bool
         requires { table_of rank ≡ 6 }
         ensures found { result ≡ is_some (map.get self.old rank) }
         ensures row { History row.new ≡ unwrap_or (map.get self.old rank) (History row.old) }
@@ -534,7 +534,7 @@ impl KindTables {
     }
 
     /// Exchanges the rank's row for this one, and returns true; or returns false if it has none.
-    fn swap_district_ytd(&mut self, rank: u64, row: &mut DistrictYtdRow) -> bool
+    pub fn swap_district_ytd(&mut self, rank: u64, row: &mut DistrictYtdRow) -> bool
         requires { table_of rank ≡ 7 }
         ensures found { result ≡ is_some (map.get self.old rank) }
         ensures row { DistrictYtd row.new ≡ unwrap_or (map.get self.old rank) (DistrictYtd row.old) }
@@ -544,7 +544,7 @@ impl KindTables {
     }
 
     /// Exchanges the rank's row for this one, and returns true; or returns false if it has none.
-    fn swap_district_next(&mut self, rank: u64, row: &mut DistrictNextRow) -> bool
+    pub fn swap_district_next(&mut self, rank: u64, row: &mut DistrictNextRow) -> bool
         requires { table_of rank ≡ 8 }
         ensures found { result ≡ is_some (map.get self.old rank) }
         ensures row { DistrictNext row.new ≡ unwrap_or (map.get self.old rank) (DistrictNext row.old) }

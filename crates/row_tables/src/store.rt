@@ -317,15 +317,15 @@ impl RowTables {
         Ok(was)
     }
 
-    /// Exchanges the key's row for this one, and returns true; or returns false if it has none.
-    fn swap(&mut self, key: &RowKey, row: &mut Row) -> bool
-        requires { fits key.now row.old ≡ true }
+    /// Exchanges the key's row, of whose kind this one is, for it, and returns true; or returns false if it has none.
+    pub fn swap_row<R: TableRow>(&mut self, key: &RowKey, row: &mut R) -> bool
+        requires { fits key.now (R.row_of row.old) ≡ true }
         ensures found { result ≡ is_some (map.get self.old key.now) }
-        ensures row { row.new ≡ unwrap_or (map.get self.old key.now) row.old }
-        ensures kind { fits key.now row.new ≡ true }
-        ensures after { self.new ≡ cond result (map.insert self.old key.now row.old) self.old }
+        ensures row { R.row_of row.new ≡ unwrap_or (map.get self.old key.now) (R.row_of row.old) }
+        ensures kind { fits key.now (R.row_of row.new) ≡ true }
+        ensures after { self.new ≡ cond result (map.insert self.old key.now (R.row_of row.old)) self.old }
     {
-        self.tables.swap(rank(key), row)
+        row.swap(&mut self.tables, rank(key))
     }
 
     /// Gives the key this row, or none, in exchange for what it had. Only an insertion can be refused memory.
@@ -338,7 +338,7 @@ impl RowTables {
         ensures new { OnErr result (map.get self.old key.now ≡ None) }
     {
         if let Some(new) = row {
-            if self.swap(key, new) {
+            if self.swap_row(key, new) {
                 return Ok(());
             }
         }

@@ -1,5 +1,5 @@
-//! Rows of one kind, which their table takes as they are.
-ghost use Rattle.std.specs.Prelude.{◌≡◌, IfOk, None, OnErr, OnOk, option_map};
+//! Rows of one kind, which their table takes as they are, and rows of any kind.
+ghost use Rattle.std.specs.Prelude.{◌≡◌, cond, IfOk, None, OnErr, OnOk, is_some, option_map, unwrap_or};
 ghost use Rattle.std.specs.FinMap as map;
 ghost use Rattle.row_tables.specs.Kinds.{table_of, table_of_row};
 ghost use Rattle.tpcc_rows.specs.declared.row.Row.{Row};
@@ -12,7 +12,7 @@ use tpcc_rows::row::{
     StockRow, WarehouseRow,
 };
 
-/// A row of one kind.
+/// A row of one kind, or of any.
 pub trait TableRow: Drop {
     // The row as one of any kind.
     ghost row_of: { Self → Row };
@@ -28,6 +28,29 @@ pub trait TableRow: Drop {
         ensures ok { OnOk result (tables.new ≡ map.insert tables.old rank (row_of self)) }
         ensures err { OnErr result (tables.new ≡ tables.old) }
         ensures new { OnErr result (map.get tables.old rank ≡ None) };
+
+    /// Exchanges the rank's row for this one, and returns true; or returns false if it has none.
+    fn swap(&mut self, tables: &mut KindTables, rank: u64) -> bool
+        requires { table_of rank ≡ table_of_row (row_of self.old) }
+        ensures found { result ≡ is_some (map.get tables.old rank) }
+        ensures row { row_of self.new ≡ unwrap_or (map.get tables.old rank) (row_of self.old) }
+        ensures after { tables.new ≡ cond result (map.insert tables.old rank (row_of self.old)) tables.old };
+}
+
+impl TableRow for Row {
+    ghost row_of = { λ r. r };
+
+    fn into_row(self) -> Row {
+        self
+    }
+
+    fn put(self, tables: &mut KindTables, rank: u64) -> Result<Option<Row>, Memory> {
+        tables.put(rank, self)
+    }
+
+    fn swap(&mut self, tables: &mut KindTables, rank: u64) -> bool {
+        tables.swap(rank, self)
+    }
 }
 
 /// The row of a new order, which has no columns.
@@ -44,6 +67,10 @@ impl TableRow for WarehouseRow {
     fn put(self, tables: &mut KindTables, rank: u64) -> Result<Option<WarehouseRow>, Memory> {
         tables.put_warehouse(rank, self)
     }
+
+    fn swap(&mut self, tables: &mut KindTables, rank: u64) -> bool {
+        tables.swap_warehouse(rank, self)
+    }
 }
 
 impl TableRow for CustomerRow {
@@ -55,6 +82,10 @@ impl TableRow for CustomerRow {
 
     fn put(self, tables: &mut KindTables, rank: u64) -> Result<Option<CustomerRow>, Memory> {
         tables.put_customer(rank, self)
+    }
+
+    fn swap(&mut self, tables: &mut KindTables, rank: u64) -> bool {
+        tables.swap_customer(rank, self)
     }
 }
 
@@ -68,6 +99,10 @@ impl TableRow for StockRow {
     fn put(self, tables: &mut KindTables, rank: u64) -> Result<Option<StockRow>, Memory> {
         tables.put_stock(rank, self)
     }
+
+    fn swap(&mut self, tables: &mut KindTables, rank: u64) -> bool {
+        tables.swap_stock(rank, self)
+    }
 }
 
 impl TableRow for OrderRow {
@@ -79,6 +114,10 @@ impl TableRow for OrderRow {
 
     fn put(self, tables: &mut KindTables, rank: u64) -> Result<Option<OrderRow>, Memory> {
         tables.put_order(rank, self)
+    }
+
+    fn swap(&mut self, tables: &mut KindTables, rank: u64) -> bool {
+        tables.swap_order(rank, self)
     }
 }
 
@@ -92,6 +131,10 @@ impl TableRow for OrderLineRow {
     fn put(self, tables: &mut KindTables, rank: u64) -> Result<Option<OrderLineRow>, Memory> {
         tables.put_order_line(rank, self)
     }
+
+    fn swap(&mut self, tables: &mut KindTables, rank: u64) -> bool {
+        tables.swap_order_line(rank, self)
+    }
 }
 
 impl TableRow for HistoryRow {
@@ -103,6 +146,10 @@ impl TableRow for HistoryRow {
 
     fn put(self, tables: &mut KindTables, rank: u64) -> Result<Option<HistoryRow>, Memory> {
         tables.put_history(rank, self)
+    }
+
+    fn swap(&mut self, tables: &mut KindTables, rank: u64) -> bool {
+        tables.swap_history(rank, self)
     }
 }
 
@@ -116,6 +163,10 @@ impl TableRow for DistrictYtdRow {
     fn put(self, tables: &mut KindTables, rank: u64) -> Result<Option<DistrictYtdRow>, Memory> {
         tables.put_district_ytd(rank, self)
     }
+
+    fn swap(&mut self, tables: &mut KindTables, rank: u64) -> bool {
+        tables.swap_district_ytd(rank, self)
+    }
 }
 
 impl TableRow for DistrictNextRow {
@@ -127,6 +178,10 @@ impl TableRow for DistrictNextRow {
 
     fn put(self, tables: &mut KindTables, rank: u64) -> Result<Option<DistrictNextRow>, Memory> {
         tables.put_district_next(rank, self)
+    }
+
+    fn swap(&mut self, tables: &mut KindTables, rank: u64) -> bool {
+        tables.swap_district_next(rank, self)
     }
 }
 
@@ -142,5 +197,9 @@ impl TableRow for NewOrderRow {
             Some(()) => Ok(Some(NewOrderRow)),
             None => Ok(None),
         }
+    }
+
+    fn swap(&mut self, tables: &mut KindTables, rank: u64) -> bool {
+        tables.swap_new_order(rank)
     }
 }

@@ -1,4 +1,4 @@
-use Rattle.std.proofs.Common.{◌∷◌, ◌++◌, [], ap, ◌∙◌, arith}
+use Rattle.std.proofs.Common.{◌+◌, ◌∷◌, ◌++◌, [], ap, ◌∙◌}
 use Rattle.pointed_tables.specs.Logs.{Olds}
 use Rattle.pointed_tables.proofs.Exchanging.{step-appended}
 use Rattle.pointed_tables.proofs.Undoing.{back-put}
@@ -9,5 +9,5 @@ returns-clause-step g c =
     let later : Olds = (c.args.key.now, c.in_ok-was.was') ∷ [] in
     step-appended c.args.log.now c.note.new.self later 0 c.args.store.now.rows c.put_row.new.self.rows
     (c.note.ensures.olds ∙ ap (λ (os : Olds). os ++ later) c.prepare.ensures.same.olds)
-    (c.note.ensures.removals ∙ c.prepare.ensures.same.removals ∙ omega arith)
+    (c.note.ensures.removals ∙ ap (λ n. n + 0) c.prepare.ensures.same.removals)
     (back-put c.args.store.now.rows c.put_row.new.self.rows c.args.key.now (g.R.TableRow.row_of c.args.row) c.in_ok-was.was' c.in_ok-was.ensures.value c.in_ok-was.ensures.kind c.in_ok-was.ensures.ok)
