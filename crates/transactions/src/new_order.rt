@@ -382,13 +382,13 @@ fn put_order<W: RowWriter>(
         district,
         order,
     };
-    writer.put(order_key, order_of(p, moment))?;
+    writer.put_new(order_key, order_of(p, moment))?;
     let new_order_key = RowKey::NewOrder {
         warehouse,
         district,
         order,
     };
-    writer.put(new_order_key, NewOrderRow)
+    writer.put_new(new_order_key, NewOrderRow)
 }
 
 /// Puts the rows of all lines, with the amounts that the replies to them have.
@@ -414,7 +414,7 @@ fn put_lines<W: RowWriter>(
             number: line_number(index + 1),
         };
         let line_row = order_line_of(p, line, &infos[index], replies[index].amount);
-        writer.put(line_key, line_row)?;
+        writer.put_new(line_key, line_row)?;
     }
     Ok(())
 }

@@ -344,7 +344,7 @@ fn write<W: RowWriter>(
         customer: rows.customer_id,
     };
     writer.put(customer, rows.customer)?;
-    writer.put(RowKey::History { number }, rows.history)?;
+    writer.put_new(RowKey::History { number }, rows.history)?;
     Ok(())
 }
 

@@ -1,9 +1,8 @@
 //! Where a transaction's changes go.
-ghost use Rattle.std.specs.Prelude.{◌≡◌, ⊤, None, OnOk, Some, true};
-ghost use Rattle.std.specs.FinMap as map;
+ghost use Rattle.std.specs.Prelude.{◌≡◌, ⊤, None, Some, true};
 ghost use Rattle.tpcc_rows.specs.RowKinds.{fits};
 ghost use Rattle.tpcc_rows.specs.RowMap.{Changes, Rows};
-ghost use Rattle.worker_rows.specs.Writers.{HasRowsAfter, KeepsPoints};
+ghost use Rattle.worker_rows.specs.Writers.{HasRowsAfter, IsWritten, KeepsPoints};
 
 use row_store::PointedStore;
 use row_tables::table_row::TableRow;
@@ -23,12 +22,18 @@ pub trait RowWriter {
     /// Inserts or replaces the key's row, of whose kind it is.
     fn put<R: TableRow>(&mut self, key: RowKey, row: R) -> Result<(), Memory>
         requires { fits key (R.row_of row) ≡ true }
-        ensures made { (rows : Rows) (changes : Changes) → Stands rows changes self.old → OnOk result (Stands rows (map.insert changes key (Some (R.row_of row))) self.new) }
+        ensures made { IsWritten Stands key (Some (R.row_of row)) result self.old self.new }
+        ensures kept { (first : Self) → Keeps first self.old → Keeps first self.new };
+
+    /// What `put` does, quicker where the key has no row.
+    fn put_new<R: TableRow>(&mut self, key: RowKey, row: R) -> Result<(), Memory>
+        requires { fits key (R.row_of row) ≡ true }
+        ensures made { IsWritten Stands key (Some (R.row_of row)) result self.old self.new }
         ensures kept { (first : Self) → Keeps first self.old → Keeps first self.new };
 
     /// Removes the key's row.
     fn remove(&mut self, key: RowKey) -> Result<(), Memory>
-        ensures made { (rows : Rows) (changes : Changes) → Stands rows changes self.old → OnOk result (Stands rows (map.insert changes key None) self.new) }
+        ensures made { IsWritten Stands key None result self.old self.new }
         ensures kept { (first : Self) → Keeps first self.old → Keeps first self.new };
 }
 
@@ -38,6 +43,10 @@ impl RowWriter for Delta {
     ghost Keeps = { λ _ _. ⊤ };
 
     fn put<R: TableRow>(&mut self, key: RowKey, row: R) -> Result<(), Memory> {
+        Delta::put(self, key, row.into_row())
+    }
+
+    fn put_new<R: TableRow>(&mut self, key: RowKey, row: R) -> Result<(), Memory> {
         Delta::put(self, key, row.into_row())
     }
 
@@ -53,6 +62,10 @@ impl RowWriter for PointedStore {
 
     fn put<R: TableRow>(&mut self, key: RowKey, row: R) -> Result<(), Memory> {
         self.put_row(&key, row)
+    }
+
+    fn put_new<R: TableRow>(&mut self, key: RowKey, row: R) -> Result<(), Memory> {
+        self.put_new_row(&key, row)
     }
 
     fn remove(&mut self, key: RowKey) -> Result<(), Memory> {

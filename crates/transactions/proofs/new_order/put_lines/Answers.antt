@@ -45,7 +45,7 @@ loop-index-preserved g c =
     let amount = same_amount c.args.replies.now c.args.lines.now c.loop-index.index c.index-replies-index.result c.index-lines-index.result c.requires.amounts below below_replies c.index-lines-index.is in (
       λ rows changes stood. (
           let (now, stands, leads) = c.loop-index.invariant.0 rows changes stood in
-          (_, c.in_ok-put.ensures.made rows now stands, with_lines-drop _ _ _ _ c.line_number.ensures _ _ c.index-lines-index.result below c.index-lines-index.is _ amount _ c.order_line_of-line_row.ensures now ∙ leads)
+          (_, c.in_ok-put_new.ensures.made rows now stands, with_lines-drop _ _ _ _ c.line_number.ensures _ _ c.index-lines-index.result below c.index-lines-index.is _ amount _ c.order_line_of-line_row.ensures now ∙ leads)
           ),
-      λ first keeps. c.in_ok-put.ensures.kept first (c.loop-index.invariant.1 first keeps),
+      λ first keeps. c.in_ok-put_new.ensures.kept first (c.loop-index.invariant.1 first keeps),
     )
