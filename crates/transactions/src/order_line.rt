@@ -173,7 +173,8 @@ fn is_original(text: &[u8]) -> bool
     ensures { result ≡ is_original text.now }
 {
     for start in 0..text.len() {
-        if text[start..].starts_with(b"ORIGINAL") {
+        // Mostly the first byte tells that the word doesn't begin there.
+        if text[start] == b'O' && text[start..].starts_with(b"ORIGINAL") {
             return true;
         }
     }
