@@ -14,7 +14,8 @@ use Rattle.tpcc_model.specs.Database.{database}
 use Rattle.tpcc_model.specs.Machine.{tpcc}
 use Rattle.tpcc_model.specs.Serial.{State}
 use Rattle.tpcc_model.specs.Soundness.{IsSound}
-use Rattle.tpcc_model.specs.Steps.{replies, rows_after, steps_at}
+use Rattle.tpcc_model.specs.Steps.{StepOutcome, replies, rows_after, step, steps_at}
+use Rattle.workers.specs.declared.job.Job.{Job}
 use Rattle.executor.specs.LevelRuns.{declared_footprints, strays_by}
 use Rattle.executor.specs.States.{AreWithinLimits}
 use Rattle.executor.specs.declared.turn.PlanInTurn.{PlanInTurn}
@@ -24,6 +25,13 @@ use Rattle.executor.specs.declared.turn.Told.{Told}
 abbrev pub place_strays : Cards → ℕ → Rows → ℕ → Request → Option (Footprint Granule) → Bool
 place_strays cards moment rows number q None = false
 place_strays cards moment rows number q (Some footprint) = levels.job_strays (tpcc cards moment) rows (record { number = number; request = q; declared = footprint })
+
+-- what a job or a request does, executed on these rows
+abbrev pub job_outcome : Cards → Rows → Job → StepOutcome
+job_outcome cards rows job = step (database cards rows) job.request.now job.number job.moment
+
+abbrev pub told_outcome : Cards → Rows → Told → StepOutcome
+told_outcome cards rows told = step (database cards rows) told.request.now told.number told.moment
 
 abbrev pub told_strays : Cards → Rows → Told → Bool
 told_strays cards rows told = place_strays cards told.moment rows told.number told.request.now told.footprint.now

@@ -1,11 +1,9 @@
 //! Executes a batch in order on one thread, each request on the rows that it declared, or on all rows if it can't stray.
 ghost use Rattle.std.specs.Prelude.{◌≡◌, ◌||◌, IfOk, OnOk};
 ghost use Rattle.serializability.specs.Levels.{job_strays};
-ghost use Rattle.executor.specs.InOrder.{plan_replies_in_turn, plan_rows_in_turn, plan_strays_in_turn, told_strays};
+ghost use Rattle.executor.specs.InOrder.{job_outcome, plan_replies_in_turn, plan_rows_in_turn, plan_strays_in_turn, told_outcome, told_strays};
 ghost use Rattle.rollback.specs.Pointed.{KeepsCleanLeaves};
-ghost use Rattle.tpcc_model.specs.Database.{database};
 ghost use Rattle.tpcc_model.specs.Machine.{tpcc};
-ghost use Rattle.tpcc_model.specs.Steps.{step};
 ghost use Rattle.tpcc_rows.specs.Changing.{after};
 ghost use Rattle.workers.specs.LevelEnds.{job_of};
 
@@ -35,8 +33,8 @@ fn execute_within<R: Threads + Sync, G: Gate>(
     store: &mut PointedStore,
     strayed: &mut bool,
 ) -> Result<Reply, Memory>
-    ensures reply { IfOk result (λ reply. reply ≡ (step (database catalog.now store.old.rows) job.now.request.now job.now.number job.now.moment).reply) }
-    ensures rows { OnOk result (store.new.rows ≡ after store.old.rows (step (database catalog.now store.old.rows) job.now.request.now job.now.number job.now.moment).changes) }
+    ensures reply { IfOk result (λ reply. reply ≡ (job_outcome catalog.now store.old.rows job.now).reply) }
+    ensures rows { OnOk result (store.new.rows ≡ after store.old.rows (job_outcome catalog.now store.old.rows job.now).changes) }
     ensures strayed { OnOk result (strayed.new ≡ (strayed.old || job_strays (tpcc catalog.now job.now.moment) store.old.rows (job_of job.now))) }
     ensures points { store.new.points ≡ store.old.points }
     ensures clean { KeepsCleanLeaves store.old store.new }
@@ -71,8 +69,8 @@ fn execute_as_told<R: Threads + Sync, G: Gate>(
     store: &mut PointedStore,
     strayed: &mut bool,
 ) -> Result<Reply, Memory>
-    ensures reply { IfOk result (λ reply. reply ≡ (step (database catalog.now store.old.rows) told.now.request.now told.now.number told.now.moment).reply) }
-    ensures rows { OnOk result (store.new.rows ≡ after store.old.rows (step (database catalog.now store.old.rows) told.now.request.now told.now.number told.now.moment).changes) }
+    ensures reply { IfOk result (λ reply. reply ≡ (told_outcome catalog.now store.old.rows told.now).reply) }
+    ensures rows { OnOk result (store.new.rows ≡ after store.old.rows (told_outcome catalog.now store.old.rows told.now).changes) }
     ensures strayed { OnOk result (strayed.new ≡ (strayed.old || told_strays catalog.now store.old.rows told.now)) }
     ensures points { store.new.points ≡ store.old.points }
     ensures clean { KeepsCleanLeaves store.old store.new }
