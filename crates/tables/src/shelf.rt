@@ -87,11 +87,18 @@ impl<R> Shelf<R> {
         self.tables[place_of(rank)].expected(rank)
     }
 
+    /// The rank's table.
+    pub fn table_at(&self, rank: u64) -> &Table<R>
+        ensures { result.now ≡ rows_at place_of self.now (place_of rank) }
+    {
+        &self.tables[place_of(rank)]
+    }
+
     /// The rows of the rank's table with their ranks, in ascending rank.
     pub fn slice_at(&self, rank: u64) -> &[(u64, R)]
         ensures { result.now ≡ map.entries (rows_at place_of self.now (place_of rank)) }
     {
-        self.tables[place_of(rank)].as_slice()
+        self.table_at(rank).as_slice()
     }
 
     /// The number of rows of the rank's table.

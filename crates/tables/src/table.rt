@@ -112,16 +112,13 @@ fn search<R>(entries: &[(u64, R)], rank: u64) -> Result<usize, usize>
     entries.binary_search_by(|entry| entry.0.cmp(&rank))
 }
 
-/// Where the rank is, or where it would be inserted, if it isn't at the hint: at the end, near the hint, or by binary search.
-/// Not inlined, so that the look at the hint is.
+/// Where the rank is, or where it would be inserted, if the hint doesn't tell: near the hint, or by binary search. Not inlined, so that
+/// the looks at the hint and at the end are.
 #[inline(never)]
 fn place_apart<R>(entries: &[(u64, R)], rank: u64, guess: usize) -> Result<usize, usize>
     requires { are_in_order nat_cmp entries.now ≡ true }
     ensures { IsPlaceOf nat_cmp rank entries.now result }
 {
-    if is_behind(entries, rank) {
-        return Err(entries.len());
-    }
     let near = near(entries, rank, guess);
     if is_at(entries, rank, near) {
         return Ok(near);
@@ -132,13 +129,19 @@ fn place_apart<R>(entries: &[(u64, R)], rank: u64, guess: usize) -> Result<usize
     search(entries, rank)
 }
 
-/// Where the rank is, or where it would be inserted: at the hint, or apart from it.
+/// Where the rank is, or where it would be inserted: at the hint, at the end, or apart from both.
 fn place_of<R>(entries: &[(u64, R)], rank: u64, guess: usize) -> Result<usize, usize>
     requires { are_in_order nat_cmp entries.now ≡ true }
     ensures { IsPlaceOf nat_cmp rank entries.now result }
 {
     if is_at(entries, rank, guess) {
         return Ok(guess);
+    }
+    if is_between(entries, rank, guess) {
+        return Err(guess);
+    }
+    if is_behind(entries, rank) {
+        return Err(entries.len());
     }
     place_apart(entries, rank, guess)
 }
@@ -175,7 +178,11 @@ fn insert<R: Drop>(
     ensures ok { OnOk result (entries.new.items ≡ insert entries.old.items place entry) }
     ensures err { OnErr result (entries.new.items ≡ entries.old.items) }
 {
-    entries.insert(place, entry)?;
+    if place == entries.len() {
+        entries.push(entry)?;
+    } else {
+        entries.insert(place, entry)?;
+    }
     Ok(None)
 }
 
