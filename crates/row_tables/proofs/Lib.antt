@@ -4,3 +4,4 @@ pub mod NewNumbers
 pub mod Counting
 pub mod OrderNumbers
 pub mod Parts
+pub mod LineRows

@@ -5,3 +5,4 @@ pub mod NewRows
 pub mod LastOrders
 pub mod Parts
 pub mod Walks
+pub mod OrderLines

@@ -1,5 +1,5 @@
 //! A table for each kind of row.
-ghost use Rattle.std.specs.Prelude.{◌≡◌, ◌/◌, ◌%◌, ◌*◌, ◌<◌, IfOk, None, OnErr, OnOk, cond, is_some, option_copied, option_map, slice_get, unwrap_or};
+ghost use Rattle.std.specs.Prelude.{ℕ, ◌≡◌, ◌/◌, ◌%◌, ◌*◌, ◌<◌, IfOk, None, OnErr, OnOk, cond, is_some, option_copied, option_map, slice_get, unwrap_or};
 ghost use Rattle.std.specs.FinMap as map;
 ghost use Rattle.row_tables.specs.Kinds.{table_of, table_of_row};
 ghost use Rattle.row_tables.specs.LastOrders.{as_orders, order_rows};
@@ -142,6 +142,18 @@ impl KindTables {
         ensures { option_map OrderLine (option_copied result) ≡ map.get self.now rank }
     {
         self.lines.get_near(rank, self.starts.guess(rank))
+    }
+
+    /// The lines of the rank's district.
+    pub fn lines_at(&self, rank: u64) -> &Table<OrderLineRow>
+        ensures { (r : ℕ) → place_of r ≡ place_of rank → table_of r ≡ 5 → option_map OrderLine (map.get result.now r) ≡ map.get self.now r }
+    {
+        self.lines.table_at(rank)
+    }
+
+    /// A hint at the place of the rank's line among those of its district.
+    pub fn expected_line(&self, rank: u64) -> usize {
+        self.starts.guess(rank)
     }
 
     pub fn history(&self, rank: u64) -> Option<&HistoryRow>

@@ -3,6 +3,7 @@
 
 pub mod boxed;
 pub mod kinds;
+pub mod order_lines;
 pub mod store;
 pub mod table_row;
 pub mod walk;

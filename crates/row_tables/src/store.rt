@@ -4,6 +4,7 @@ ghost use Rattle.std.specs.FinMap as map;
 ghost use Rattle.std.specs.List.{filter};
 ghost use Rattle.serializability.specs.Changes.{changed};
 ghost use Rattle.row_tables.specs.LastOrders.{last_of};
+ghost use Rattle.row_tables.specs.OrderLines.{AreOrderLines};
 ghost use Rattle.row_tables.specs.Parts.{AreInParts, is_of_table, lent, part_rows, rows_between};
 ghost use Rattle.row_tables.specs.Walks.{left};
 ghost use Rattle.tables.specs.Keys.{order_of};
@@ -11,16 +12,17 @@ ghost use Rattle.tpcc_rows.specs.Changing.{new_row_fits};
 ghost use Rattle.tpcc_rows.specs.Picks.{latest, new_pick, oldest, picked};
 ghost use Rattle.tpcc_rows.specs.References.{row_of};
 ghost use Rattle.tpcc_rows.specs.RowKinds.{fits};
-ghost use Rattle.tpcc_rows.specs.Rows.{customer_row, district_next_row, district_ytd_row, order_line_row, order_row, stock_row, warehouse_row};
+ghost use Rattle.tpcc_rows.specs.Rows.{customer_row, district_next_row, district_ytd_row, order_row, stock_row, warehouse_row};
 
 use crate::kinds::KindTables;
+use crate::order_lines::{MOST_LINES, OrderLines, line_number_at};
 use crate::table_row::TableRow;
 use crate::walk::Walk;
 use std::alloc::Global;
 use std::marker::Model;
 use std::mem;
 use tables::keys::{PLACES, key_at, order_of};
-use tpcc_rows::id::{CustomerId, DistrictId, ItemId, LineNumber, OrderId, WarehouseId};
+use tpcc_rows::id::{CustomerId, DistrictId, ItemId, OrderId, WarehouseId};
 use tpcc_rows::key::RowKey;
 use tpcc_rows::memory::Memory;
 use tpcc_rows::ranks::{
@@ -28,8 +30,7 @@ use tpcc_rows::ranks::{
     warehouse_rank,
 };
 use tpcc_rows::row::{
-    CustomerRow, DistrictNextRow, DistrictYtdRow, OrderLineRow, OrderRow, Row, StockRow,
-    WarehouseRow,
+    CustomerRow, DistrictNextRow, DistrictYtdRow, OrderRow, Row, StockRow, WarehouseRow,
 };
 use tpcc_rows::row_ref::RowRef;
 
@@ -240,17 +241,28 @@ impl RowTables {
         self.tables.order(order_rank(warehouse, district, order))
     }
 
-    pub fn order_line(
+    /// The lines of an order.
+    pub fn order_lines(
         &self,
         warehouse: WarehouseId,
         district: DistrictId,
         order: OrderId,
-        number: LineNumber,
-    ) -> Option<&OrderLineRow>
-        ensures { option_copied result ≡ order_line_row self.now warehouse district order number }
+    ) -> OrderLines<'_>
+        ensures { AreOrderLines self.now warehouse district order result }
     {
-        self.tables
-            .order_line(line_rank(warehouse, district, order, number))
+        let first = line_rank(warehouse, district, order, line_number_at(0));
+        let table = self.tables.lines_at(first);
+        let mut expected = self.tables.expected_line(first);
+        let mut lines = OrderLines::new();
+        for place in 0..MOST_LINES {
+            let rank = line_rank(warehouse, district, order, line_number_at(place));
+            let row = table.get_near(rank, expected);
+            if row.is_some() {
+                expected = expected.wrapping_add(1);
+            }
+            lines.push(row);
+        }
+        lines
     }
 
     /// The number of the district's n-th new order, counted from 0 in ascending order.
