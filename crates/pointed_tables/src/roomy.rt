@@ -8,9 +8,11 @@ ghost use Rattle.tpcc_rows.specs.Picks.{latest, oldest};
 ghost use Rattle.tpcc_rows.specs.RowKinds.{fits};
 ghost use Rattle.tpcc_rows.specs.Rows.{customer_row, district_next_row, district_ytd_row, order_line_row, order_row, stock_row, warehouse_row};
 ghost use Rattle.pointed_tables.specs.Logs.{IsSwapped, wants};
+ghost use Rattle.row_tables.specs.OrderLines.{AreOrderLines};
 
 use crate::aside::Aside;
 use crate::picks::{greatest_order, least_new};
+use row_tables::order_lines::{MOST_LINES, OrderLines, line_number_at};
 use row_tables::store::RowTables;
 use row_tables::table_row::TableRow;
 use std::alloc::Global;
@@ -183,7 +185,8 @@ impl RoomyTables {
         .as_order()
     }
 
-    pub fn order_line(
+    /// The row of an order line, wherever it stands.
+    fn order_line(
         &self,
         warehouse: WarehouseId,
         district: DistrictId,
@@ -192,9 +195,6 @@ impl RoomyTables {
     ) -> Option<&OrderLineRow>
         ensures { option_copied result ≡ order_line_row self.now.rows warehouse district order number }
     {
-        if self.aside.is_empty() {
-            return self.tables.order_line(warehouse, district, order, number);
-        }
         self.get(&RowKey::OrderLine {
             warehouse,
             district,
@@ -202,6 +202,38 @@ impl RoomyTables {
             number,
         })?
         .as_order_line()
+    }
+
+    /// The lines of an order, each wherever it stands.
+    fn lines_anywhere(
+        &self,
+        warehouse: WarehouseId,
+        district: DistrictId,
+        order: OrderId,
+    ) -> OrderLines<'_>
+        ensures { AreOrderLines self.now.rows warehouse district order result }
+    {
+        let mut lines = OrderLines::new();
+        for place in 0..MOST_LINES {
+            let number = line_number_at(place);
+            lines.push(self.order_line(warehouse, district, order, number));
+        }
+        lines
+    }
+
+    /// The lines of an order.
+    pub fn order_lines(
+        &self,
+        warehouse: WarehouseId,
+        district: DistrictId,
+        order: OrderId,
+    ) -> OrderLines<'_>
+        ensures { AreOrderLines self.now.rows warehouse district order result }
+    {
+        if self.aside.is_empty() {
+            return self.tables.order_lines(warehouse, district, order);
+        }
+        self.lines_anywhere(warehouse, district, order)
     }
 
     /// The least number of the district's new orders.
