@@ -1,19 +1,21 @@
 //! Rows by their keys, each as its table has it.
 ghost use Rattle.std.specs.Prelude.{◌≡◌, option_copied, option_map};
 ghost use Rattle.std.specs.FinMap as map;
+ghost use Rattle.row_tables.specs.OrderLines.{AreOrderLines};
 ghost use Rattle.tpcc_rows.specs.References.{row_of};
 ghost use Rattle.tpcc_rows.specs.RowMap.{Rows};
-ghost use Rattle.tpcc_rows.specs.Rows.{customer_row, district_next_row, district_ytd_row, order_line_row, order_row, stock_row, warehouse_row};
+ghost use Rattle.tpcc_rows.specs.Rows.{customer_row, district_next_row, district_ytd_row, order_row, stock_row, warehouse_row};
 
 use row_store::PointedStore;
-use tpcc_rows::id::{CustomerId, DistrictId, ItemId, LineNumber, OrderId, WarehouseId};
+use row_tables::order_lines::OrderLines;
+use tpcc_rows::id::{CustomerId, DistrictId, ItemId, OrderId, WarehouseId};
 use tpcc_rows::key::RowKey;
 use tpcc_rows::row::{
-    CustomerRow, DistrictNextRow, DistrictYtdRow, OrderLineRow, OrderRow, StockRow, WarehouseRow,
+    CustomerRow, DistrictNextRow, DistrictYtdRow, OrderRow, StockRow, WarehouseRow,
 };
 use tpcc_rows::row_ref::RowRef;
 
-/// What has a row, or none, for each key. Stocks and order lines, which are read most, have reads that make no key.
+/// What has a row, or none, for each key. Stocks and an order's lines, which are read most, have reads that make no key.
 pub trait KeyedRows {
     // The rows that it has.
     ghost rows: { Self → Rows };
@@ -25,14 +27,14 @@ pub trait KeyedRows {
     fn stock_row(&self, warehouse: WarehouseId, item: ItemId) -> Option<&StockRow>
         ensures { option_copied result ≡ stock_row (rows self.now) warehouse item };
 
-    fn order_line_row(
+    /// The lines of an order.
+    fn order_lines(
         &self,
         warehouse: WarehouseId,
         district: DistrictId,
         order: OrderId,
-        number: LineNumber,
-    ) -> Option<&OrderLineRow>
-        ensures { option_copied result ≡ order_line_row (rows self.now) warehouse district order number };
+    ) -> OrderLines<'_>
+        ensures { AreOrderLines (rows self.now) warehouse district order result };
 }
 
 impl KeyedRows for PointedStore {
@@ -46,14 +48,13 @@ impl KeyedRows for PointedStore {
         self.rows().stock(warehouse, item)
     }
 
-    fn order_line_row(
+    fn order_lines(
         &self,
         warehouse: WarehouseId,
         district: DistrictId,
         order: OrderId,
-        number: LineNumber,
-    ) -> Option<&OrderLineRow> {
-        self.rows().order_line(warehouse, district, order, number)
+    ) -> OrderLines<'_> {
+        self.rows().order_lines(warehouse, district, order)
     }
 }
 

@@ -6,11 +6,12 @@ ghost use Rattle.tpcc_rows.specs.Granules.{same_granule};
 use crate::hints::Hints;
 use crate::view::{RowView, Strayed};
 use row_store::PointedStore;
+use row_tables::order_lines::OrderLines;
 use tpcc_rows::footprint::{Footprint, is_among};
 use tpcc_rows::granule::{Granule, granule_of};
-use tpcc_rows::id::{CustomerId, DistrictId, ItemId, LineNumber, OrderId, WarehouseId};
+use tpcc_rows::id::{CustomerId, DistrictId, ItemId, OrderId, WarehouseId};
 use tpcc_rows::key::RowKey;
-use tpcc_rows::row::{OrderLineRow, StockRow};
+use tpcc_rows::row::StockRow;
 use tpcc_rows::row_ref::RowRef;
 
 /// The rows of a store as a footprint lends them: what it doesn't name may not be read or written, and so no row of
@@ -74,21 +75,16 @@ impl RowView for Loan<'_> {
         Ok(self.store.rows().stock(warehouse, item))
     }
 
-    fn order_line_row(
+    fn order_lines(
         &self,
         warehouse: WarehouseId,
         district: DistrictId,
         order: OrderId,
-        number: LineNumber,
-    ) -> Result<Option<&OrderLineRow>, Strayed> {
+    ) -> Result<OrderLines<'_>, Strayed> {
         if !self.may_read_book(warehouse, district) {
             return Err(Strayed);
         }
-        Ok(
-            self.store
-                .rows()
-                .order_line(warehouse, district, order, number),
-        )
+        Ok(self.store.rows().order_lines(warehouse, district, order))
     }
 
     fn oldest_new(

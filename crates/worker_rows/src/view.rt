@@ -1,16 +1,18 @@
 //! What a transaction reads rows through.
 ghost use Rattle.std.specs.Prelude.{◌≡◌, is_ok, option_copied, option_map, IfOk, IsTrue};
 ghost use Rattle.std.specs.FinMap as map;
+ghost use Rattle.row_tables.specs.OrderLines.{AreOrderLines};
 ghost use Rattle.tpcc_rows.specs.Picks.{latest, oldest};
 ghost use Rattle.tpcc_rows.specs.References.{row_of};
-ghost use Rattle.tpcc_rows.specs.Rows.{order_line_row, stock_row};
+ghost use Rattle.tpcc_rows.specs.Rows.{stock_row};
 ghost use Rattle.worker_rows.specs.Views.{View, may_read, may_write, readable};
 
+use row_tables::order_lines::OrderLines;
 use thiserror::Error;
 use tpcc_rows::granule::Granule;
-use tpcc_rows::id::{CustomerId, DistrictId, ItemId, LineNumber, OrderId, WarehouseId};
+use tpcc_rows::id::{CustomerId, DistrictId, ItemId, OrderId, WarehouseId};
 use tpcc_rows::key::RowKey;
-use tpcc_rows::row::{OrderLineRow, StockRow};
+use tpcc_rows::row::StockRow;
 use tpcc_rows::row_ref::RowRef;
 
 /// What was asked for may not be read.
@@ -18,7 +20,7 @@ use tpcc_rows::row_ref::RowRef;
 #[error("what was asked for may not be read")]
 pub struct Strayed;
 
-/// Rows, of which some may be read and some written. Stocks and order lines, which are read most, have reads that make no key.
+/// Rows, of which some may be read and some written. Stocks and an order's lines, which are read most, have reads that make no key.
 pub trait RowView {
     // What the view stands for.
     ghost sees: { Self → View };
@@ -32,15 +34,15 @@ pub trait RowView {
         ensures strays { is_ok result ≡ may_read (sees self.now) (Granule.Stock warehouse item) }
         ensures row { IfOk result (λ row. option_copied row ≡ stock_row (sees self.now).rows warehouse item) };
 
-    fn order_line_row(
+    /// The lines of an order.
+    fn order_lines(
         &self,
         warehouse: WarehouseId,
         district: DistrictId,
         order: OrderId,
-        number: LineNumber,
-    ) -> Result<Option<&OrderLineRow>, Strayed>
+    ) -> Result<OrderLines<'_>, Strayed>
         ensures strays { is_ok result ≡ may_read (sees self.now) (Granule.Book warehouse district) }
-        ensures row { IfOk result (λ row. option_copied row ≡ order_line_row (sees self.now).rows warehouse district order number) };
+        ensures lines { IfOk result (λ lines. AreOrderLines (sees self.now).rows warehouse district order lines) };
 
     /// The least number of the district's new orders.
     fn oldest_new(

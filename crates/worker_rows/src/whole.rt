@@ -3,10 +3,11 @@ ghost use Rattle.std.specs.Prelude.{None};
 
 use crate::view::{RowView, Strayed};
 use row_store::PointedStore;
+use row_tables::order_lines::OrderLines;
 use tpcc_rows::granule::Granule;
-use tpcc_rows::id::{CustomerId, DistrictId, ItemId, LineNumber, OrderId, WarehouseId};
+use tpcc_rows::id::{CustomerId, DistrictId, ItemId, OrderId, WarehouseId};
 use tpcc_rows::key::RowKey;
-use tpcc_rows::row::{OrderLineRow, StockRow};
+use tpcc_rows::row::StockRow;
 use tpcc_rows::row_ref::RowRef;
 
 /// All rows of a store, which may all be read and written.
@@ -30,18 +31,13 @@ impl RowView for Whole<'_> {
         Ok(self.store.rows().stock(warehouse, item))
     }
 
-    fn order_line_row(
+    fn order_lines(
         &self,
         warehouse: WarehouseId,
         district: DistrictId,
         order: OrderId,
-        number: LineNumber,
-    ) -> Result<Option<&OrderLineRow>, Strayed> {
-        Ok(
-            self.store
-                .rows()
-                .order_line(warehouse, district, order, number),
-        )
+    ) -> Result<OrderLines<'_>, Strayed> {
+        Ok(self.store.rows().order_lines(warehouse, district, order))
     }
 
     fn oldest_new(
