@@ -63,9 +63,9 @@ fn touch_lines(
 ) -> Result<(), Memory>
     ensures { OnOk result (footprint.new ≡ joined footprint.old (lines_touch (database catalog.now store.now.rows) p.now order 15)) }
 {
+    let lines = store.order_lines(p.warehouse, p.district, order);
     for index in 0..15 {
-        let number = line_number(index + 1);
-        let line = store.order_line_row(p.warehouse, p.district, order, number);
+        let line = lines.get(line_number(index + 1));
         touch_line(catalog, p, line, footprint)?;
     }
     Ok(())
