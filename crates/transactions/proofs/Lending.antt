@@ -1,12 +1,17 @@
 -- What the rows that a view lends have in common with all of its rows.
-use Rattle.std.proofs.Common.{◌≡◌, ℕ, true, false, cond, List, [], ◌∷◌, None, inl, inr, refl, sym, ap, ◌∙◌}
+use Rattle.std.proofs.Common.{◌≡◌, ◌+◌, ℕ, true, false, cond, get_or, List, [], ◌∷◌, None, inl, inr, refl, sym, ap, ◌∙◌}
 use Rattle.std.proofs.lemmas.Bool.{cond-true, cond-false}
 use Rattle.std.specs.FinMap.{get, get-retain_keys}
+use Rattle.std.specs.Prelude.{option_and_then}
+use Rattle.row_tables.specs.OrderLines.{AreOrderLines, lines_of}
+use Rattle.row_tables.specs.declared.order_lines.OrderLines.{OrderLines}
 use Rattle.serializability.specs.Footprints.{Has}
 use Rattle.tpcc_rows.specs.Picks.{latest, oldest}
 use Rattle.tpcc_rows.specs.declared.granule.Granule.{Granule}
 use Rattle.tpcc_rows.specs.declared.granule.Granule.TheVariants as part
+use Rattle.tpcc_rows.specs.RowKinds.{as_order_line}
 use Rattle.tpcc_rows.specs.declared.key.RowKey.{RowKey}
+use Rattle.tpcc_rows.specs.declared.key.RowKey.TheVariants as key
 use Rattle.tpcc_rows.proofs.Keys.{exact_keys}
 use Rattle.tpcc_model.proofs.Agreeing.{same_latest, same_oldest}
 use Rattle.tpcc_model.specs.Touches.{Agree}
@@ -41,3 +46,12 @@ module _ (view : View) (w d : ℕ) (read : may_read view (part.Book w d) ≡ tru
 
   pub lent_latest : (c : ℕ) → latest view.rows w d c ≡ latest (lent view) w d c
   lent_latest = same_latest (lent view) view.rows (part.Book w d ∷ []) book_agrees w d (inl refl)
+
+  -- the lines of an order of the book
+  pub lent_lines : (o : ℕ) (lines : OrderLines) → AreOrderLines view.rows w d o lines → AreOrderLines (lent view) w d o lines
+  lent_lines o lines are k below = are k below ∙ sym (ap (option_and_then as_order_line) (lent_row view (key.OrderLine w d o (k + 1)) read))
+
+-- where the book may not be read, no order has lines
+pub no_lines_lent : (view : View) (w d o : ℕ) → may_read view (part.Book w d) ≡ false → (lines : OrderLines) → lines_of lines ≡ [] → AreOrderLines (lent view) w d o lines
+no_lines_lent view w d o strays lines none k below =
+    ap (λ xs. get_or xs k None) none ∙ sym (ap (option_and_then as_order_line) (no_row_lent view (key.OrderLine w d o (k + 1)) strays))

@@ -103,11 +103,12 @@ fn dated_lines<V: RowView>(
     ensures few { IfOk result (λ lines. length lines.items ≤ 15) }
 {
     let rows = Lent { view };
+    let found = rows.order_lines(p.warehouse, district, order);
     let count = usize::from(count.number());
     let mut lines = Vec::with_capacity(alloc, count)?;
     for index in 0..count {
         let number = line_number(index + 1);
-        let line = rows.order_line_row(p.warehouse, district, order, number);
+        let line = found.get(number);
         add_dated(&mut lines, line, number, moment)?;
     }
     Ok(lines)

@@ -3,14 +3,15 @@ ghost use Rattle.std.specs.Prelude.{◌≡◌, is_ok, option_copied, IfOk};
 ghost use Rattle.std.specs.FinMap as map;
 ghost use Rattle.serializability.specs.Footprints.{writing};
 ghost use Rattle.tpcc_rows.specs.Picks.{latest, oldest};
-ghost use Rattle.tpcc_rows.specs.Rows.{customer_row, district_next_row, order_line_row, stock_row};
+ghost use Rattle.tpcc_rows.specs.Rows.{customer_row, district_next_row, stock_row};
 ghost use Rattle.transactions.specs.Lending.{lent};
 ghost use Rattle.worker_rows.specs.Views.{covers, may_read};
 
+use row_tables::order_lines::OrderLines;
 use tpcc_rows::granule::Granule;
-use tpcc_rows::id::{CustomerId, DistrictId, ItemId, LineNumber, OrderId, WarehouseId};
+use tpcc_rows::id::{CustomerId, DistrictId, ItemId, OrderId, WarehouseId};
 use tpcc_rows::key::RowKey;
-use tpcc_rows::row::{CustomerRow, DistrictNextRow, OrderLineRow, StockRow};
+use tpcc_rows::row::{CustomerRow, DistrictNextRow, StockRow};
 use tpcc_rows::row_ref::RowRef;
 use worker_rows::{KeyedRows, RowView, Strayed};
 
@@ -39,17 +40,16 @@ impl<V: RowView> KeyedRows for Lent<'_, V> {
         }
     }
 
-    #[tactic(auto, using(crate::proofs::Lending::lent_row, crate::proofs::Lending::no_row_lent))]
-    fn order_line_row(
+    #[tactic(auto, using(crate::proofs::Lending::lent_lines, crate::proofs::Lending::no_lines_lent))]
+    fn order_lines(
         &self,
         warehouse: WarehouseId,
         district: DistrictId,
         order: OrderId,
-        number: LineNumber,
-    ) -> Option<&OrderLineRow> {
-        match self.view.order_line_row(warehouse, district, order, number) {
-            Ok(row) => row,
-            Err(Strayed) => None,
+    ) -> OrderLines<'_> {
+        match self.view.order_lines(warehouse, district, order) {
+            Ok(lines) => lines,
+            Err(Strayed) => OrderLines::new(),
         }
     }
 }

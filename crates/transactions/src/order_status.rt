@@ -47,10 +47,10 @@ fn shown_lines<V: RowView>(
     ensures { result ≡ shown_lines (lent (V.sees view.now)) p.now order count }
 {
     let rows = Lent { view };
+    let found = rows.order_lines(p.warehouse, p.district, order);
     let mut lines = ShownLines::new();
     for index in 0..usize::from(count.number()) {
-        let number = line_number(index + 1);
-        if let Some(line) = rows.order_line_row(p.warehouse, p.district, order, number) {
+        if let Some(line) = found.get(line_number(index + 1)) {
             lines.push(shown_line(line));
         }
     }

@@ -90,9 +90,9 @@ fn hold_lines<V: RowView>(
     ensures len { length items.new.keys ≤ length items.old.keys + 15 }
 {
     let rows = Lent { view };
+    let lines = rows.order_lines(p.warehouse, p.district, order);
     for index in 0..15 {
-        let number = line_number(index + 1);
-        let line = rows.order_line_row(p.warehouse, p.district, order, number);
+        let line = lines.get(line_number(index + 1));
         hold_line(catalog, view, p, line, items)?;
     }
     Ok(())

@@ -10,7 +10,7 @@ loop-index-init g c = c.in_ok-lines.ensures.items
 
 pub loop-index-preserved : goal.loop-index-preserved
 loop-index-preserved g c =
-    dated-more _ _ _ _ _ c.loop-index.index _ _ _ _ c.line_number-number.ensures c.order_line_row-line.ensures c.loop-index.invariant c.in_ok-add_dated.ensures
+    dated-more _ _ _ _ _ c.loop-index.index _ _ _ _ c.line_number-number.ensures (c.get-line.ensures _ _ _ _ c.order_lines-found.ensures) c.loop-index.invariant c.in_ok-add_dated.ensures
 
 pub returns-clause-few : goal.returns-clause-few
 returns-clause-few g c =

@@ -5,4 +5,4 @@ use Rattle.transactions.proofs.order_status.shown_lines.Given as goal
 
 -- the lines so far
 abbrev pub invariant-loop-index : goal.invariant-loop-index
-invariant-loop-index g l = (l.lines ≡ shown_lines (lent (g.V.RowView.sees l.view)) l.p l.order l.index) × (length l.lines ≤ l.index)
+invariant-loop-index g l = (l.lines ≡ shown_lines (lent (g.V.RowView.sees l.fn.view)) l.fn.p l.fn.order l.index) × (length l.lines ≤ l.index)

@@ -10,6 +10,6 @@ use Rattle.transactions.proofs.stock_level.hold_lines.Given as goal
 -- the low items of the lines so far are held too, one a line at most
 abbrev pub invariant-loop-index : goal.invariant-loop-index
 invariant-loop-index g l =
-    ((xs : List ℕ) → IsHeld l.fn.items xs → IsHeld l.items (with_lines (database l.catalog (lent (g.V.RowView.sees l.view))) l.p l.order l.index xs))
+    ((xs : List ℕ) → IsHeld l.fn.items xs → IsHeld l.items (with_lines (database l.catalog (lent (g.V.RowView.sees l.view))) l.p l.fn.order l.index xs))
     × (length l.items.keys ≤ length l.fn.items.keys + l.index)
-    × (covers (g.V.RowView.sees l.view) (lines_touch (database l.catalog (lent (g.V.RowView.sees l.view))) l.p l.order l.index) ≡ true)
+    × (covers (g.V.RowView.sees l.view) (lines_touch (database l.catalog (lent (g.V.RowView.sees l.view))) l.p l.fn.order l.index) ≡ true)
