@@ -36,8 +36,3 @@ module _ {A B : Type 0} (stage : A → Result B RequestRefusal) where
     for_each_stop ys why done one =
         ap (for_each stage) (sym (take-append-drop i xs) ∙ ap (λ z. take i xs ++ z) (drop-cons xs i x below ∙ ap (λ z. z ∷ drop (suc i) xs) (sym is)))
         ∙ for_each-refused (take i xs) x (drop (suc i) xs) ys why done (sym one)
-
--- a stage after a view
-pub for_each-map : {X A B : Type 0} (stage : A → Result B RequestRefusal) (view : X → A) (xs : List X) → for_each stage (map view xs) ≡ for_each (λ x. stage (view x)) xs
-for_each-map stage view [] = refl
-for_each-map stage view (x ∷ xs) = ap (λ r. stage (view x) >>= λ y. r >>= λ ys. Ok (y ∷ ys)) (for_each-map stage view xs)

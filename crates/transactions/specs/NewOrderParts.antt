@@ -5,6 +5,7 @@ use Rattle.std.specs.List.{sum_by}
 use Rattle.catalog.specs.CardMap.{Cards}
 use Rattle.catalog.specs.Lookups.{customer_card, district_card, warehouse_card}
 use Rattle.requests.specs.declared.request.NewOrder.{NewOrder}
+use Rattle.requests.specs.declared.request.OrderedLine.{OrderedLine}
 use Rattle.requests.specs.declared.reply.LineReply.{LineReply}
 use Rattle.requests.specs.declared.reply.RequestRefusal.{RequestRefusal}
 use Rattle.requests.specs.declared.reply.RequestRefusal.TheVariants.{UnknownKey}
@@ -22,13 +23,13 @@ use Rattle.transactions.specs.declared.new_order.OrderSoFar.{OrderSoFar}
 use Rattle.transactions.specs.declared.new_order.OwnCards.{OwnCards}
 use Rattle.transactions.specs.declared.new_order.PlacedOrder.{PlacedOrder}
 use Rattle.transactions.specs.declared.order_line.LineCards.{LineCards}
-use Rattle.transactions.specs.declared.order_line.LineItem.{LineItem}
-
-abbrev pub line_item_of : LineItem → model.LineItem
-line_item_of line = record { ordered = line.ordered.now; item = line.item.now }
 
 abbrev pub line_cards_of : LineCards → model.LineCards
 line_cards_of line = record { ordered = line.ordered.now; item = line.item.now; stock = line.stock.now }
+
+-- a line with its cards
+abbrev pub found_line : Cards → OrderedLine → Result model.LineCards RequestRefusal
+found_line cards line = model.found_item cards line >>= model.found_stock cards
 
 -- these rows of the stocks, put in turn
 abbrev pub with_stocks : List NewStock → Changes → Changes

@@ -1,10 +1,12 @@
 //! One line of a new order (TPC-C clause 2.4.2.2): its cards, its stock after it, its brand and its row.
-ghost use Rattle.std.specs.Prelude.{◌≡◌, ◌≤◌, length, map, if◌then◌else◌, IfOk};
+ghost use Rattle.std.specs.Prelude.{◌≡◌, ◌≤◌, Err, false, is_ok, is_some, length, map, if◌then◌else◌, IfOk};
+ghost use Rattle.std.specs.List.{list_all};
+ghost use Rattle.catalog.specs.Lookups.{item_card};
 ghost use Rattle.catalog.specs.StockCards.{district_info};
-ghost use Rattle.tpcc_model.specs.NewOrders.{brand_of, found_item, found_lines, found_stock, is_original, left_quantity, line_amount, order_line_of, ordered_stock, remote_orders};
+ghost use Rattle.tpcc_model.specs.NewOrders.{brand_of, found_lines, is_original, left_quantity, line_amount, order_line_of, ordered_stock, remote_orders};
 ghost use Rattle.tpcc_model.specs.Staging.{for_each, within};
 ghost use Rattle.transactions.specs.Faults.{AnswersBy};
-ghost use Rattle.transactions.specs.NewOrderParts.{line_cards_of, line_item_of};
+ghost use Rattle.transactions.specs.NewOrderParts.{found_line, line_cards_of};
 ghost use Rattle.transactions.specs.Outcomes.{viewed};
 
 use crate::fault::Fault;
@@ -20,13 +22,6 @@ use tpcc_rows::row::{OrderLineRow, StockRow};
 use tpcc_rows::text::Text;
 use worker_rows::RowView;
 
-/// A line with its item's card.
-#[derive(Drop)]
-struct LineItem<'a> {
-    ordered: &'a OrderedLine,
-    item: &'a ItemCard,
-}
-
 /// A line with its item's card and its stock's.
 #[derive(Drop)]
 pub(crate) struct LineCards<'a> {
@@ -35,36 +30,41 @@ pub(crate) struct LineCards<'a> {
     pub stock: &'a StockCard,
 }
 
-#[tactic(auto, unfolding(tpcc_model::specs::NewOrders::found_item))]
-fn found_item<'a>(
+/// The line with its cards.
+#[tactic(auto, unfolding(tpcc_model::specs::NewOrders::found_item, tpcc_model::specs::NewOrders::found_stock))]
+fn found_line<'a>(
     catalog: &'a Catalog,
     line: &'a OrderedLine,
-) -> Result<LineItem<'a>, RequestRefusal>
-    ensures { viewed line_item_of result ≡ found_item catalog.now line.now }
+) -> Result<LineCards<'a>, RequestRefusal>
+    ensures { viewed line_cards_of result ≡ found_line catalog.now line.now }
 {
-    match catalog.item(line.item) {
-        Some(item) => Ok(LineItem {
-            ordered: line,
-            item,
-        }),
-        None => Err(RequestRefusal::ItemNotValid),
-    }
+    let item = catalog.item(line.item).ok_or(RequestRefusal::ItemNotValid)?;
+    let stock = catalog
+        .stock(line.supply, line.item)
+        .ok_or(RequestRefusal::UnknownKey)?;
+    Ok(LineCards {
+        ordered: line,
+        item,
+        stock,
+    })
 }
 
-#[tactic(auto, unfolding(tpcc_model::specs::NewOrders::found_stock))]
-fn found_stock<'a>(
-    catalog: &'a Catalog,
-    line: &LineItem<'a>,
-) -> Result<LineCards<'a>, RequestRefusal>
-    ensures { viewed line_cards_of result ≡ found_stock catalog.now (line_item_of line.now) }
+/// Whether each line's item has a card.
+fn have_items(catalog: &Catalog, lines: &[OrderedLine]) -> bool
+    ensures { result ≡ list_all (λ line. is_some (item_card catalog.now line.item)) lines.now }
 {
-    match catalog.stock(line.ordered.supply, line.ordered.item) {
-        Some(stock) => Ok(LineCards {
-            ordered: line.ordered,
-            item: line.item,
-            stock,
-        }),
-        None => Err(RequestRefusal::UnknownKey),
+    lines.iter().all(|line| catalog.item(line.item).is_some())
+}
+
+/// Why the lines have no cards, if one of them has none. Each item is looked for before any stock.
+fn why_not_found(catalog: &Catalog, lines: &[OrderedLine]) -> RequestRefusal
+    requires { is_ok (for_each (found_line catalog.now) lines.now) ≡ false }
+    ensures { found_lines catalog.now lines.now ≡ Err result }
+{
+    if have_items(catalog, lines) {
+        RequestRefusal::UnknownKey
+    } else {
+        RequestRefusal::ItemNotValid
     }
 }
 
@@ -80,37 +80,7 @@ pub(crate) fn room_for<V: RowView>(catalog: &Catalog, view: &V, lines: &[Ordered
     lines.len().wrapping_add(read % 2)
 }
 
-fn found_items<'a>(
-    alloc: Global,
-    catalog: &'a Catalog,
-    lines: &'a [OrderedLine],
-    room: usize,
-) -> Result<Vec<LineItem<'a>>, Fault>
-    ensures { AnswersBy (λ items. map line_item_of items.items) (for_each (found_item catalog.now) lines.now) result }
-{
-    let mut items = Vec::with_capacity(alloc, room)?;
-    for line in lines {
-        items.push(found_item(catalog, line)?)?;
-    }
-    Ok(items)
-}
-
-fn found_stocks<'a>(
-    alloc: Global,
-    catalog: &'a Catalog,
-    items: &[LineItem<'a>],
-) -> Result<Vec<LineCards<'a>>, Fault>
-    ensures { AnswersBy (λ lines. map line_cards_of lines.items) (for_each (λ line. found_stock catalog.now (line_item_of line)) items.now) result }
-{
-    let mut lines = Vec::with_capacity(alloc, items.len())?;
-    for line in items {
-        lines.push(found_stock(catalog, line)?)?;
-    }
-    Ok(lines)
-}
-
-/// The lines with their cards. Each item is looked for before any stock. Memory is taken for so many lines at first.
-#[tactic(auto, unfolding(tpcc_model::specs::NewOrders::found_lines))]
+/// The lines with their cards. Memory is taken for so many lines at first.
 pub(crate) fn found_lines<'a>(
     alloc: Global,
     catalog: &'a Catalog,
@@ -120,8 +90,14 @@ pub(crate) fn found_lines<'a>(
     ensures answer { AnswersBy (λ found. map line_cards_of found.items) (found_lines catalog.now lines.now) result }
     ensures len { IfOk result (λ found. length found.items ≡ length lines.now) }
 {
-    let items = found_items(alloc, catalog, lines, room)?;
-    found_stocks(alloc, catalog, &items)
+    let mut found = Vec::with_capacity(alloc, room)?;
+    for line in lines {
+        match found_line(catalog, line) {
+            Ok(cards) => found.push(cards)?,
+            Err(_) => return Err(Fault::Refused(why_not_found(catalog, lines))),
+        }
+    }
+    Ok(found)
 }
 
 fn left_quantity(have: StockQuantity, quantity: OrderedQuantity) -> i16
