@@ -122,8 +122,11 @@ pub(crate) fn execute_in_order<R: Threads + Sync, G: Gate>(
             request,
             footprint: &plan.told[place],
         };
-        let reply = execute_as_told(runtime, catalog, &told, store, &mut strayed)?;
-        replies.push(reply)?;
+        // A reply is large, and `?` would copy it twice more.
+        match execute_as_told(runtime, catalog, &told, store, &mut strayed) {
+            Ok(reply) => replies.push(reply)?,
+            Err(Memory) => return Err(Memory),
+        }
     }
     Ok(Pass { replies, strayed })
 }
