@@ -122,7 +122,6 @@ pub(crate) fn execute_in_order<R: Threads + Sync, G: Gate>(
             request,
             footprint: &plan.told[place],
         };
-        // A reply is large, and `?` would copy it twice more.
         match execute_as_told(runtime, catalog, &told, store, &mut strayed) {
             Ok(reply) => replies.push(reply)?,
             Err(Memory) => return Err(Memory),

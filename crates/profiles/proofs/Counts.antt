@@ -1,5 +1,5 @@
 -- The counts of the requests so far, when one more is counted.
-use Rattle.std.proofs.Common.{◌≡◌, ◌≤◌, ◌<◌, ◌+◌, ◌*◌, ◌++◌, ◌==◌, ◌&&◌, Bool, ℕ, zero, suc, cond, true, false, inl, inr, List, [], ◌∷◌, length, get_or, set, reverse, take, Some, slice_get, refl, sym, ap, subst, subst₂, ◌∙◌, add-one, arith}
+use Rattle.std.proofs.Common.{◌≡◌, ◌≤◌, ◌<◌, ◌+◌, ◌*◌, ◌++◌, ◌==◌, ◌&&◌, Bool, ℕ, zero, suc, cond, true, false, inl, inr, List, [], ◌∷◌, length, get_or, set, reverse, take, Some, slice_get, sym, ap, subst, subst₂, ◌∙◌, add-one, arith}
 use Rattle.std.specs.List.{filter}
 use Rattle.std.proofs.lemmas.Bool.{cases_Bool, cases_eq, eq-eqb, ne_eqb}
 use Rattle.std.proofs.lemmas.Bool.Decides.{nat_tests}
@@ -9,7 +9,7 @@ use Rattle.requests.specs.declared.request.NewOrder.{NewOrder}
 use Rattle.requests.specs.declared.request.Request.{Request}
 use Rattle.requests.specs.declared.request.Request.TheVariants as request
 use Rattle.tpcc_rows.specs.Limits.{IsBetween}
-use Rattle.profiles.specs.Declarations.{deliveries_of, is_delivery_of, is_order_of}
+use Rattle.profiles.specs.Declarations.{deliveries_of, is_delivery_of}
 use Rattle.profiles.specs.Earlier.{AreCounts, before, last_order_of}
 use Rattle.profiles.proofs.Declarations.{some-of}
 

@@ -1,15 +1,14 @@
 -- What is told place by place is told of the whole batch.
-use Rattle.std.proofs.Common.{◌≡◌, ℕ, zero, suc, List, [], ◌∷◌, length, ◌<◌, map, option_map, reverse, take, Option, None, Some, IfSome, slice_get, refl, sym, ap, ◌∙◌, subst, ◌++◌, arith}
-use Rattle.std.proofs.lemmas.Option.{slice_get-map, slice_get_within}
+use Rattle.std.proofs.Common.{◌≡◌, ℕ, zero, suc, List, [], ◌∷◌, length, ◌<◌, map, reverse, take, Option, None, Some, IfSome, slice_get, refl, sym, ap, ◌∙◌, subst, ◌++◌, arith}
+use Rattle.std.proofs.lemmas.Option.{slice_get-map}
 use Rattle.std.proofs.Math.Seq.{take-append_seam}
-use Rattle.std.proofs.lemmas.List.{append-nil, append_assoc, length-map, length-reverse, reverse-append}
+use Rattle.std.proofs.lemmas.List.{append-nil, append_assoc, length-map, reverse-append}
 use Rattle.serializability.specs.Footprints.{Footprint}
 use Rattle.requests.specs.declared.request.Request.{Request}
 use Rattle.tpcc_model.specs.Database.{Database}
 use Rattle.tpcc_model.specs.Soundness.{IsSound}
 use Rattle.tpcc_rows.specs.declared.granule.Granule.{Granule}
 use Rattle.profiles.specs.Declarations.{declared, declared_after, each_after}
-use Rattle.profiles.specs.Earlier.{before}
 use Rattle.profiles.specs.Places.{AreDeclared}
 
 pub some-of : {A : Type 0} {x y : A} → Some x ≡ Some y → x ≡ y

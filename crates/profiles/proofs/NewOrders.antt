@@ -1,9 +1,9 @@
 -- The new orders of a district of a sound database are numbered without a gap, from the oldest on.
-use Rattle.std.proofs.Common.{◌≡◌, ◌⊎◌, ◌↔◌, ◌≤◌, ◌<◌, ◌+◌, ℕ, zero, suc, T, List, [], ◌∷◌, Option, Some, None, IsSome, cond, true, false, inl, inr, refl, sym, ap, subst, ◌∙◌, slice_get, arith}
+use Rattle.std.proofs.Common.{◌≡◌, ◌↔◌, ◌≤◌, ◌<◌, ◌+◌, ℕ, zero, suc, T, List, [], ◌∷◌, Option, Some, None, IsSome, cond, true, false, inl, inr, refl, sym, ap, subst, ◌∙◌, slice_get, arith}
 use Rattle.std.proofs.lemmas.Bool.{cases_lt}
 use Rattle.std.proofs.lemmas.Bool.Decides.{nat_tests}
 use Rattle.std.specs.List.{filter_map, cons_option}
-use Rattle.std.specs.Ordering.{is_lt, nat_cmp, ordering_then}
+use Rattle.std.specs.Ordering.{is_lt}
 use Rattle.std.specs.FinMap.{entries, entries_sorted, get, is_sorted}
 use Rattle.std.specs.FinMap.Entries.{below_all}
 use Rattle.catalog.specs.CardMap.{Cards}
@@ -13,7 +13,6 @@ use Rattle.tpcc_rows.specs.RowMap.{Rows, row_key_cmp}
 use Rattle.tpcc_rows.specs.declared.key.RowKey.{RowKey}
 use Rattle.tpcc_rows.specs.declared.key.RowKey.TheVariants as key
 use Rattle.tpcc_rows.specs.declared.row.DistrictNextRow.{DistrictNextRow}
-use Rattle.tpcc_rows.specs.declared.row.OrderRow.{OrderRow}
 use Rattle.tpcc_rows.specs.declared.row.Row.{Row}
 use Rattle.tpcc_rows.specs.declared.row.Row.TheVariants as row
 use Rattle.tpcc_rows.proofs.Picks.{Has, picked-row, row-picked}
@@ -21,7 +20,6 @@ use Rattle.tpcc_rows.proofs.Singles.{first, second}
 use Rattle.tpcc_model.specs.Conditions.{HasNewOrder}
 use Rattle.tpcc_model.specs.Database.{database}
 use Rattle.tpcc_model.specs.Soundness.{IsEntry, IsSound}
-use Rattle.tpcc_laws.proofs.Books.{IsBook}
 use Rattle.tpcc_laws.proofs.DeliveryFacts.{new_picked, oldest-is, picked_new}
 use Rattle.tpcc_laws.proofs.NewOrderRuns.{book_of}
 use Rattle.profiles.specs.Declarations.{nth_new_order}

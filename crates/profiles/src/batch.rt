@@ -1,5 +1,5 @@
 //! What the requests of a batch declare, computed on several threads.
-ghost use Rattle.std.specs.Prelude.{◌≡◌, ◌<◌, IfOk, Some, length, map, slice_get};
+ghost use Rattle.std.specs.Prelude.{◌≡◌, ◌<◌, All, IfOk, None, Some, length, map, slice_get};
 ghost use Rattle.profiles.specs.Declarations.{declared, declared_after};
 ghost use Rattle.profiles.specs.Earlier.{before};
 ghost use Rattle.profiles.specs.Places.{AreDeclared, IsDeclared};
@@ -54,28 +54,47 @@ fn declare_at(
     }
 }
 
-/// What the request at this place of the batch declares; `None` if it isn't asked, or if memory is refused.
+/// What the request at this place of the batch declares; `None` if memory is refused. Not inlined, since the room for a footprint is
+/// cleared where it is.
+#[inline(never)]
 fn told_at(
     alloc: Global,
     catalog: &Catalog,
     batch: &Counted<'_>,
     place: usize,
     store: &PointedStore,
-    asked: Asked,
 ) -> Option<Footprint>
     requires { place < length batch.now.requests.now }
     ensures { IsDeclared (database catalog.now store.now.rows) batch.now.requests.now place result }
 {
     let request = batch.request(place);
-    if !asked.has(request) {
-        return None;
-    }
     declare_at(alloc, catalog, request, batch, place, store).ok()
+}
+
+/// Puts what the request at this place of the batch declares into its empty place, which stays empty if the request isn't asked,
+/// or if memory is refused.
+fn tell_at(
+    alloc: Global,
+    catalog: &Catalog,
+    batch: &Counted<'_>,
+    place: usize,
+    store: &PointedStore,
+    asked: Asked,
+    told: &mut Option<Footprint>,
+)
+    requires place { place < length batch.now.requests.now }
+    requires empty { told.old ≡ None }
+    ensures { IsDeclared (database catalog.now store.now.rows) batch.now.requests.now place told.new }
+{
+    if asked.has(batch.request(place)) {
+        *told = told_at(alloc, catalog, batch, place, store);
+    }
 }
 
 /// Empty places for what this number of requests declare.
 fn places(alloc: Global, count: usize) -> Result<Vec<Option<Footprint>>, Memory>
-    ensures { IfOk result (λ places. length places.items ≡ count) }
+    ensures count { IfOk result (λ places. length places.items ≡ count) }
+    ensures empty { IfOk result (λ places. All (λ place. place ≡ None) places.items) }
 {
     let mut places = Vec::with_capacity(alloc, count)?;
     for _n in 0..count {
@@ -84,8 +103,8 @@ fn places(alloc: Global, count: usize) -> Result<Vec<Option<Footprint>>, Memory>
     Ok(places)
 }
 
-/// Puts what each request declares into its place, on at most `threads` threads. The place of a request that isn't asked is
-/// empty, and so is one for which memory is refused.
+/// Puts what each request declares into its empty place, on at most `threads` threads. The place of a request that isn't asked
+/// stays empty, and so does one for which memory is refused.
 fn fill<R: Threads + Sync>(
     rt: &R,
     alloc: Global,
@@ -98,6 +117,7 @@ fn fill<R: Threads + Sync>(
 )
     requires threads { 0 < threads }
     requires each { length places.old ≡ length batch.now.requests.now }
+    requires empty { All (λ place. place ≡ None) places.old }
     ensures { AreDeclared (database catalog.now store.now.rows) batch.now.requests.now places.new }
 {
     thread::for_each_mut(
@@ -105,10 +125,10 @@ fn fill<R: Threads + Sync>(
         places,
         threads,
         &|n: usize, place: &mut Option<Footprint>|
-            requires { n < length batch.now.requests.now }
+            requires { (n < length batch.now.requests.now) × (place.old ≡ None) }
             ensures { IsDeclared (database catalog.entry.now store.entry.now.rows) batch.entry.now.requests.now n place.new }
         {
-            *place = told_at(alloc, catalog, batch, n, store, asked);
+            tell_at(alloc, catalog, batch, n, store, asked, place);
         },
     );
 }

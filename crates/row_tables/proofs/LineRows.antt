@@ -1,5 +1,5 @@
 -- The lines of an order in the table of their district.
-use Rattle.std.proofs.Common.{◌≡◌, ◌+◌, ◌*◌, ◌++◌, ℕ, length, get_or, List, [], ◌∷◌, Option, Some, None, inl, inr, refl, sym, ap, ◌∙◌, arith}
+use Rattle.std.proofs.Common.{◌≡◌, ◌<◌, ◌+◌, ◌*◌, ◌^◌, ◌++◌, ℕ, length, get_or, List, [], ◌∷◌, Option, Some, None, inl, inr, refl, sym, ap, ◌∙◌, arith}
 use Rattle.std.proofs.lemmas.Bool.{cases_lt}
 use Rattle.std.proofs.lemmas.List.{get_or_append_left, get_or_push}
 use Rattle.std.specs.FinMap.{get}
@@ -38,6 +38,17 @@ line-found m kept w d o first_number number first r first_limits is_first limits
     ap (λ q. place_of q) is ∙ place-line w d o number limits ∙ sym (ap (λ q. place_of q) is_first ∙ place-line w d o first_number first_limits) in
     line-back (get t r)
     ∙ ap (option_and_then as_order_line) (there r near (table-at m kept (key.OrderLine w d o number) limits r is) ∙ row-at m kept (key.OrderLine w d o number) limits r is)
+
+-- the line at a place, counted from 0, is one, and has the rank that is so much above the first one's
+module _ (w d o n first place : ℕ) (one : n ≡ 1) (limits : IsNumbered (key.OrderLine w d o n)) (is : first ≡ rank (key.OrderLine w d o n)) (below : place < 15) where
+  pub line-numbered : IsNumbered (key.OrderLine w d o (place + 1))
+  line-numbered = (limits.0, limits.1, limits.2, (omega arith, omega (arith, below)))
+
+  pub line-rank : first + place ≡ rank (key.OrderLine w d o (place + 1))
+  line-rank = omega (arith, one, is)
+
+  pub line-small : first + place < 2 ^ 64
+  line-small = let a = limits.0.1 in let b = limits.1.1 in let c = limits.2.1 in omega (arith, one, is, below, a, b, c)
 
 -- one line more
 pub line-more : (rows : Rows) (w d o n : ℕ) (lines after : List (Option OrderLineRow)) (line : Option OrderLineRow) → length lines ≡ n → AreFirstLines rows w d o n lines

@@ -1,4 +1,4 @@
-//! The lines of an order, each looked for where the one before is.
+//! The lines of an order.
 ghost use Rattle.std.specs.Prelude.{ℕ, ◌≡◌, ◌<◌, ◌+◌, ◌++◌, [], ◌∷◌, length, option_copied};
 ghost use Rattle.row_tables.specs.OrderLines.{AreOrderLines, lines_of};
 ghost use Rattle.tpcc_rows.specs.RowMap.{Rows};
@@ -14,7 +14,7 @@ pub const MOST_LINES: usize = 15;
 /// The rows of an order's lines, by number.
 #[derive(Drop)]
 pub struct OrderLines<'a> {
-    rows: ArrayVec<Option<&'a OrderLineRow>, 15>,
+    rows: ArrayVec<Option<&'a OrderLineRow>, MOST_LINES>,
 }
 
 /// The number of a line at a place, counted from 0.

@@ -252,15 +252,12 @@ impl RowTables {
     {
         let first = line_rank(warehouse, district, order, line_number_at(0));
         let table = self.tables.lines_at(first);
-        let mut expected = self.tables.expected_line(first);
+        let mut start = table.start(first, self.tables.expected_line(first));
         let mut lines = OrderLines::new();
         for place in 0..MOST_LINES {
-            let rank = line_rank(warehouse, district, order, line_number_at(place));
-            let row = table.get_near(rank, expected);
-            if row.is_some() {
-                expected = expected.wrapping_add(1);
-            }
+            let (row, next) = table.next(first + place as u64, start);
             lines.push(row);
+            start = next;
         }
         lines
     }

@@ -2,3 +2,4 @@ pub mod RankKeys
 pub mod Tables
 pub mod Shelved
 pub mod Grouped
+pub mod Parted

@@ -1,8 +1,9 @@
 //! Rows of one kind in a sorted vector, by rank.
-ghost use Rattle.std.specs.Prelude.{◌≡◌, ◌<◌, ◌≤◌, ◌^◌, Err, IfOk, IsTrue, None, Ok, OnErr, OnOk, cond, is_some, length, option_copied, option_map, slice_get, true, unwrap_or};
+ghost use Rattle.std.specs.Prelude.{◌≡◌, ◌<◌, ◌≤◌, ◌+◌, ◌^◌, Err, IfOk, IsTrue, None, Ok, OnErr, OnOk, cond, is_some, length, option_copied, option_map, slice_get, true, unwrap_or};
 ghost use Rattle.std.specs.FinMap as map;
 ghost use Rattle.std.specs.List.{HoldsAt, insert, remove, slice_set};
 ghost use Rattle.std.specs.Ordering.{nat_cmp};
+ghost use Rattle.tables.specs.ByRank.{IsPartedAt};
 ghost use Rattle.tpcc_rows.specs.Places.{IsPlaceOf, are_in_order};
 
 use std::alloc::Global;
@@ -157,6 +158,31 @@ fn found<R>(entries: &[(u64, R)], rank: u64, guess: usize) -> Option<&R>
     }
 }
 
+/// Where the rank is, or where it would be inserted: the place from which on the ranks aren't less.
+fn start<R>(entries: &[(u64, R)], rank: u64, guess: usize) -> usize
+    requires { are_in_order nat_cmp entries.now ≡ true }
+    ensures { IsPartedAt entries.now rank result }
+{
+    match place_of(entries, rank, guess) {
+        Ok(place) => place,
+        Err(place) => place,
+    }
+}
+
+/// The row of the rank, if there is one, where the ranks from the place on aren't less; and the place from which on they are
+/// greater.
+fn found_next<R>(entries: &[(u64, R)], rank: u64, place: usize) -> (Option<&R>, usize)
+    requires order { are_in_order nat_cmp entries.now ≡ true }
+    requires place { IsPartedAt entries.now rank place }
+    ensures value { option_copied result.0 ≡ map.find nat_cmp rank entries.now }
+    ensures next { IsPartedAt entries.now (rank + 1) result.1 }
+{
+    match entries.get(place) {
+        Some((other, row)) if *other == rank => (Some(row), place + 1),
+        _ => (None, place),
+    }
+}
+
 /// Replaces the entry at the place, and returns its row.
 fn replace<R>(entries: &mut Vec<(u64, R)>, place: usize, entry: (u64, R)) -> R
     requires { place < length entries.old.items }
@@ -227,6 +253,23 @@ impl<R> Table<R> {
         ensures { option_copied result ≡ map.get self.now rank }
     {
         found(&self.entries, rank, place)
+    }
+
+    /// The place from which on the ranks aren't less, with a hint at it.
+    pub fn start(&self, rank: u64, place: usize) -> usize
+        ensures { IsPartedAt (map.entries self.now) rank result }
+    {
+        start(&self.entries, rank, place)
+    }
+
+    /// The row of the rank, if there is one, where the ranks from the place on aren't less; and the place from which on they are
+    /// greater.
+    pub fn next(&self, rank: u64, place: usize) -> (Option<&R>, usize)
+        requires { IsPartedAt (map.entries self.now) rank place }
+        ensures value { option_copied result.0 ≡ map.get self.now rank }
+        ensures next { IsPartedAt (map.entries self.now) (rank + 1) result.1 }
+    {
+        found_next(&self.entries, rank, place)
     }
 
     /// Exchanges the rank's row for this one, and returns true; or returns false if it has none.

@@ -1,4 +1,4 @@
-use Rattle.std.proofs.Common.{rules, ◌≡◌, ◌∙◌, List, length, map, Option, Some, sym, ap}
+use Rattle.std.proofs.Common.{rules, ◌∙◌, List, length, Option, Some, sym, ap}
 use Rattle.std.proofs.lemmas.List.{length-map}
 use Rattle.std.proofs.lemmas.Result.{IfOk-weaker}
 use Rattle.serializability.specs.Footprints.{Footprint}

@@ -4,7 +4,6 @@ use Rattle.tpcc_laws.proofs.Doing.{between-some}
 use Rattle.tpcc_rows.specs.Picks.{oldest}
 use Rattle.tpcc_rows.specs.References.{row_of}
 use Rattle.tpcc_rows.specs.declared.key.RowKey.TheVariants as key
-use Rattle.tpcc_rows.specs.declared.row.Row.{Row}
 use Rattle.profiles.proofs.NewOrders.{nth-above, nth-gone, nth-none, nth-there}
 use Rattle.profiles.proofs.delivery.nth_new_order.Goals as goal
 

@@ -1,4 +1,4 @@
-use Rattle.std.proofs.Common.{◌≡◌, ◌≤◌, ◌++◌, drop, length}
+use Rattle.std.proofs.Common.{◌≡◌, ◌++◌, drop}
 use Rattle.profiles.specs.Declarations.{each_after}
 use Rattle.profiles.specs.Earlier.{AreCounts, all_known, before, known_of}
 use Rattle.profiles.proofs.earlier.count.Given as goal

@@ -1,9 +1,8 @@
-use Rattle.std.proofs.Common.{rules, ◌≡◌, ◌≤◌, ◌<◌, ◌-◌, ℕ, suc, length, sym, ap, ◌∙◌, arith}
-use Rattle.requests.specs.declared.request.Request.TheVariants as request
+use Rattle.std.proofs.Common.{rules, ◌≡◌, ◌-◌, suc, sym, ap, ◌∙◌, arith}
 use Rattle.serializability.specs.Footprints.{joined}
-use Rattle.profiles.specs.Earlier.{before, known_of, last_order_of}
+use Rattle.profiles.specs.Earlier.{before, last_order_of}
 use Rattle.profiles.proofs.Joining.{joined-untouched}
-use Rattle.profiles.proofs.Walks.{all_earlier, last-most, length-before, nearest, nearest_below, nearest_is_order, nearest_known, nearest_touched, none_left}
+use Rattle.profiles.proofs.Walks.{last-most, length-before, nearest, nearest_below, nearest_is_order, nearest_known, nearest_touched, none_left}
 use Rattle.profiles.proofs.stock_level.touch_earlier.Goals.{in-NewOrder+in_ok-touch_order, in_default}
 use Rattle.profiles.proofs.stock_level.touch_earlier.Goals as goal
 

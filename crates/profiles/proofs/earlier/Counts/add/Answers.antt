@@ -1,4 +1,4 @@
-use Rattle.std.proofs.Common.{rules, ◌≡◌, ◌≤◌, ◌<◌, ◌+◌, ◌*◌, ℕ, length, get_or, ap, subst, ◌∙◌, arith}
+use Rattle.std.proofs.Common.{rules, ◌≡◌, ◌+◌, ℕ, length, get_or, ap, subst, ◌∙◌, arith}
 use Rattle.tpcc_rows.specs.Limits.{IsBetween}
 use Rattle.profiles.specs.Declarations.{deliveries_of}
 use Rattle.profiles.proofs.Counts.{counted-delivery, counted-order, deliveries-most}
