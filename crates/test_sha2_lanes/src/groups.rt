@@ -43,6 +43,31 @@ pub fn all_bytes(alloc: Global, count: u16) -> Option<Vec<u8>> {
     Some(bytes)
 }
 
+/// So many of the bytes from this place on.
+pub fn part_at(bytes: &[u8], place: usize, length: usize) -> Option<&[u8]> {
+    let (_, behind) = bytes.split_at_checked(place)?;
+    let (part, _) = behind.split_at_checked(length)?;
+    Some(part)
+}
+
+/// The messages of a group.
+pub fn messages_of<'a>(alloc: Global, bytes: &'a [u8], lengths: &[usize]) -> Option<Vec<&'a [u8]>> {
+    let mut messages = Vec::new(alloc);
+    for (place, length) in lengths.iter().enumerate() {
+        messages.push(part_at(bytes, place, *length)?).ok()?;
+    }
+    Some(messages)
+}
+
+/// Shows the digests of messages.
+fn show_digests(rt: &impl Print, messages: &[&[u8]], digests: &[[u8; 32]]) {
+    let _ = println!(rt; "messages: {}", messages.len());
+    for (message, digest) in messages.iter().zip(digests.iter()) {
+        let _ = print!(rt; "  {} bytes", message.len());
+        print_digest(rt, "", message, digest);
+    }
+}
+
 fn show_group(
     rt: &impl Print,
     alloc: Global,
@@ -50,17 +75,10 @@ fn show_group(
     bytes: &[u8],
     lengths: &[usize],
 ) -> Option<()> {
-    let _ = println!(rt; "messages: {}", lengths.len());
-    let mut messages = Vec::new(alloc);
-    for (place, length) in lengths.iter().enumerate() {
-        messages.push(bytes.get(place..)?.get(..*length)?).ok()?;
-    }
+    let messages = messages_of(alloc, bytes, lengths)?;
     let mut each = vec![in alloc; [0u8; 32]; messages.len()].ok()?;
     digests(second_blocks, &messages, &mut each);
-    for (message, digest) in messages.iter().zip(each.iter()) {
-        let name = format!(in alloc; "  {} bytes", message.len()).ok()?;
-        print_digest(rt, &name, message, digest);
-    }
+    show_digests(rt, &messages, &each);
     Some(())
 }
 

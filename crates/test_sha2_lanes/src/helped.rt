@@ -1,5 +1,5 @@
 //! Groups of messages that helpers begin with. What they give is the same whether a helper was in time or not.
-use crate::groups::{GROUPS, all_bytes};
+use crate::groups::{GROUPS, all_bytes, messages_of};
 use hashers::{Helpers, Host, LONG_BYTES, SHORT_BYTES, TEXTS};
 use sha2::{Digest, Sha256};
 use sha2_lanes::SecondBlocks;
@@ -15,23 +15,6 @@ const LONG_GROUPS: [&[usize]; 4] = [
     &[SHORT_BYTES; TEXTS],
     &[SHORT_BYTES; TEXTS + 1],
 ];
-
-/// The messages of a group, in their order or the other way round.
-fn messages_of<'a>(
-    alloc: Global,
-    bytes: &'a [u8],
-    lengths: &[usize],
-    turned: bool,
-) -> Option<Vec<&'a [u8]>> {
-    let mut messages = Vec::new(alloc);
-    for (place, length) in lengths.iter().enumerate() {
-        messages.push(bytes.get(place..)?.get(..*length)?).ok()?;
-    }
-    if turned {
-        messages.reverse();
-    }
-    Some(messages)
-}
 
 /// Whether each of these digests is the one that `sha2` gives.
 fn are_as_alone(messages: &[&[u8]], digests: &[[u8; 32]]) -> bool {
@@ -60,7 +43,7 @@ fn ask(alloc: Global, started: &mut Started, begun: &[&[u8]], asked: &[&[u8]]) -
     Some(are_as_alone(asked, &digests))
 }
 
-/// For how many groups the digests are as alone.
+/// For how many groups the digests are as alone: those that were begun with, or, turned, the same in reverse.
 fn count(
     alloc: Global,
     started: &mut Started,
@@ -70,8 +53,11 @@ fn count(
 ) -> Option<usize> {
     let mut right = 0usize;
     for lengths in groups {
-        let begun = messages_of(alloc, bytes, lengths, false)?;
-        let asked = messages_of(alloc, bytes, lengths, turned)?;
+        let begun = messages_of(alloc, bytes, lengths)?;
+        let mut asked = messages_of(alloc, bytes, lengths)?;
+        if turned {
+            asked.reverse();
+        }
         if ask(alloc, started, &begun, &asked)? {
             right = right.saturating_add(1);
         }

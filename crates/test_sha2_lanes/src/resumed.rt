@@ -1,7 +1,7 @@
 //! Messages that go on from a start behind their first blocks.
 ghost use Rattle.std.specs.Prelude.{◌≡◌, ◌%◌, IfSome, length};
 
-use crate::groups::all_bytes;
+use crate::groups::{all_bytes, part_at};
 use sha2::{Digest, Sha256};
 use sha2_lanes::{Message, Start, digests_from_four, starts_of_four};
 use std::alloc::Global;
@@ -49,11 +49,13 @@ fn count_resumed(messages: [&[u8]; 4], front: usize) -> Option<usize> {
 fn whole_blocks<'a>(start: Start, message: &'a [u8], front: usize) -> Option<Message<'a>>
     ensures { IfSome result (λ blocks. length blocks.rest.now % 64 ≡ 0) }
 {
-    let rest = message.get(..front)?;
-    if rest.len() % 64 != 0 {
+    if message.len() < front || front % 64 != 0 {
         return None;
     }
-    Some(Message { start, rest })
+    Some(Message {
+        start,
+        rest: &message[..front],
+    })
 }
 
 /// Shows how many digests are those of the messages alone, for each place where they go on.
@@ -62,7 +64,7 @@ pub fn show(rt: &impl Print, alloc: Global) -> Option<()> {
     let mut messages: [&[u8]; 4] = [&[]; 4];
     for (place, length) in LENGTHS.iter().enumerate() {
         if place < 4 {
-            messages[place] = bytes.get(place..)?.get(..*length)?;
+            messages[place] = part_at(&bytes, place, *length)?;
         }
     }
     for front in FRONTS {
