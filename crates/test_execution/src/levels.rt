@@ -1,0 +1,52 @@
+//! Ten thousand batches that look random are executed in levels, by two to eight workers, and in order, on the same state: replies
+//! and tokens, which cover the tables, are the same. From the middle on, threads help with hashing. Standard error has the numbers
+//! of batches that took each path.
+use crate::seen::Seen;
+use crate::trials::Trials;
+use hashers::Host;
+
+/// The number of batches.
+const TURNS: u64 = 10_000;
+
+/// The first turn whose batch differs, or isn't executed.
+fn first_fault<R: Host + AllocGlobal>(rt: &R, trials: &mut Trials) -> Option<u64> {
+    for turn in 0..TURNS {
+        if turn == TURNS / 2 {
+            trials.keep_threads(*rt, rt.alloc());
+        }
+        if trials.holds(rt, rt.alloc(), turn) != Some(true) {
+            return Some(turn);
+        }
+    }
+    None
+}
+
+fn print_seen(rt: &(impl Print + Eprint), seen: Seen) {
+    seen.print(rt);
+    let _ = println!(rt;
+        "{} batches in levels: replies and tokens as in order",
+        seen.in_levels()
+    );
+    let _ = println!(rt; "all paths: {}", seen.has_all_paths());
+    let _ = println!(rt;
+        "levels of several workers, with a gate that listens and without: {}",
+        seen.has_shared_levels()
+    );
+}
+
+/// Tries all batches, and prints what was seen; at the first that differs, which one it is. Tells whether none differs.
+pub fn show_levels<R: Print + Eprint + Host + AllocGlobal>(rt: &R) -> bool {
+    let Some(mut trials) = Trials::open(rt, rt.alloc()) else {
+        return false;
+    };
+    match first_fault(rt, &mut trials) {
+        None => {
+            print_seen(rt, trials.seen);
+            true
+        }
+        Some(turn) => {
+            let _ = println!(rt; "batch {turn} differs, or isn't executed");
+            false
+        }
+    }
+}
