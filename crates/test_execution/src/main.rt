@@ -1,15 +1,8 @@
-//! What no run of the program shows of the execution of batches, in two parts. With no word both are tried; with the name of a part
-//! that part alone.
+//! What no run of the program shows of the execution of batches: which requests are executed at one time, how often the gate
+//! is told, which refusal comes first, what states can be gone back to, and what is left where memory is refused. A line each
+//! tells whether it holds. Where memory is refused to what is tried, its line is left out, and the status is 1.
 //!
-//! | Part | What it shows |
-//! |---|---|
-//! | `cases` | which requests are executed at one time, how often the gate is told, which refusal comes first, what states can be gone back to, and what is left where memory is refused |
-//! | `levels` | that ten thousand batches give in levels what they give in order |
-//!
-//! Of the cases a line each tells whether it holds. Where memory is refused to what is tried, its line is left out, and the status
-//! is 1.
-//!
-//! The cases stand in the file `cases` of `data`, whose parts begin with `#`. A part with a title behind it is tried, call
+//! What is tried stands in the file `cases` of `data`, whose parts begin with `#`. A part with a title behind it is tried, call
 //! by call; the others are batches and an image, which calls name. Behind `->` stands what a call must answer: one number or two,
 //! or a refusal.
 //!
@@ -34,30 +27,19 @@
 //! | `whole BATCH ..` | a run is whole or refused, on the last two databases that were opened | |
 #![tactic(auto)]
 
-mod batches;
 mod calls;
-mod comparing;
 mod counting;
-mod dice;
 mod files;
-mod levels;
 mod meeting;
 mod memory;
 mod parts;
 mod player;
-mod requesting;
-mod seen;
-mod trials;
-mod watching;
 
 use crate::files::read;
-use crate::levels::show_levels;
 use crate::player::is_shown;
-use hashers::Host;
 use std::process::ExitCode;
-use std::rt::{Env, Files};
+use std::str;
 use std::thread::Threads;
-use std::{env, str};
 
 /// Tries what a part says, and prints whether it holds. Tells whether there is an answer.
 fn show<R: Print + AllocGlobal + Threads + Sync>(rt: &R, text: &str, part: &str) -> bool {
@@ -82,46 +64,16 @@ fn show_all<R: Print + AllocGlobal + Threads + Sync>(rt: &R, text: &str) -> bool
     all
 }
 
-/// Tries all cases. Tells whether each has an answer.
-fn show_cases<R: Files + Print + AllocGlobal + Threads + Sync>(rt: &R) -> bool
-where
-    R::File: Drop,
-{
-    let Some(bytes) = read(rt, "cases") else {
-        return false;
-    };
-    match str::from_utf8(bytes.as_slice()) {
-        Ok(text) => show_all(rt, text),
-        Err(_) => false,
-    }
-}
-
-/// The word that names a part, empty where there is none.
-fn word<R: Env + AllocGlobal>(rt: &R) -> Option<String> {
-    let mut words = env::args(rt).ok()?;
-    let _program = words.next();
-    Some(words.next().unwrap_or(String::new(rt.alloc())))
-}
-
-/// Tries the parts that are asked for. Tells whether all was tried, and no batch differs.
-fn show_parts<R: Files + Print + Eprint + AllocGlobal + Host>(rt: &R, asked: &str) -> bool
-where
-    R::File: Drop,
-{
-    let is_all = asked.is_empty();
-    let mut all = true;
-    if is_all || asked == "cases" {
-        all = show_cases(rt);
-    }
-    if is_all || asked == "levels" {
-        all = show_levels(rt) && all;
-    }
-    all
-}
-
 fn main(rt: HostRuntime) -> ExitCode {
-    match word(&rt) {
-        Some(asked) if show_parts(&rt, asked.as_str()) => ExitCode::SUCCESS,
-        _ => ExitCode::FAILURE,
+    let Some(bytes) = read(&rt, "cases") else {
+        return ExitCode::FAILURE;
+    };
+    let Ok(text) = str::from_utf8(bytes.as_slice()) else {
+        return ExitCode::FAILURE;
+    };
+    if show_all(&rt, text) {
+        ExitCode::SUCCESS
+    } else {
+        ExitCode::FAILURE
     }
 }

@@ -1,16 +1,13 @@
-//! Values that the format and worked examples give, each as a public call answers it, a line each: the wanted lines were worked
-//! out by hand, or by another program. Then what a second, plain computation gives as well, digests, and how command lines are
-//! parsed. Where memory is refused the rest of a part is left out, and the status is 1.
+//! Values that the format and worked examples give, each as a public call answers it, a line each. The wanted lines were
+//! worked out by hand, or by another program. Where memory is refused the rest of a part is left out, and the status is 1.
 #![tactic(auto)]
 
 mod batches;
 mod cards;
 mod columns;
-mod command_lines;
 mod counted_ahead;
 mod database;
 mod desks;
-mod digests;
 mod eight_points;
 mod executions;
 mod footprints;
@@ -22,7 +19,6 @@ mod printing;
 mod replies;
 mod row_bytes;
 mod rows;
-mod second;
 mod signatures;
 mod stores;
 mod views;
@@ -49,10 +45,7 @@ fn main(rt: HostRuntime) -> ExitCode {
         executions::show(&rt, rt.alloc()),
         levels::show(&rt, rt.alloc()),
         signatures::show(&rt, rt.alloc()),
-        second::show(&rt, rt.alloc()),
-        digests::show(&rt, rt.alloc()),
     ];
-    command_lines::show(&rt, rt.alloc());
     if parts.iter().all(Option::is_some) {
         ExitCode::SUCCESS
     } else {
