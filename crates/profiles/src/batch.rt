@@ -97,9 +97,7 @@ fn places(alloc: Global, count: usize) -> Result<Vec<Option<Footprint>>, Memory>
     ensures empty { IfOk result (λ places. All (λ place. place ≡ None) places.items) }
 {
     let mut places = Vec::with_capacity(alloc, count)?;
-    for _n in 0..count {
-        places.push(None)?;
-    }
+    places.resize_with(count, || None)?;
     Ok(places)
 }
 
