@@ -1,10 +1,12 @@
 //! Replies.
-ghost use Rattle.std.specs.Prelude.{◌≡◌, ◌<◌, ◌≤◌, [], ◌∷◌, ◌++◌, length};
+ghost use Rattle.std.specs.Prelude.{◌≡◌, ◌<◌, ◌≤◌, [], ◌∷◌, ◌++◌, IfOk, OnErr, OnOk, length};
 
 use crate::request::RequestKind;
 use arrayvec::ArrayVec;
+use std::alloc::Global;
 use std::marker::Model;
 use tpcc_rows::id::{CustomerId, ItemId, OrderId, WarehouseId};
+use tpcc_rows::memory::Memory;
 use tpcc_rows::number::{Amount, Carrier, Cents, LineQuantity, Moment, StockQuantity};
 use tpcc_rows::text::Text;
 
@@ -121,23 +123,10 @@ pub struct ShownLine {
     pub delivery: Option<Moment>,
 }
 
-/// Fills a list's unused places.
-impl Default for ShownLine {
-    fn default() -> ShownLine {
-        ShownLine {
-            item: ItemId::new(1).unwrap(),
-            supply: WarehouseId::new(1).unwrap(),
-            quantity: LineQuantity::new(0).unwrap(),
-            amount: Amount::new(0).unwrap(),
-            delivery: None,
-        }
-    }
-}
-
-/// The lines of a shown order: at most 15.
+/// The lines of a shown order: at most 15. They lie on the heap, since few replies show an order.
 #[derive(Drop)]
 pub struct ShownLines {
-    lines: ArrayVec<ShownLine, 15>,
+    lines: Vec<ShownLine>,
 }
 
 impl Model for ShownLines {
@@ -152,23 +141,24 @@ impl Model for ShownLines {
 }
 
 impl ShownLines {
-    /// No lines.
-    pub fn new() -> ShownLines
-        ensures { result ≡ [] }
+    /// No lines, with room for this number of them.
+    pub fn with_capacity(alloc: Global, count: usize) -> Result<ShownLines, Memory>
+        ensures { IfOk result (λ lines. lines ≡ []) }
     {
-        ShownLines {
-            lines: ArrayVec::new(),
-        }
+        let lines = Vec::with_capacity(alloc, count)?;
+        Ok(ShownLines { lines })
     }
 
-    /// Appends a line.
-    pub fn push(&mut self, line: ShownLine)
+    /// Appends a line. If memory is refused, the lines stay as they are.
+    pub fn push(&mut self, line: ShownLine) -> Result<(), Memory>
         requires { length self.old < 15 }
-        ensures { self.new ≡ self.old ++ line ∷ [] }
+        ensures ok { OnOk result (self.new ≡ self.old ++ line ∷ []) }
+        ensures err { OnErr result (self.new ≡ self.old) }
     {
         // The read lets the proof of the call know the type of this field.
         let _delivery = line.delivery;
-        self.lines.push(line);
+        self.lines.push(line)?;
+        Ok(())
     }
 
     pub fn as_slice(&self) -> &[ShownLine]

@@ -113,13 +113,13 @@ fn line(item: (u32, u8), sold: (u8, u32), delivery: Option<Moment>) -> Option<Sh
 }
 
 /// Five of item 1 out of warehouse 80, and 99 of item 26 out of warehouse 2, which were delivered at moment 0.
-fn order_without_carrier() -> Option<ShownOrder> {
+fn order_without_carrier(alloc: Global) -> Option<ShownOrder> {
     let one = line((1, 80), (5, 100), None)?;
     let two = line((26, 2), (99, 963), Moment::new(0))?;
     let (order, entry) = (OrderId::new(12)?, Moment::new(999_999_999_999)?);
-    let mut lines = ShownLines::new();
-    lines.push(one);
-    lines.push(two);
+    let mut lines = ShownLines::with_capacity(alloc, 2).ok()?;
+    lines.push(one).ok()?;
+    lines.push(two).ok()?;
     Some(ShownOrder {
         order,
         entry,
@@ -128,11 +128,11 @@ fn order_without_carrier() -> Option<ShownOrder> {
     })
 }
 
-fn delivered_order() -> Option<ShownOrder> {
+fn delivered_order(alloc: Global) -> Option<ShownOrder> {
     let one = line((1, 80), (5, 100), Moment::new(86_400))?;
     let (order, entry) = (OrderId::new(12)?, Moment::new(7)?);
-    let mut lines = ShownLines::new();
-    lines.push(one);
+    let mut lines = ShownLines::with_capacity(alloc, 1).ok()?;
+    lines.push(one).ok()?;
     Some(ShownOrder {
         order,
         entry,
@@ -164,16 +164,12 @@ fn show_status(rt: &impl Print, name: &str, number: u64, order: Option<ShownOrde
     Some(())
 }
 
-fn show_queries(rt: &impl Print) -> Option<()> {
+fn show_queries(rt: &impl Print, alloc: Global) -> Option<()> {
     show_status(rt, "digest of a customer without orders", 3, None)?;
     let name = "digest of an order without carrier";
-    show_status(rt, name, 3, Some(order_without_carrier()?))?;
-    show_status(
-        rt,
-        "digest of a delivered order",
-        4,
-        Some(delivered_order()?),
-    )?;
+    show_status(rt, name, 3, Some(order_without_carrier(alloc)?))?;
+    let name = "digest of a delivered order";
+    show_status(rt, name, 4, Some(delivered_order(alloc)?))?;
     show_digest(rt, "digest of a stock level", 2, &[stock_level(17)]);
     Some(())
 }
@@ -300,7 +296,7 @@ fn show_changes(rt: &impl Print, alloc: Global) -> Option<()> {
 
 pub fn show(rt: &impl Print, alloc: Global) -> Option<()> {
     show_changes_of_rows(rt)?;
-    show_queries(rt)?;
+    show_queries(rt, alloc)?;
     show_refusals(rt);
     show_several(rt);
     show_token(rt)?;
