@@ -1,5 +1,5 @@
 -- A batch executed in order, where some of its requests told what they declared: the others can't stray.
-use Rattle.std.specs.Prelude.{◌≡◌, ℕ, ◌+◌, Bool, false, ◌||◌, List, [], ◌∷◌, Option, None, Some}
+use Rattle.std.specs.Prelude.{◌≡◌, ℕ, ◌+◌, Bool, false, ◌||◌, List, [], ◌∷◌, Option, None, Some, option_copied}
 use Rattle.serializability.specs.Folds.{after}
 use Rattle.serializability.specs.Footprints.{Footprint}
 use Rattle.serializability.specs.InTurn.{strays_in_turn}
@@ -15,9 +15,11 @@ use Rattle.tpcc_model.specs.Machine.{tpcc}
 use Rattle.tpcc_model.specs.Serial.{State}
 use Rattle.tpcc_model.specs.Soundness.{IsSound}
 use Rattle.tpcc_model.specs.Steps.{StepOutcome, replies, rows_after, step, steps_at}
+use Rattle.transactions.specs.NumberedRequests.{numbered_step}
 use Rattle.workers.specs.declared.job.Job.{Job}
 use Rattle.executor.specs.LevelRuns.{declared_footprints, strays_by}
 use Rattle.executor.specs.States.{AreWithinLimits}
+use Rattle.executor.specs.Told.{told_by}
 use Rattle.executor.specs.declared.turn.PlanInTurn.{PlanInTurn}
 use Rattle.executor.specs.declared.turn.Told.{Told}
 
@@ -31,10 +33,10 @@ abbrev pub job_outcome : Cards → Rows → Job → StepOutcome
 job_outcome cards rows job = step (database cards rows) job.request.now job.number job.moment
 
 abbrev pub told_outcome : Cards → Rows → Told → StepOutcome
-told_outcome cards rows told = step (database cards rows) told.request.now told.number told.moment
+told_outcome cards rows told = numbered_step (database cards rows) told.asked
 
 abbrev pub told_strays : Cards → Rows → Told → Bool
-told_strays cards rows told = place_strays cards told.moment rows told.number told.request.now told.footprint.now
+told_strays cards rows told = place_strays cards told.asked.moment rows told.asked.number told.asked.request.now (option_copied told.footprint)
 
 -- some request touches more than it told, on the rows that those before it leave
 abbrev pub told_strays_in_turn : Cards → ℕ → Rows → ℕ → List Request → List (Option (Footprint Granule)) → Bool
@@ -58,7 +60,7 @@ plan_rows_in_turn cards rows plan = rows_after (database cards rows) plan.batch.
 
 -- some request strays then
 abbrev pub plan_strays_in_turn : Cards → Rows → PlanInTurn → Bool
-plan_strays_in_turn cards rows plan = told_strays_in_turn cards plan.batch.now.moment rows plan.first plan.batch.now.requests plan.told.now
+plan_strays_in_turn cards rows plan = told_strays_in_turn cards plan.batch.now.moment rows plan.first plan.batch.now.requests (told_by plan.told)
 
 -- the law: exactly then the batch strays, by its requests' declared footprints and any numbers of granules
 abbrev pub StraysAreInTurn : Type 0

@@ -9,6 +9,7 @@ pub mod Kept
 pub mod Calls
 pub mod Slots
 pub mod PlannedLevels
+pub mod Told
 pub mod InOrder
 pub mod NextBatches
 pub mod Executions

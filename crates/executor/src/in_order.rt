@@ -14,7 +14,7 @@ use row_store::PointedStore;
 use std::thread::Threads;
 use tpcc_rows::id::RequestNumber;
 use tpcc_rows::memory::Memory;
-use transactions::{Stop, execute_in_place, execute_in_place_within};
+use transactions::{NumberedRequest, Stop, execute_in_place, execute_in_place_within};
 use workers::{Db, Gate, Job, Runtime, tell_stray};
 
 /// The replies to a batch, in order, and whether a request strayed.
@@ -46,9 +46,14 @@ fn execute_within<R: Threads + Sync, G: Gate>(
         footprint,
         ..
     } = *job;
+    let asked = NumberedRequest {
+        request,
+        number,
+        moment,
+    };
     let alloc = runtime.alloc;
     if !*strayed {
-        match execute_in_place_within(alloc, catalog, request, number, moment, footprint, store) {
+        match execute_in_place_within(alloc, catalog, &asked, footprint, store) {
             Ok(reply) => return Ok(reply),
             Err(Stop::Memory) => return Err(Memory),
             Err(Stop::Strayed) => {
@@ -57,7 +62,7 @@ fn execute_within<R: Threads + Sync, G: Gate>(
             }
         }
     }
-    execute_in_place(alloc, catalog, request, number, moment, store)
+    execute_in_place(alloc, catalog, &asked, store)
 }
 
 /// The reply to a request, whose changes are made: on the rows that it declared, or on all rows, if it can't stray or once one has
@@ -75,25 +80,18 @@ fn execute_as_told<R: Threads + Sync, G: Gate>(
     ensures points { store.new.points ≡ store.old.points }
     ensures clean { KeepsCleanLeaves store.old store.new }
 {
-    let Told {
-        place,
-        number,
-        moment,
-        request,
-        footprint,
-    } = *told;
-    match footprint {
+    match told.footprint {
         Some(footprint) => {
             let job = Job {
-                place,
-                number,
-                moment,
-                request,
+                place: told.place,
+                number: told.asked.number,
+                moment: told.asked.moment,
+                request: told.asked.request,
                 footprint,
             };
             execute_within(runtime, catalog, &job, store, strayed)
         }
-        None => execute_in_place(runtime.alloc, catalog, request, number, moment, store),
+        None => execute_in_place(runtime.alloc, catalog, &told.asked, store),
     }
 }
 
@@ -115,12 +113,15 @@ pub(crate) fn execute_in_order<R: Threads + Sync, G: Gate>(
     let mut replies = Vec::with_capacity(runtime.alloc, plan.batch.requests.len())?;
     let mut strayed = false;
     for (place, request) in plan.batch.requests.as_slice().iter().enumerate() {
-        let told = Told {
-            place,
+        let asked = NumberedRequest {
+            request,
             number: RequestNumber::new(plan.first + place as u64).unwrap(),
             moment: plan.batch.moment,
-            request,
-            footprint: &plan.told[place],
+        };
+        let told = Told {
+            place,
+            asked,
+            footprint: plan.told.at(place),
         };
         match execute_as_told(runtime, catalog, &told, store, &mut strayed) {
             Ok(reply) => replies.push(reply)?,

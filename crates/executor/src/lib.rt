@@ -9,6 +9,7 @@ mod batch;
 mod batch_replies;
 mod engine;
 mod executor;
+mod footprints;
 mod in_order;
 pub mod laws;
 mod limits;

@@ -162,7 +162,7 @@ pub(crate) fn execute_parallel<R: Threads + Sync, G: Gate>(
         footprints: footprints.as_slice(),
     };
     let Some(cut) = cut_of(runtime, &plan)? else {
-        return Ok(execute_declared(runtime, catalog, store, next, footprints)?);
+        return Ok(execute_declared(runtime, catalog, store, next, plan.footprints)?);
     };
     let replies = run_levels(runtime, catalog, store, &plan, &cut)?;
     Ok(Pass {

@@ -9,7 +9,7 @@ use requests::reply::Reply;
 use row_store::PointedStore;
 use tpcc_rows::id::RequestNumber;
 use tpcc_rows::memory::Memory;
-use transactions::execute_in_place;
+use transactions::{NumberedRequest, execute_in_place};
 use workers::{Gate, Runtime};
 
 /// Executes the requests of a batch one after the other, each on the rows as the earlier ones leave them. If an allocation
@@ -29,9 +29,13 @@ pub(crate) fn execute_sequential<R, G: Gate>(
     let alloc = runtime.alloc;
     let mut replies = Vec::with_capacity(alloc, next.batch.requests.len())?;
     for (place, request) in next.batch.requests.as_slice().iter().enumerate() {
-        let number = RequestNumber::new(next.stamp.next + place as u64).unwrap();
+        let asked = NumberedRequest {
+            request,
+            number: RequestNumber::new(next.stamp.next + place as u64).unwrap(),
+            moment: next.batch.moment,
+        };
         runtime.gate.enter(place);
-        let reply = execute_in_place(alloc, catalog, request, number, next.batch.moment, store);
+        let reply = execute_in_place(alloc, catalog, &asked, store);
         runtime.gate.leave(place);
         replies.push(reply?)?;
     }

@@ -1,11 +1,13 @@
 //! Executes a batch in order, given the footprints that its requests declared when it began.
-ghost use Rattle.std.specs.Prelude.{◌≡◌, IfOk, OnOk, Some, length, map};
+ghost use Rattle.std.specs.Prelude.{◌≡◌, IfOk, OnOk, length};
 ghost use Rattle.executor.specs.InOrder.{TellsOfStrays};
 ghost use Rattle.executor.specs.LevelRuns.{declared_footprints};
 ghost use Rattle.executor.specs.NextBatches.{met_on, next_replies, next_rows, next_strays};
 ghost use Rattle.executor.specs.States.{IsSoundState};
+ghost use Rattle.executor.specs.Told.{told_by};
 ghost use Rattle.rollback.specs.Pointed.{KeepsCleanLeaves};
 
+use crate::footprints::Footprints;
 use crate::in_order::{Pass, execute_in_order};
 use crate::laws::strays_in_turn;
 use crate::next_batch::NextBatch;
@@ -14,7 +16,6 @@ use catalog::Catalog;
 use profile_laws::only_deliveries_stray;
 use profiles::declare_deliveries;
 use row_store::PointedStore;
-use std::alloc::Global;
 use std::thread::Threads;
 use tpcc_rows::footprint::Footprint;
 use tpcc_rows::memory::Memory;
@@ -26,11 +27,11 @@ fn execute_told<R: Threads + Sync, G: Gate>(
     catalog: &Catalog,
     store: &mut PointedStore,
     next: &NextBatch<'_>,
-    told: &[Option<Footprint>],
+    told: Footprints<'_>,
 ) -> Result<Pass, Memory>
     requires sound { IsSoundState catalog.now (met_on store.old.rows next.now) }
-    requires each { length told.now ≡ length next.now.batch.now.requests }
-    requires tells { TellsOfStrays catalog.now (met_on store.old.rows next.now) next.now.batch.now told.now }
+    requires each { length (told_by told) ≡ length next.now.batch.now.requests }
+    requires tells { TellsOfStrays catalog.now (met_on store.old.rows next.now) next.now.batch.now (told_by told) }
     ensures strayed { IfOk result (λ pass. pass.strayed ≡ next_strays catalog.now store.old.rows next.now) }
     ensures replies { IfOk result (λ pass. pass.replies.items ≡ next_replies catalog.now store.old.rows next.now) }
     ensures rows { OnOk result (store.new.rows ≡ next_rows catalog.now store.old.rows next.now) }
@@ -65,18 +66,13 @@ pub(crate) fn execute_declaring_deliveries<R: Threads + Sync, G: Gate>(
     let requests = next.batch.requests.as_slice();
     let threads = runtime.workers.count();
     let told = declare_deliveries(runtime.rt, runtime.alloc, catalog, requests, store, threads)?;
-    execute_told(runtime, catalog, store, next, told.as_slice())
-}
-
-/// The footprints as options, where each request has declared one.
-fn each_told(alloc: Global, footprints: Vec<Footprint>) -> Result<Vec<Option<Footprint>>, Memory>
-    ensures { IfOk result (λ told. told.items ≡ map Some footprints.items) }
-{
-    let mut told = Vec::with_capacity(alloc, footprints.len())?;
-    for footprint in footprints {
-        told.push(Some(footprint))?;
-    }
-    Ok(told)
+    execute_told(
+        runtime,
+        catalog,
+        store,
+        next,
+        Footprints::Deliveries(told.as_slice()),
+    )
 }
 
 /// Executes a batch in order, where each request has declared its footprint. If an allocation fails, the state of the rows is
@@ -86,17 +82,16 @@ pub(crate) fn execute_declared<R: Threads + Sync, G: Gate>(
     catalog: &Catalog,
     store: &mut PointedStore,
     next: &NextBatch<'_>,
-    footprints: Vec<Footprint>,
+    footprints: &[Footprint],
 ) -> Result<Pass, Memory>
     requires sound { IsSoundState catalog.now (met_on store.old.rows next.now) }
-    requires each { length footprints.items ≡ length next.now.batch.now.requests }
-    requires declared { footprints.items ≡ declared_footprints catalog.now (met_on store.old.rows next.now) next.now.batch.now }
+    requires each { length footprints.now ≡ length next.now.batch.now.requests }
+    requires declared { footprints.now ≡ declared_footprints catalog.now (met_on store.old.rows next.now) next.now.batch.now }
     ensures strayed { IfOk result (λ pass. pass.strayed ≡ next_strays catalog.now store.old.rows next.now) }
     ensures replies { IfOk result (λ pass. pass.replies.items ≡ next_replies catalog.now store.old.rows next.now) }
     ensures rows { OnOk result (store.new.rows ≡ next_rows catalog.now store.old.rows next.now) }
     ensures points { store.new.points ≡ store.old.points }
     ensures clean { KeepsCleanLeaves store.old store.new }
 {
-    let told = each_told(runtime.alloc, footprints)?;
-    execute_told(runtime, catalog, store, next, told.as_slice())
+    execute_told(runtime, catalog, store, next, Footprints::All(footprints))
 }

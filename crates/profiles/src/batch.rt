@@ -7,6 +7,7 @@ ghost use Rattle.tpcc_model.specs.Database.{database};
 ghost use Rattle.tpcc_model.specs.Soundness.{IsSound};
 
 use crate::asked::Asked;
+use crate::declaration::Declaration;
 use crate::earlier::{Counted, count};
 use crate::{delivery, new_order, order_status, payment, stock_level};
 use catalog::Catalog;
@@ -54,8 +55,7 @@ fn declare_at(
     }
 }
 
-/// What the request at this place of the batch declares; `None` if memory is refused. Not inlined, since the room for a footprint is
-/// cleared where it is.
+/// What the request at this place of the batch declares. Not inlined, since the room for a footprint is cleared where it is.
 #[inline(never)]
 fn told_at(
     alloc: Global,
@@ -63,12 +63,13 @@ fn told_at(
     batch: &Counted<'_>,
     place: usize,
     store: &PointedStore,
-) -> Option<Footprint>
+) -> Result<Declaration, Memory>
     requires { place < length batch.now.requests.now }
-    ensures { IsDeclared (database catalog.now store.now.rows) batch.now.requests.now place result }
+    ensures { IfOk result (λ told. IsDeclared (database catalog.now store.now.rows) batch.now.requests.now place told) }
 {
     let request = batch.request(place);
-    declare_at(alloc, catalog, request, batch, place, store).ok()
+    let footprint = declare_at(alloc, catalog, request, batch, place, store)?;
+    Declaration::of(alloc, footprint)
 }
 
 /// Puts what the request at this place of the batch declares into its empty place, which stays empty if the request isn't asked,
@@ -80,24 +81,27 @@ fn tell_at(
     place: usize,
     store: &PointedStore,
     asked: Asked,
-    told: &mut Option<Footprint>,
+    told: &mut Declaration,
 )
     requires place { place < length batch.now.requests.now }
     requires empty { told.old ≡ None }
     ensures { IsDeclared (database catalog.now store.now.rows) batch.now.requests.now place told.new }
 {
-    if asked.has(batch.request(place)) {
-        *told = told_at(alloc, catalog, batch, place, store);
+    if !asked.has(batch.request(place)) {
+        return;
+    }
+    if let Ok(declaration) = told_at(alloc, catalog, batch, place, store) {
+        *told = declaration;
     }
 }
 
 /// Empty places for what this number of requests declare.
-fn places(alloc: Global, count: usize) -> Result<Vec<Option<Footprint>>, Memory>
+fn places(alloc: Global, count: usize) -> Result<Vec<Declaration>, Memory>
     ensures count { IfOk result (λ places. length places.items ≡ count) }
     ensures empty { IfOk result (λ places. All (λ place. place ≡ None) places.items) }
 {
     let mut places = Vec::with_capacity(alloc, count)?;
-    places.resize_with(count, || None)?;
+    places.resize_with(count, || Declaration::none())?;
     Ok(places)
 }
 
@@ -109,7 +113,7 @@ fn fill<R: Threads + Sync>(
     catalog: &Catalog,
     batch: &Counted<'_>,
     store: &PointedStore,
-    places: &mut [Option<Footprint>],
+    places: &mut [Declaration],
     threads: usize,
     asked: Asked,
 )
@@ -122,7 +126,7 @@ fn fill<R: Threads + Sync>(
         rt,
         places,
         threads,
-        &|n: usize, place: &mut Option<Footprint>|
+        &|n: usize, place: &mut Declaration|
             requires { (n < length batch.now.requests.now) × (place.old ≡ None) }
             ensures { IsDeclared (database catalog.entry.now store.entry.now.rows) batch.entry.now.requests.now n place.new }
         {
@@ -140,7 +144,7 @@ pub(crate) fn tell<R: Threads + Sync>(
     store: &PointedStore,
     threads: usize,
     asked: Asked,
-) -> Result<Vec<Option<Footprint>>, Memory>
+) -> Result<Vec<Declaration>, Memory>
     requires threads { 0 < threads }
     ensures { IfOk result (λ told. AreDeclared (database catalog.now store.now.rows) requests.now told.items) }
 {
@@ -164,12 +168,12 @@ pub(crate) fn tell<R: Threads + Sync>(
 }
 
 /// The footprints of all places, or `Memory` if a place is empty.
-fn taken(alloc: Global, places: Vec<Option<Footprint>>) -> Result<Vec<Footprint>, Memory>
+fn taken(alloc: Global, places: Vec<Declaration>) -> Result<Vec<Footprint>, Memory>
     ensures { IfOk result (λ footprints. map Some footprints.items ≡ places.items) }
 {
     let mut footprints = Vec::with_capacity(alloc, places.len())?;
     for place in places {
-        footprints.push(place.ok_or(Memory)?)?;
+        footprints.push(place.into_footprint().ok_or(Memory)?)?;
     }
     Ok(footprints)
 }

@@ -7,12 +7,12 @@ ghost use Rattle.tpcc_model.specs.Soundness.{IsSound};
 
 use crate::asked::{Asked, is_delivery};
 use crate::batch::{tell, threads_for};
+use crate::declaration::Declaration;
 use catalog::Catalog;
 use requests::request::Request;
 use row_store::PointedStore;
 use std::alloc::Global;
 use std::thread::Threads;
-use tpcc_rows::footprint::Footprint;
 use tpcc_rows::memory::Memory;
 
 /// The number of deliveries.
@@ -27,19 +27,19 @@ fn deliveries_among(requests: &[Request]) -> usize {
 }
 
 /// Checks that exactly the deliveries have declared; otherwise memory was refused.
-fn all_told(requests: &[Request], told: &[Option<Footprint>]) -> Result<(), Memory>
+fn all_told(requests: &[Request], told: &[Declaration]) -> Result<(), Memory>
     requires { length told.now ≡ length requests.now }
     ensures { OnOk result (map is_some told.now ≡ map is_delivery requests.now) }
 {
     for (place, request) in requests.iter().enumerate() {
-        if told[place].is_some() != is_delivery(request) {
+        if told[place].footprint().is_some() != is_delivery(request) {
             return Err(Memory);
         }
     }
     Ok(())
 }
 
-/// What each delivery of a batch will read and write, declared when the batch begins; `None` for any other request. At most
+/// What each delivery of a batch will read and write, declared when the batch begins; nothing of any other request. At most
 /// `threads` threads compute it.
 pub fn declare_deliveries<R: Threads + Sync>(
     rt: &R,
@@ -48,7 +48,7 @@ pub fn declare_deliveries<R: Threads + Sync>(
     requests: &[Request],
     store: &PointedStore,
     threads: usize,
-) -> Result<Vec<Option<Footprint>>, Memory>
+) -> Result<Vec<Declaration>, Memory>
     ensures told { IsSound (database catalog.now store.now.rows)
         → IfOk result (λ told. told.items ≡ told_of_deliveries requests.now (declared (database catalog.now store.now.rows) requests.now)) }
     ensures each { IfOk result (λ told. length told.items ≡ length requests.now) }

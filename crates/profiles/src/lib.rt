@@ -3,6 +3,7 @@
 
 mod asked;
 mod batch;
+mod declaration;
 mod deliveries;
 mod delivery;
 mod earlier;
@@ -12,4 +13,5 @@ mod payment;
 mod stock_level;
 
 pub use batch::declare_batch;
+pub use declaration::Declaration;
 pub use deliveries::declare_deliveries;

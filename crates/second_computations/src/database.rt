@@ -17,7 +17,7 @@ use tpcc_rows::encoding::encode_row;
 use tpcc_rows::footprint::Footprint;
 use tpcc_rows::id::RequestNumber;
 use tpcc_rows::row_buf::RowBuf;
-use transactions::execute;
+use transactions::{NumberedRequest, execute};
 use worker_rows::Whole;
 
 /// The batch of these requests, a record a line.
@@ -56,12 +56,20 @@ impl Database {
         RequestNumber::new(self.next.saturating_add(place as u64))
     }
 
+    /// The request at a place of the next batch, with its number and moment.
+    pub fn asked<'a>(&self, batch: &'a Batch, place: usize) -> Option<NumberedRequest<'a>> {
+        Some(NumberedRequest {
+            request: batch.requests.as_slice().get(place)?,
+            number: self.number(place)?,
+            moment: batch.moment,
+        })
+    }
+
     /// What the request at a place does on all rows.
     pub fn step(&self, alloc: Global, batch: &Batch, place: usize) -> Option<(Reply, Delta)> {
-        let request = batch.requests.as_slice().get(place)?;
-        let number = self.number(place)?;
+        let asked = self.asked(batch, place)?;
         let view = Whole { store: &self.store };
-        execute(alloc, &self.catalog, request, number, batch.moment, &view).ok()
+        execute(alloc, &self.catalog, &asked, &view).ok()
     }
 
     /// The changes of the request at a place, whose reply is recorded.

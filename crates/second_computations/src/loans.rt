@@ -53,17 +53,9 @@ fn on_loan(
         batch,
         ..
     } = scene;
-    let request = batch.requests.as_slice().first()?;
-    let number = database.number(0)?;
+    let asked = database.asked(batch, 0)?;
     let loan = Loan::new(&database.store, footprint);
-    Some(execute(
-        alloc,
-        &database.catalog,
-        request,
-        number,
-        batch.moment,
-        &loan,
-    ))
+    Some(execute(alloc, &database.catalog, &asked, &loan))
 }
 
 /// The record of a reply to the first request, then the bytes of the changed rows.

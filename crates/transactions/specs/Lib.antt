@@ -9,3 +9,4 @@ pub mod DeliveryParts
 pub mod LowItems
 pub mod OnViews
 pub mod PaymentParts
+pub mod NumberedRequests

@@ -14,4 +14,4 @@ pub mod stop;
 mod transaction;
 
 pub use stop::Stop;
-pub use transaction::{execute, execute_in_place, execute_in_place_within};
+pub use transaction::{NumberedRequest, execute, execute_in_place, execute_in_place_within};

@@ -7,6 +7,7 @@ ghost use Rattle.tpcc_model.specs.Steps.{step};
 ghost use Rattle.tpcc_model.specs.Touches.{touch};
 ghost use Rattle.tpcc_rows.specs.Changing.{after};
 ghost use Rattle.transactions.specs.InPlace.{AnswersInPlace, EndsInPlace, loaned, whole};
+ghost use Rattle.transactions.specs.NumberedRequests.{numbered_step};
 ghost use Rattle.transactions.specs.OnViews.{ExecutesOn};
 ghost use Rattle.transactions.specs.Outcomes.{Executes, concluded};
 ghost use Rattle.worker_rows.specs.Views.{covers};
@@ -26,6 +27,14 @@ use tpcc_rows::id::RequestNumber;
 use tpcc_rows::memory::Memory;
 use tpcc_rows::number::Moment;
 use worker_rows::{Loan, RowView, Whole};
+
+/// A request with its number, and the moment of its batch.
+#[derive(Clone, Copy)]
+pub struct NumberedRequest<'a> {
+    pub request: &'a Request,
+    pub number: RequestNumber,
+    pub moment: Moment,
+}
 
 /// The request on the rows that the view lends.
 #[tactic(auto, unfolding(tpcc_model::specs::Steps::step, tpcc_model::specs::Touches::touch))]
@@ -65,20 +74,23 @@ fn concluded(
     }
 }
 
-/// The reply to a request with its number, at a moment, and the rows that it changes, where what it touches is within
+/// The reply to a request, and the rows that it changes, where what it touches is within
 /// the view; else it strays. A request that is refused for a limit touches as much as one that isn't. The database stays
 /// as it is.
 pub fn execute<V: RowView>(
     alloc: Global,
     catalog: &Catalog,
-    request: &Request,
-    number: RequestNumber,
-    moment: Moment,
+    asked: &NumberedRequest<'_>,
     view: &V,
 ) -> Result<(Reply, Delta), Stop>
     ensures { let db = database catalog.now (V.sees view.now).rows in
-        Executes (covers (V.sees view.now) (touch db request.now)) (step db request.now number moment) result }
+        Executes (covers (V.sees view.now) (touch db asked.now.request.now)) (numbered_step db asked.now) result }
 {
+    let NumberedRequest {
+        request,
+        number,
+        moment,
+    } = *asked;
     let answer = executed(alloc, catalog, request, number, moment, view);
     concluded(alloc, request.kind(), answer)
 }
@@ -121,21 +133,24 @@ fn executed_in_place(
     }
 }
 
-/// The reply to a request with its number, at a moment, on all rows of a store, where no request strays. The changes are
+/// The reply to a request on all rows of a store, where no request strays. The changes are
 /// made in their places. If an allocation fails, some of them may have been made.
 pub fn execute_in_place(
     alloc: Global,
     catalog: &Catalog,
-    request: &Request,
-    number: RequestNumber,
-    moment: Moment,
+    asked: &NumberedRequest<'_>,
     store: &mut PointedStore,
 ) -> Result<Reply, Memory>
-    ensures reply { IfOk result (λ reply. reply ≡ (step (database catalog.now store.old.rows) request.now number moment).reply) }
-    ensures rows { OnOk result (store.new.rows ≡ after store.old.rows (step (database catalog.now store.old.rows) request.now number moment).changes) }
+    ensures reply { IfOk result (λ reply. reply ≡ (numbered_step (database catalog.now store.old.rows) asked.now).reply) }
+    ensures rows { OnOk result (store.new.rows ≡ after store.old.rows (numbered_step (database catalog.now store.old.rows) asked.now).changes) }
     ensures points { store.new.points ≡ store.old.points }
     ensures clean { KeepsCleanLeaves store.old store.new }
 {
+    let NumberedRequest {
+        request,
+        number,
+        moment,
+    } = *asked;
     match executed_in_place(alloc, catalog, request, number, moment, store) {
         Ok(reply) => Ok(reply),
         Err(Fault::Refused(refusal)) => Ok(Reply::Refused {
@@ -202,19 +217,22 @@ fn executed_in_place_within(
 pub fn execute_in_place_within(
     alloc: Global,
     catalog: &Catalog,
-    request: &Request,
-    number: RequestNumber,
-    moment: Moment,
+    asked: &NumberedRequest<'_>,
     footprint: &Footprint,
     store: &mut PointedStore,
 ) -> Result<Reply, Stop>
-    ensures reply { IfOk result (λ reply. reply ≡ (step (database catalog.now store.old.rows) request.now number moment).reply) }
-    ensures rows { OnOk result (store.new.rows ≡ after store.old.rows (step (database catalog.now store.old.rows) request.now number moment).changes) }
-    ensures within { EndsInPlace (covers (loaned store.old.rows footprint.now) (touch (database catalog.now store.old.rows) request.now))
+    ensures reply { IfOk result (λ reply. reply ≡ (numbered_step (database catalog.now store.old.rows) asked.now).reply) }
+    ensures rows { OnOk result (store.new.rows ≡ after store.old.rows (numbered_step (database catalog.now store.old.rows) asked.now).changes) }
+    ensures within { EndsInPlace (covers (loaned store.old.rows footprint.now) (touch (database catalog.now store.old.rows) asked.now.request.now))
         store.old.rows store.new.rows result }
     ensures points { store.new.points ≡ store.old.points }
     ensures clean { KeepsCleanLeaves store.old store.new }
 {
+    let NumberedRequest {
+        request,
+        number,
+        moment,
+    } = *asked;
     match executed_in_place_within(alloc, catalog, request, number, moment, footprint, store) {
         Ok(reply) => Ok(reply),
         Err(Fault::Refused(refusal)) => Ok(Reply::Refused {

@@ -15,7 +15,7 @@ use tpcc_rows::footprint::Footprint;
 use tpcc_rows::id::RequestNumber;
 use tpcc_rows::memory::Memory;
 use tpcc_rows::number::Moment;
-use transactions::execute;
+use transactions::{NumberedRequest, execute};
 use worker_rows::Whole;
 
 /// The most bytes that batches may have.
@@ -70,8 +70,13 @@ impl Database {
         number: RequestNumber,
         moment: Moment,
     ) -> Option<(Reply, Delta)> {
+        let asked = NumberedRequest {
+            request,
+            number,
+            moment,
+        };
         let view = Whole { store: &self.store };
-        execute(alloc, &self.catalog, request, number, moment, &view).ok()
+        execute(alloc, &self.catalog, &asked, &view).ok()
     }
 
     /// The reply to the first request of a batch, as a record.

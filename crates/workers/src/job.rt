@@ -13,7 +13,7 @@ use tpcc_rows::delta::Delta;
 use tpcc_rows::footprint::Footprint;
 use tpcc_rows::id::RequestNumber;
 use tpcc_rows::number::Moment;
-use transactions::{Stop, execute};
+use transactions::{NumberedRequest, Stop, execute};
 use worker_rows::Loan;
 
 /// The request at `place` in a batch, with its number, its moment and the footprint that it declared.
@@ -64,16 +64,14 @@ pub(crate) fn execute_job<G: Gate>(
         (IsJobDone db.entry.catalog.now db.entry.store.now.rows job.now.moment (job_of job.now) job.now.place)
         (StraysWhere (job_strays (tpcc db.entry.catalog.now job.now.moment) db.entry.store.now.rows (job_of job.now))) }
 {
+    let asked = NumberedRequest {
+        request: job.request,
+        number: job.number,
+        moment: job.moment,
+    };
     let view = Loan::new(db.store, job.footprint);
     gate.enter(job.place);
-    let outcome = execute(
-        alloc,
-        db.catalog,
-        job.request,
-        job.number,
-        job.moment,
-        &view,
-    );
+    let outcome = execute(alloc, db.catalog, &asked, &view);
     gate.leave(job.place);
     let (reply, changes) = outcome?;
     Ok(Done {

@@ -13,7 +13,7 @@ pub execute_declared-requires-clause-declared : goal.execute_declared-requires-c
 execute_declared-requires-clause-declared g c κs lives =
     let cards = c.args.catalog.now in
     let state = state_of c.args.store.now.rows c.args.next.now.stamp in
-    c.in_ok-footprints.ensures.declared c.requires.sound.database ∙ ap (declared (database cards state.rows)) c.as_slice-requests.ensures
+    c.as_slice.ensures.value ∙ c.in_ok-footprints.ensures.declared c.requires.sound.database ∙ ap (declared (database cards state.rows)) c.as_slice-requests.ensures
 
 pub returns-in_err-replies-clause-err : goal.returns-in_err-replies-clause-err
 returns-in_err-replies-clause-err g c =
