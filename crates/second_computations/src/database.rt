@@ -56,18 +56,15 @@ impl Database {
         RequestNumber::new(self.next.saturating_add(place as u64))
     }
 
-    /// The request at a place of the next batch, with its number and moment.
-    pub fn asked<'a>(&self, batch: &'a Batch, place: usize) -> Option<NumberedRequest<'a>> {
-        Some(NumberedRequest {
-            request: batch.requests.as_slice().get(place)?,
-            number: self.number(place)?,
-            moment: batch.moment,
-        })
-    }
-
     /// What the request at a place does on all rows.
     pub fn step(&self, alloc: Global, batch: &Batch, place: usize) -> Option<(Reply, Delta)> {
-        let asked = self.asked(batch, place)?;
+        let request = batch.requests.as_slice().get(place)?;
+        let number = self.number(place)?;
+        let asked = NumberedRequest {
+            request,
+            number,
+            moment: batch.moment,
+        };
         let view = Whole { store: &self.store };
         execute(alloc, &self.catalog, &asked, &view).ok()
     }

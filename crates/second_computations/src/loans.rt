@@ -9,7 +9,7 @@ use tpcc_rows::footprint::Footprint;
 use tpcc_rows::granule::Granule;
 use tpcc_rows::row_buf::RowBuf;
 use tpcc_rows::row_ref::RowRef;
-use transactions::{Stop, execute};
+use transactions::{NumberedRequest, Stop, execute};
 use worker_rows::Loan;
 
 fn push_changes(delta: &Delta, bytes: &mut Vec<u8>) -> Option<()> {
@@ -53,7 +53,13 @@ fn on_loan(
         batch,
         ..
     } = scene;
-    let asked = database.asked(batch, 0)?;
+    let request = batch.requests.as_slice().first()?;
+    let number = database.number(0)?;
+    let asked = NumberedRequest {
+        request,
+        number,
+        moment: batch.moment,
+    };
     let loan = Loan::new(&database.store, footprint);
     Some(execute(alloc, &database.catalog, &asked, &loan))
 }
