@@ -278,6 +278,14 @@ impl PointedStore {
         self.tables.remove(key)
     }
 
+    /// Reads where the rank of a key is listed, so that listing it needn't wait for memory.
+    pub fn prefetch_list(&mut self, key: &RowKey)
+        ensures { self.new ≡ self.old }
+    {
+        let sum = read_list(self.leaves.ranks(leaf(key)));
+        self.prefetched = self.prefetched.wrapping_add(sum);
+    }
+
     /// Reads where the ranks of changed keys are listed, so that listing them needn't wait for memory.
     fn prefetch(&mut self, delta: &Delta)
         ensures { self.new ≡ self.old }

@@ -1,5 +1,6 @@
 -- What is executed in place.
 use Rattle.std.proofs.Common.{◌≡◌, ℕ, true, false, Result, Ok, Err, refl, sym, ap, subst, ◌∙◌}
+use Rattle.std.specs.FinMap.{empty}
 use Rattle.catalog.specs.CardMap.{Cards}
 use Rattle.requests.specs.Kinds.{kind_of}
 use Rattle.requests.specs.declared.reply.Reply.{Reply}
@@ -34,6 +35,14 @@ applied_answer Answers answer before now (Err fault.Memory) so h = tt
 -- a store to which nothing is written keeps its points
 pub keeps_itself : (store : Pointed) → KeepsPoints store store
 keeps_itself store = record { points = refl; clean = λ n clean. (clean, refl) }
+
+-- and so does one that is the same in the end
+pub keeps_same : {before now : Pointed} → now ≡ before → KeepsPoints before now
+keeps_same {before} same = subst (KeepsPoints before) (sym same) (keeps_itself before)
+
+-- it stands for its rows and no changes
+pub unchanged : {before now : Pointed} → now ≡ before → now.rows ≡ after before.rows empty
+unchanged {before} same = ap (λ (store : Pointed). store.rows) same ∙ sym (after-empty before.rows)
 
 module _ (view : View) (cards : Cards) (q : Request) (number moment : ℕ) where
   abbrev db : Database

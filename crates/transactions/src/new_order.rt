@@ -468,6 +468,33 @@ pub(crate) fn execute<V: RowView>(
     Ok((Reply::NewOrder(placed.reply), changes))
 }
 
+/// Reads where the ranks of the order and its lines are listed, side by side, so that writing its rows needn't wait for memory.
+fn prefetch_lists(placed: &PlacedOrder<'_>, store: &mut PointedStore)
+    requires { IsPlaced placed.now }
+    ensures { store.new ≡ store.old }
+{
+    let (p, order) = (placed.p, placed.reply.order);
+    let (warehouse, district) = (p.warehouse, p.district);
+    store.prefetch_list(&RowKey::Order {
+        warehouse,
+        district,
+        order,
+    });
+    store.prefetch_list(&RowKey::NewOrder {
+        warehouse,
+        district,
+        order,
+    });
+    for index in 0..placed.lines.len() {
+        store.prefetch_list(&RowKey::OrderLine {
+            warehouse,
+            district,
+            order,
+            number: line_number(index + 1),
+        });
+    }
+}
+
 /// The reply to a new order on all rows of a store, whose changes are made in their places.
 pub(crate) fn execute_in_place(
     alloc: Global,
@@ -481,6 +508,7 @@ pub(crate) fn execute_in_place(
     ensures kept { KeepsPoints store.old store.new }
 {
     let placed = placed_order(alloc, catalog, p, moment, &Whole { store: &*store })?;
+    prefetch_lists(&placed, store);
     write(&placed, store)?;
     Ok(Reply::NewOrder(placed.reply))
 }

@@ -381,6 +381,7 @@ pub(crate) fn execute_in_place(
     ensures kept { KeepsPoints store.old store.new }
 {
     let rows = payment(alloc, catalog, p, moment, &Whole { store: &*store })?;
+    store.prefetch_list(&RowKey::History { number });
     let reply = payment_reply(&rows);
     write(p, number, rows, store)?;
     Ok(Reply::Payment(reply))

@@ -1,4 +1,4 @@
-use Rattle.std.proofs.Common.{◌≡◌, ◌∙◌, List, Some, ap, length}
+use Rattle.std.proofs.Common.{◌∙◌, List, Some, ap, length}
 use Rattle.std.proofs.lemmas.List.{length-map}
 use Rattle.serializability.specs.Footprints.{Footprint}
 use Rattle.serializability.specs.InTurn.{strays_in_turn}

@@ -1,6 +1,5 @@
 use Rattle.std.proofs.Common.{◌≡◌, ◌∙◌, List, Option, ap, length, sym}
 use Rattle.serializability.specs.Footprints.{Footprint}
-use Rattle.serializability.specs.Levels.{jobs}
 use Rattle.requests.specs.declared.request.Request.{Request}
 use Rattle.tpcc_model.specs.Database.{database}
 use Rattle.tpcc_rows.specs.declared.granule.Granule.{Granule}

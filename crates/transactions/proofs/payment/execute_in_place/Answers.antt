@@ -1,13 +1,12 @@
-use Rattle.std.proofs.Common.{refl, sym}
+use Rattle.std.proofs.Common.{refl}
 use Rattle.tpcc_model.specs.Payments.{payment_changes}
-use Rattle.tpcc_rows.proofs.Changes.{after-empty}
 use Rattle.transactions.specs.PaymentParts.{paid_of}
-use Rattle.transactions.proofs.InPlace.{keeps_itself}
+use Rattle.transactions.proofs.InPlace.{keeps_same, unchanged}
 use Rattle.transactions.proofs.DecidedOutcomes.{paid_outcome}
 use Rattle.transactions.proofs.payment.execute_in_place.Goals as goal
 
 pub returns-in_err-write-clause-kept : goal.returns-in_err-write-clause-kept
-returns-in_err-write-clause-kept c = c.in_err-write.ensures.kept c.args.store.now (keeps_itself c.args.store.now)
+returns-in_err-write-clause-kept c = c.in_err-write.ensures.kept c.args.store.now (keeps_same c.prefetch_list.ensures)
 
 pub returns-clause-answer : goal.returns-clause-answer
 returns-clause-answer c =
@@ -15,8 +14,8 @@ returns-clause-answer c =
     let changes = payment_changes c.args.p.now c.args.number paid in (
       changes,
       (c.in_ok-rows.ensures.0, paid_outcome c.args.p.now c.args.number _ paid _ changes c.in_ok-rows.ensures.1 c.payment_reply-reply.ensures refl),
-      c.in_ok-write.ensures.made c.args.store.now.rows (sym (after-empty c.args.store.now.rows)),
+      c.in_ok-write.ensures.made c.args.store.now.rows (unchanged c.prefetch_list.ensures),
     )
 
 pub returns-clause-kept : goal.returns-clause-kept
-returns-clause-kept c = c.in_ok-write.ensures.kept c.args.store.now (keeps_itself c.args.store.now)
+returns-clause-kept c = c.in_ok-write.ensures.kept c.args.store.now (keeps_same c.prefetch_list.ensures)
