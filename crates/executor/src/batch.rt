@@ -111,7 +111,7 @@ impl Engine {
     }
 
     /// The token of a batch that met the state with this stamp, gave these replies and left the present rows. Hashes the dirty
-    /// leaves, on at most one thread per worker, after which none is dirty.
+    /// leaves, on at most one thread per worker, after which none is dirty, and the replies beside them.
     fn token_of<R: Threads + Sync, G: Gate>(
         &mut self,
         runtime: &Runtime<'_, R, G>,
@@ -129,13 +129,20 @@ impl Engine {
         let dirty = self.store.take_dirty();
         runtime.gate.refreshes(&dirty);
         let threads = runtime.workers.count();
-        self.tree.refresh(runtime.rt, &self.store, &dirty, threads);
+        let mut digest = || -> [u8; 32]
+            requires { stamp.now.next + length replies.now ≤ END_OF_NUMBERS }
+            ensures { result ≡ replies_digest stamp.entry.now.next replies.entry.now }
+        { reply_digest(stamp.next, replies) };
+        let (rt, store) = (runtime.rt, &self.store);
+        let replies = self
+            .tree
+            .refresh_beside(rt, store, &dirty, threads, &mut digest);
         let parts = TokenParts {
             sequence: stamp.sequence + 1,
             prior: stamp.token,
             catalog: self.digest,
             root: self.tree.root(),
-            replies: reply_digest(stamp.next, replies),
+            replies,
         };
         parts.token()
     }

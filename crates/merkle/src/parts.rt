@@ -59,20 +59,23 @@ pub(crate) struct Sharing<'a, R> {
     pub(crate) ghost whole: { AreWhole size },
 }
 
-/// The same for two parts, the first on a new thread, if one can be started.
+/// The same for two parts, the first on a new thread, if one can be started, and `beside` on the calling one.
 #[cycle(parts)]
-fn do_parts<R: Threads + Sync>(
+fn do_parts<R: Threads + Sync, F: FnMut() -> T, T>(
     sharing: &Sharing<'_, R>,
     change: &Change<'_, '_>,
     first: usize,
     front: &mut [[u8; 32]],
     back: &mut [[u8; 32]],
-)
+    beside: &mut F,
+) -> T
     requires small { 2 * first + length front.old + length back.old ≤ 2 * LEAVES }
     requires front { AreBranches front.old }
     requires back { AreBranches back.old }
+    requires beside { F.pre beside.old }
     ensures front { AreRefreshed change.now.dirty.now change.now.leaves.store.now.rows first front.old front.new }
     ensures back { AreRefreshed change.now.dirty.now change.now.leaves.store.now.rows (first + length front.old / 2) back.old back.new }
+    ensures beside { F.post beside.old result }
 {
     let next = first + front.len() / 2;
     let alloc = sharing.alloc;
@@ -80,31 +83,37 @@ fn do_parts<R: Threads + Sync>(
         requires { (2 * first + length front.now ≤ 2 * LEAVES) × AreBranches front.now }
         ensures { AreRefreshed change.entry.now.dirty.now change.entry.now.leaves.store.now.rows first front.entry.now front.exit.now }
     { refresh_alone(front, first, change, alloc) };
-    let mut there = ||
-        requires { IsSync R.row × (2 * next + length back.now ≤ 2 * LEAVES) × AreBranches back.now }
-        ensures { AreRefreshed change.entry.now.dirty.now change.entry.now.leaves.store.now.rows next back.entry.now back.exit.now }
-    { refresh_by::<R>(sharing, change, next, back) };
-    join_mut(sharing.rt, &mut here, &mut there);
+    let mut there = || -> T
+        requires { IsSync R.row × (2 * next + length back.now ≤ 2 * LEAVES) × AreBranches back.now × F.pre beside.now }
+        ensures { AreRefreshed change.entry.now.dirty.now change.entry.now.leaves.store.now.rows next back.entry.now back.exit.now
+            × F.post beside.entry.now result }
+    { refresh_by::<R, F, T>(sharing, change, next, back, beside) };
+    let (_, result) = join_mut(sharing.rt, &mut here, &mut there);
+    result
 }
 
-/// The same, shared out. The calling thread starts all others, since threads that start each other often share a processor.
+/// The same, shared out. The calling thread starts all others, since threads that start each other often share a processor. When its own
+/// part is done, and before it waits for the others, it calls `beside`, whose result is returned.
 #[cycle(parts)]
-pub(crate) fn refresh_by<R: Threads + Sync>(
+pub(crate) fn refresh_by<R: Threads + Sync, F: FnMut() -> T, T>(
     sharing: &Sharing<'_, R>,
     change: &Change<'_, '_>,
     first: usize,
     nodes: &mut [[u8; 32]],
-)
+    beside: &mut F,
+) -> T
     requires small { 2 * first + length nodes.old ≤ 2 * LEAVES }
     requires branches { AreBranches nodes.old }
-    ensures { AreRefreshed change.now.dirty.now change.now.leaves.store.now.rows first nodes.old nodes.new }
+    requires beside { F.pre beside.old }
+    ensures nodes { AreRefreshed change.now.dirty.now change.now.leaves.store.now.rows first nodes.old nodes.new }
+    ensures beside { F.post beside.old result }
 {
     if nodes.len() <= sharing.size {
         refresh_alone(nodes, first, change, sharing.alloc);
-        return;
+        return beside();
     }
     let (front, back) = nodes.split_at_mut(sharing.size);
-    do_parts::<R>(sharing, change, first, front, back);
+    do_parts::<R, F, T>(sharing, change, first, front, back, beside)
 }
 
 /// The same for a whole tree, on threads of `rayon`.

@@ -58,26 +58,29 @@ fn places_a_thread(change: &Change<'_, '_>, threads: usize) -> Option<usize>
     Some(BRANCHES.div_ceil(count) * BRANCH_NODES)
 }
 
-/// Rehashes the dirty leaves, and the nodes above them up to the branches' roots: on at most `threads` new threads if they pay, else
-/// with helpers.
-fn refresh_nodes<R: Threads + Sync>(
+/// Rehashes the dirty leaves, and the nodes above them up to the branches' roots: on at most `threads` threads, new ones if they pay, else
+/// with helpers. Calls `beside`, before it waits for new threads, and returns its result.
+fn refresh_nodes<R: Threads + Sync, F: FnMut() -> T, T>(
     rt: &R,
     alloc: Global,
     change: &Change<'_, '_>,
     threads: usize,
     nodes: &mut [[u8; 32]],
     helped: &mut Helped,
-)
+    beside: &mut F,
+) -> T
     requires full { length nodes.old ≡ 2 * LEAVES }
     requires branches { AreBranches nodes.old }
-    ensures { AreRefreshed change.now.dirty.now change.now.leaves.store.now.rows 0 nodes.old nodes.new }
+    requires beside { F.pre beside.old }
+    ensures nodes { AreRefreshed change.now.dirty.now change.now.leaves.store.now.rows 0 nodes.old nodes.new }
+    ensures beside { F.post beside.old result }
 {
     if let Some(size) = places_a_thread(change, threads) {
-        refresh_by(&Sharing { rt, alloc, size }, change, 0, nodes);
-        return;
+        return refresh_by(&Sharing { rt, alloc, size }, change, 0, nodes, beside);
     }
     helped.use_threads(threads);
     refresh_part(nodes, 0, change, helped);
+    beside()
 }
 
 /// The hashes of all nodes: in branches, and the root. Contracts see those of the leaves.
@@ -164,18 +167,37 @@ impl Tree {
         ensures leaves { (n : ℕ) → n < LEAVES → at self.new n ≡ rehashed dirty.now store.now.rows (at self.old n) n }
         ensures rows { IsOfClean self.old dirty.now store.now.rows → IsOf self.new store.now.rows }
     {
+        self.refresh_beside(rt, store, dirty, threads, &mut || {});
+    }
+
+    /// The same, and the result of `beside`, which the calling thread computes before it waits for the others.
+    pub fn refresh_beside<R: Threads + Sync, F: FnMut() -> T, T>(
+        &mut self,
+        rt: &R,
+        store: &PointedStore,
+        dirty: &Dirty,
+        threads: usize,
+        beside: &mut F,
+    ) -> T
+        requires beside { F.pre beside.old }
+        ensures leaves { (n : ℕ) → n < LEAVES → at self.new n ≡ rehashed dirty.now store.now.rows (at self.old n) n }
+        ensures rows { IsOfClean self.old dirty.now store.now.rows → IsOf self.new store.now.rows }
+        ensures beside { F.post beside.old result }
+    {
         let leaves = Leaves {
             store,
             second_blocks: &self.second_blocks,
         };
-        refresh_nodes(
+        let result = refresh_nodes(
             rt,
             self.alloc,
             &Change { leaves, dirty },
             threads.min(self.processors),
             &mut self.nodes,
             &mut self.helped,
+            beside,
         );
         self.root = root_over(&self.nodes, &self.second_blocks);
+        result
     }
 }

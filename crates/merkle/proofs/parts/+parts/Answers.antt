@@ -4,8 +4,8 @@ use Rattle.merkle.specs.declared.marks.TheConstants.{BRANCH_NODES}
 use Rattle.merkle.proofs.Refreshing.{both-refreshed}
 use Rattle.merkle.proofs.parts.+parts.Goals as goal
 
-pub refresh_by-returns : goal.refresh_by-returns
-refresh_by-returns g t c =
+pub refresh_by-returns-clause-nodes : goal.refresh_by-returns-clause-nodes
+refresh_by-returns-clause-nodes g t c =
     let dirty = c.args.change.now.dirty.now in
     let rows = c.args.change.now.leaves.store.now.rows in
     let a = c.split_at_mut-front.result.0.now in
