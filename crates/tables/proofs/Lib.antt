@@ -3,3 +3,4 @@ pub mod Tables
 pub mod Shelved
 pub mod Grouped
 pub mod Parted
+pub mod Linked
