@@ -4,3 +4,5 @@ pub mod Shelved
 pub mod Grouped
 pub mod Parted
 pub mod Linked
+pub mod Each
+pub mod Districts

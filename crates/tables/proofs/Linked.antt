@@ -1,5 +1,5 @@
 -- Orders of a district, one more or one fewer, with the last of each customer and the one before each.
-use Rattle.std.proofs.Common.{◌≡◌, ◌≢◌, ◌≤◌, ◌<◌, ◌+◌, ◌==◌, ℕ, zero, suc, Bool, true, false, cond, List, [], ◌∷◌, ◌++◌, length, get_or, set, take, map as each, replicate, Option, Some, None, inl, inr, refl, sym, ap, subst, ◌∙◌, arith, length-append, append-nil, append_assoc}
+use Rattle.std.proofs.Common.{◌≡◌, ◌≤◌, ◌<◌, ◌+◌, ◌==◌, ℕ, zero, suc, Bool, true, false, cond, List, [], ◌∷◌, ◌++◌, length, get_or, set, take, replicate, Option, Some, None, inl, inr, refl, sym, ap, subst, ◌∙◌, arith, length-append, append-nil, append_assoc}
 use Rattle.std.proofs.Math.Seq.{take-append_seam, get_or-append_seam}
 use Rattle.std.proofs.lemmas.Bool.{cases_Bool, eqb-true, eqb-false}
 use Rattle.std.proofs.lemmas.List.{get_or-set_same, get_or-set_other, length-set, length-map, map-append, take_all, take_more, take_more_set}
@@ -73,7 +73,7 @@ linked-push kept new os o xs h same enough small last previous =
     record {
       last = λ c below. ap (λ ys. get_or ys c 0) last ∙ last-linked os o xs (omega (arith, enough, small)) c (same c ∙ h.last c below);
       previous =
-        previous ∙ ap (λ ys. ys ++ get_or xs o.1 0 ∷ []) h.previous ∙ ap (λ n. numbers_before [] os ++ n ∷ []) (same o.1 ∙ h.last o.1 small) ∙ sym (numbers_before-more [] os o);
+          previous ∙ ap (λ ys. ys ++ get_or xs o.1 0 ∷ []) h.previous ∙ ap (λ n. numbers_before [] os ++ n ∷ []) (same o.1 ∙ h.last o.1 small) ∙ sym (numbers_before-more [] os o);
       places = record { orders = omega (arith, count, more); customers = λ _. omega (arith, wide, enough) };
     }
 
@@ -81,8 +81,7 @@ linked-push kept new os o xs h same enough small last previous =
 snoc-parts : (xs ys : List ℕ) (x y : ℕ) → xs ++ x ∷ [] ≡ ys ++ y ∷ [] → (xs ≡ ys) × (x ≡ y)
 snoc-parts xs ys x y e =
     let l : length xs + 1 ≡ length ys + 1 = sym (length-append xs (x ∷ [])) ∙ ap length e ∙ length-append ys (y ∷ []) in
-    let n : length xs ≡ length ys = omega (arith, l) in
-    (
+    let n : length xs ≡ length ys = omega (arith, l) in (
       sym (take-append_seam xs (x ∷ [])) ∙ ap (take (length xs)) e ∙ ap (λ k. take k (ys ++ y ∷ [])) n ∙ take-append_seam ys (y ∷ []),
       sym (get_or-append_seam xs x [] 0) ∙ ap (λ zs. get_or zs (length xs) 0) e ∙ ap (λ k. get_or (ys ++ y ∷ []) k 0) n ∙ get_or-append_seam ys y [] 0,
     )

@@ -44,6 +44,14 @@ pub record AreLinked (kept : LastOrders) (os : List (ℕ × ℕ)) : Type 0 where
 abbrev pub kept_for : LastOrders → ℕ → Option ℕ
 kept_for kept c = between 1 9999999 (slice_index kept.last.items c)
 
+-- the orders of the rank's district
+abbrev pub orders_of : ByRank OrderRow → ℕ → List (ℕ × OrderRow)
+orders_of orders rank = map.entries (rows_at place_of orders (place_of rank))
+
+-- they are kept of the orders of the rank's district
+abbrev pub AreLinkedAt : ByRank OrderRow → ℕ → LastOrders → Type 0
+AreLinkedAt orders rank kept = AreLinked kept (owners (orders_of orders rank))
+
 -- they are kept for each district
 pub record AreLastOrders (orders : ByRank OrderRow) (kept : List LastOrders) : Type 0 where
   pub full : length kept ≡ PLACES

@@ -1,5 +1,5 @@
-use Rattle.std.proofs.Common.{ap, set, ◌∙◌, arith, sym}
-use Rattle.tables.proofs.Linked.{linked-pop, linked-places, none-popped}
+use Rattle.std.proofs.Common.{ap, set, ◌∙◌, arith}
+use Rattle.tables.proofs.Linked.{linked-pop}
 use Rattle.tables.proofs.last_orders.LastOrders.pop.Goals as goal
 
 pub returns-then-place-len : goal.returns-then-place-len

@@ -10,10 +10,10 @@ returns-clause-ok c = λ os h.
     let place = c.from.ensures ∙ c.number.ensures.value in
     linked-push c.args.self.now _ os (c.args.rank, c.args.customer) c.make_places.new.last.items h c.in_ok-make_places.ensures.same enough small c.link.ensures.after
     (
-      c.in_ok-push.ensures.items
-      ∙ ap (λ n. c.args.self.now.previous.items ++ n ∷ [])
-      (
-        c.index-before.ensures
-        ∙ ap (λ k. get_or c.make_places.new.last.items k c.index-before.result.now) place
-        ∙ get_or_default c.make_places.new.last.items c.args.customer c.index-before.result.now 0 (omega (arith, enough, small))
-      ))
+    c.in_ok-push.ensures.items
+    ∙ ap (λ n. c.args.self.now.previous.items ++ n ∷ [])
+    (
+    c.index-before.ensures
+    ∙ ap (λ k. get_or c.make_places.new.last.items k c.index-before.result.now) place
+    ∙ get_or_default c.make_places.new.last.items c.args.customer c.index-before.result.now 0 (omega (arith, enough, small))
+    ))
