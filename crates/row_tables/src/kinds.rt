@@ -2,7 +2,7 @@
 ghost use Rattle.std.specs.Prelude.{ℕ, ◌≡◌, ◌/◌, ◌%◌, ◌*◌, ◌<◌, IfOk, None, OnErr, OnOk, cond, is_some, option_copied, option_map, slice_get, unwrap_or};
 ghost use Rattle.std.specs.FinMap as map;
 ghost use Rattle.row_tables.specs.Kinds.{table_of, table_of_row};
-ghost use Rattle.row_tables.specs.LastOrders.{as_orders, order_rows};
+ghost use Rattle.row_tables.specs.LastOrders.{AreLastOf, order_rows};
 ghost use Rattle.row_tables.specs.Parts.{ranks_in};
 ghost use Rattle.row_tables.specs.NewRows.{as_rows, new_rows};
 ghost use Rattle.tables.specs.Shelves.{place_of};
@@ -13,6 +13,8 @@ ghost use Rattle.tpcc_rows.specs.declared.row.Row.TheVariants.{Customer, Distric
 use std::alloc::Global;
 use std::marker::Model;
 use tables::keys::PLACES;
+use tables::last_orders::LastOrders;
+use tables::order_shelf::OrderShelf;
 use tables::shelf::Shelf;
 use tables::starts::{HistoryStarts, LineStarts};
 use tables::table::Table;
@@ -30,7 +32,7 @@ pub struct KindTables {
     warehouses: Shelf<WarehouseRow>,
     customers: Shelf<CustomerRow>,
     stocks: Shelf<StockRow>,
-    orders: Shelf<OrderRow>,
+    orders: OrderShelf,
     new_orders: Shelf<()>,
     lines: Shelf<OrderLineRow>,
     history: Table<HistoryRow>,
@@ -79,7 +81,7 @@ impl KindTables {
         let warehouses = Shelf::new(alloc)?;
         let customers = Shelf::new(alloc)?;
         let stocks = Shelf::new(alloc)?;
-        let orders = Shelf::new(alloc)?;
+        let orders = OrderShelf::new(alloc)?;
         let new_orders = Shelf::new(alloc)?;
         let lines = Shelf::new(alloc)?;
         let history = Table::new(alloc);
@@ -341,11 +343,11 @@ impl KindTables {
         self.new_orders.slice_at(rank)
     }
 
-    /// The orders of the rank's district with their ranks, in ascending order.
-    pub fn orders_at(&self, rank: u64) -> &[(u64, OrderRow)]
-        ensures { as_orders result.now ≡ map.entries (order_rows self.now (place_of rank)) }
+    /// The last order of each customer of the rank's district.
+    pub fn last_orders_at(&self, rank: u64) -> &LastOrders
+        ensures { AreLastOf (map.entries (order_rows self.now (place_of rank))) result.now }
     {
-        self.orders.slice_at(rank)
+        self.orders.last_at(rank)
     }
 
     /// Inserts or replaces the rank's row, and returns the old one.

@@ -3,7 +3,7 @@ ghost use Rattle.std.specs.Prelude.{◌≡◌, ◌+◌, ◌-◌, ◌<◌, ◌^�
 ghost use Rattle.std.specs.FinMap as map;
 ghost use Rattle.std.specs.List.{filter};
 ghost use Rattle.serializability.specs.Changes.{changed};
-ghost use Rattle.row_tables.specs.LastOrders.{last_of};
+ghost use Rattle.row_tables.specs.LastOrders.{AreLatest};
 ghost use Rattle.row_tables.specs.OrderLines.{AreOrderLines};
 ghost use Rattle.row_tables.specs.Parts.{AreInParts, is_of_table, lent, part_rows, rows_between};
 ghost use Rattle.row_tables.specs.Walks.{left};
@@ -22,6 +22,7 @@ use std::alloc::Global;
 use std::marker::Model;
 use std::mem;
 use tables::keys::{PLACES, key_at, order_of};
+use tables::last_orders::LastOrders;
 use tpcc_rows::id::{CustomerId, DistrictId, ItemId, OrderId, WarehouseId};
 use tpcc_rows::key::RowKey;
 use tpcc_rows::memory::Memory;
@@ -82,19 +83,6 @@ fn number_at(orders: &[(u64, ())], n: usize) -> Option<OrderId>
 {
     let (rank, _) = orders.get(n)?;
     order_of(*rank)
-}
-
-/// The number of the customer's last order among these.
-fn last_of(orders: &[(u64, OrderRow)], customer: CustomerId) -> Option<OrderId>
-    ensures { result ≡ option_and_then (λ e. order_of e.0) (last_of customer orders.now) }
-{
-    for passed in 0..orders.len() {
-        let (rank, row) = &orders[orders.len() - 1 - passed];
-        if row.customer.number() == customer.number() {
-            return order_of(*rank);
-        }
-    }
-    None
 }
 
 impl RowTables {
@@ -284,7 +272,15 @@ impl RowTables {
         self.nth_new_order(warehouse, district, 0)
     }
 
-    /// The greatest number of the customer's orders: a search from the district's last order down.
+    /// The last order of each of the district's customers, which is kept with the rows.
+    pub fn last_orders(&self, warehouse: WarehouseId, district: DistrictId) -> &LastOrders
+        ensures { AreLatest self.now warehouse district result.now }
+    {
+        self.tables
+            .last_orders_at(district_ytd_rank(warehouse, district))
+    }
+
+    /// The greatest number of the customer's orders.
     pub fn last_order(
         &self,
         warehouse: WarehouseId,
@@ -293,10 +289,7 @@ impl RowTables {
     ) -> Option<OrderId>
         ensures { result ≡ latest self.now warehouse district customer }
     {
-        let orders = self
-            .tables
-            .orders_at(district_ytd_rank(warehouse, district));
-        last_of(orders, customer)
+        self.last_orders(warehouse, district).of(customer)
     }
 
     /// Inserts or replaces the key's row, and returns the old one. Only an insertion can be refused memory.
