@@ -1,10 +1,10 @@
 -- The maps of all kinds as one, and what a change of one of them does to it.
-use Rattle.std.proofs.Common.{◌≡◌, ◌<◌, ℕ, zero, suc, Bool, true, false, cond, eqb, ◌&&◌, T, map as each, List, [], ◌∷◌, length, get_or, set, Option, Some, None, is_some, unwrap_or, Result, refl, sym, ap, subst, ◌∙◌}
+use Rattle.std.proofs.Common.{◌≡◌, ◌<◌, ℕ, zero, suc, Bool, true, false, cond, eqb, T, map as each, List, ◌∷◌, length, get_or, set, Option, Some, None, is_some, unwrap_or, Result, refl, sym, ap, subst, ◌∙◌}
 use Rattle.std.specs.Prelude.{⊤, option_map}
 use Rattle.std.specs.FinMap as map
-use Rattle.std.specs.FinMap.{entries, entries_sorted, find, get, get-empty, get-entries, get-from_entries, insert, is_sorted, same_map}
-use Rattle.std.specs.FinMap.Entries.{below_all, same_entries}
-use Rattle.std.specs.Ordering.{eq_by_cmp, is_lt, nat_cmp}
+use Rattle.std.specs.FinMap.{entries, entries_sorted, get, get-empty, get-entries, get-from_entries, insert, same_map}
+use Rattle.std.specs.FinMap.Entries.{same_entries}
+use Rattle.std.specs.Ordering.{eq_by_cmp, nat_cmp}
 use Rattle.std.specs.Result.{OnOk, OnErr}
 use Rattle.std.proofs.lemmas.List.{get_or_default}
 use Rattle.std.proofs.lemmas.Result.{on_ok_weaker, on_err_weaker}

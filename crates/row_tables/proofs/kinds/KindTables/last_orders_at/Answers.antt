@@ -11,7 +11,7 @@ pub returns : goal.returns
 returns c = record {
   orders = orders_of c.self.inside.orders c.args.rank;
   same =
-    entries-at (λ r. row.Order r) _ c.self.invariant 3 (omega arith) c.self.inside.orders refl place_of (place_of c.args.rank)
-    ∙ ap (λ m. map.entries (order_rows m (place_of c.args.rank))) c.self.view_is;
+      entries-at (λ r. row.Order r) _ c.self.invariant 3 (omega arith) c.self.inside.orders refl place_of (place_of c.args.rank)
+      ∙ ap (λ m. map.entries (order_rows m (place_of c.args.rank))) c.self.view_is;
   linked = c.last_at.ensures;
 }
