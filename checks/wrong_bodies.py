@@ -10,9 +10,9 @@ goal of its own that isn't proved: not just a call of a function that isn't prov
 each group one more function gets a statement that does nothing; it must be proved, so that a check that fails for another reason counts for
 nothing. An edit that can't be applied, or doesn't compile, fails.
 
-The libraries below a crate are those in crates/NAME/out/rlib: `rt check` makes them, in the crate or in one above it, and so does the gate.
-Where one is missing the crate isn't tried. One that is older than its source isn't seen, so run `rt check` first. Prints what each edit came
-to, and 'N passed, M failed'. Ends with status 1 if an edit isn't refused."""
+Run `rt check` in the crate first. It makes the libraries below, in crates/NAME/out/rlib, without which the crate isn't tried (the gate leaves
+them there, too), and keeps what it proved, with which the checks here begin. A library older than its source would go unseen. Prints what
+each edit came to, and 'N passed, M failed'. Ends with status 1 if an edit isn't refused."""
 import collections
 import itertools
 import os
@@ -105,6 +105,25 @@ def below(crate):
     return found
 
 
+def link_or_copy(one, other):
+    """Gives what was proved another name, since the prover replaces such a file, and changes none; copies other files."""
+    try:
+        if one.endswith('.oantt'):
+            return os.link(one, other)
+    except OSError:
+        pass
+    return shutil.copy2(one, other)
+
+
+def kept_words(crate, room):
+    """The words by which the prover begins with what `rt check` of the crate kept, of which it gets a copy."""
+    kept = f'{TOP}/crates/{crate}/out/incremental'
+    if not os.path.isdir(kept):
+        return []
+    shutil.copytree(kept, f'{room}/kept', copy_function=link_or_copy)
+    return ['--incremental', f'{room}/kept']
+
+
 def library(name):
     return f'{TOP}/crates/{name}/out/rlib/{name}.rlib'
 
@@ -132,7 +151,7 @@ def checked(crate, texts, paths):
             with open(os.path.join(room, file), 'w', encoding='utf-8') as out:
                 out.write(text)
         how = {'stdin': subprocess.DEVNULL, 'stdout': subprocess.PIPE, 'stderr': subprocess.STDOUT, 'errors': 'replace'}
-        ran = subprocess.run(words, cwd=room, check=False, **how)
+        ran = subprocess.run([*words, *kept_words(crate, room)], cwd=room, check=False, **how)
     return ran.returncode, ran.stdout.rstrip('\n').split('\n')
 
 
