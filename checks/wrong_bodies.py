@@ -65,12 +65,13 @@ def grouped(edits, texts, bodies):
 
 def callers_of(paths, bodies):
     """These functions, and those that reach one of them by calls."""
-    found = set(paths)
-    while True:
-        more = {path for path in bodies if path not in found and any(calls(bodies[path], it) for it in found)}
-        if not more:
-            return found
-        found |= more
+    found, left = set(paths), list(paths)
+    while left:
+        called = left.pop()
+        more = [path for path in bodies if path not in found and calls(bodies[path], called)]
+        found.update(more)
+        left += more
+    return found
 
 
 def harmless_place(group, bodies):
@@ -169,14 +170,14 @@ def said_of(crate, path, lines):
 
 
 def outcome(crate, edit, lines):
-    """Whether an edit is refused, and what is said of it."""
+    """Whether an edit is refused, and what is said of it; None for the former if a call of a function that isn't proved hides its goals."""
     told = []
     for path in edit.functions:
         status, goals = said_of(crate, path, lines)
         if not status.startswith(('not proved', 'no proof')):
             return False, f'NOT REFUSED: {path}: {status}'
         if not goals:
-            return False, f'REFUSED BY NO GOAL OF ITS OWN: {path}: {status}'
+            return None if 'it calls' in status else False, f'REFUSED BY NO GOAL OF ITS OWN: {path}: {status}'
         told.append(f'{path}: {", ".join(dict.fromkeys(goals))}')
     return True, f'refused: {"; ".join(told)}'
 
@@ -189,20 +190,20 @@ def fault_of_whole(crate, harmless, status, lines):
     return None if accepted == 'proved' else f'NOT TRIED: {harmless}, with a statement that does nothing: {accepted}'
 
 
-def outcomes(crate, group, texts, bodies):
-    """For each edit of a group its label, whether it is refused, and what is said. If the whole says nothing, each is tried alone."""
+def outcomes(crate, group, bodies):
+    """For each edit of a group whether it is refused, and what is said. If the whole says nothing, each is tried alone."""
     harmless = harmless_place(group, bodies)
     if not harmless:
-        return [(edit.label, False, 'NOT TRIED: no function of the crate is left for a harmless edit') for edit in group.edits]
+        return [(False, 'NOT TRIED: no function of the crate is left for a harmless edit') for _ in group.edits]
     paths = [harmless, *[path for edit in group.edits for path in edit.functions]]
     status, lines = checked(crate, with_harmless(group.texts, harmless), paths)
     fault = fault_of_whole(crate, harmless, status, lines)
     if not fault:
-        return [(edit.label, *outcome(crate, edit, lines)) for edit in group.edits]
+        return [outcome(crate, edit, lines) for edit in group.edits]
     if len(group.edits) == 1:
-        return [(group.edits[0].label, False, fault)]
+        return [(False, fault)]
     print(f'{crate}: {fault}. Each of these {len(group.edits)} is tried alone.', flush=True)
-    return [it for edit in group.edits for it in outcomes(crate, Group([edit], applied(edit.pieces, texts)), texts, bodies)]
+    return [outcomes(crate, Group([edit], applied(edit.pieces, texts_of(crate))), bodies)[0] for edit in group.edits]
 
 
 def seconds():
@@ -210,10 +211,26 @@ def seconds():
     return resource.getrusage(resource.RUSAGE_CHILDREN).ru_utime
 
 
+def try_edits(crate, edits, texts):
+    """Tries edits in groups, once more those whose goals another one of their group hid. Yields each, whether it is refused, and what is said."""
+    bodies, hidden = bodies_of(texts), []
+    for group in grouped(edits, texts, bodies):
+        before = seconds()
+        for edit, (is_refused, said) in zip(group.edits, outcomes(crate, group, bodies)):
+            if is_refused is None and len(group.edits) > 1:
+                hidden.append((edit, said))
+            else:
+                yield edit.label, is_refused, said
+        print(f'{crate}: {len(group.edits)} in one check, {seconds() - before:.0f} seconds of processor', flush=True)
+    if len(hidden) < len(edits):
+        yield from try_edits(crate, [edit for edit, _ in hidden], texts)
+    else:
+        yield from [(edit.label, False, said) for edit, said in hidden]
+
+
 def try_crate(crate):
     """Tries a crate's edits. Yields the label of each, whether it is refused, and what is said."""
-    texts, edits = texts_of(crate), []
-    bodies, missing = bodies_of(texts), [name for name in below(crate) if not os.path.isdir(library(name))]
+    texts, edits, missing = texts_of(crate), [], [name for name in below(crate) if not os.path.isdir(library(name))]
     for path in paths_of(crate):
         try:
             edits.append(read_edit(path, texts))
@@ -221,11 +238,8 @@ def try_crate(crate):
             yield os.path.relpath(path, TOP), False, f'BAD EDIT: {bad}'
     if missing:
         yield crate, False, f'NOT TRIED: run `rt check` in crates/{crate} first; no library of {", ".join(missing)}'
-        return
-    for group in grouped(edits, texts, bodies):
-        before = seconds()
-        yield from outcomes(crate, group, texts, bodies)
-        print(f'{crate}: {len(group.edits)} in one check, {seconds() - before:.0f} seconds of processor', flush=True)
+    else:
+        yield from try_edits(crate, edits, texts)
 
 
 def main(crates):
@@ -233,7 +247,7 @@ def main(crates):
     for crate in crates or crates_with_edits():
         for label, is_refused, said in try_crate(crate):
             print(f'{label}: {said}', flush=True)
-            passed, failed = passed + is_refused, failed + (not is_refused)
+            passed, failed = passed + bool(is_refused), failed + (not is_refused)
     print(f'{passed} passed, {failed} failed')
     return 1 if failed else 0
 
