@@ -21,17 +21,20 @@ class Case:
 
 
 def cases_of(path):
-    """The cases of a file."""
+    """The cases of a file. An empty line before an indented one belongs to the lines of the step."""
     with open(path, encoding='utf-8') as file:
         lines = file.read().split('\n')
-    cases = []
+    cases, empty = [], 0
     for number, line in enumerate(lines, 1):
-        if line.startswith('# '):
+        if line.startswith('# ') and cases and not cases[-1].steps:
+            cases[-1].title += line[1:]
+        elif line.startswith('# '):
             cases.append(Case(line[2:], path, number))
         elif line.startswith('  '):
-            cases[-1].steps[-1].content.append(line[2:])
-        elif line.strip():
+            cases[-1].steps[-1].content += empty * [''] + [line[2:]]
+        elif line:
             cases[-1].steps.append(Step(line, number))
+        empty = 0 if line else empty + 1
     return cases
 
 
@@ -180,10 +183,6 @@ def respelt(text, seed):
 MODIFIERS = {'turned': turned, 'in version 1': in_version_1, 'in version 2': in_version_2, 'respelt': lambda text: respelt(text, 0)}
 
 
-def read_files(folder, names):
-    """The texts of files, one behind the other."""
-    texts = []
-    for name in names:
-        with open(os.path.join(folder, name), 'rb') as file:
-            texts.append(file.read())
-    return b''.join(texts)
+def read_file(path):
+    with open(path, 'rb') as file:
+        return file.read()

@@ -5,7 +5,7 @@ from case_files import decoded
 
 
 def words_of(line):
-    return [decoded(word) for word in line.split(' ')]
+    return [] if line == '(no word)' else [decoded(word) for word in line.split(' ')]
 
 
 def numbers_of(words):
@@ -25,7 +25,7 @@ def want_words(trial, step, words):
     trial.lay_out()
     for what, run in trial.inputs:
         for limit in trial.limits:
-            ended = (run or trial.room.run)(words_of(words), **trial.options(limit))
+            ended = (run or trial.room.run)(words_of(words.replace('{}', str(limit))), **trial.options(limit))
             trial.compare(step, trial.limited(wanted, limit), ended, f'{what}{"" if limit is None else f" behind {limit} bytes"}')
     if step.content:
         trial.forget()
@@ -115,14 +115,24 @@ def lengths_of(trial, turns):
     return pairs
 
 
+def answered_by(count, lengths):
+    """How much is written at least when so many bytes of the commands were read."""
+    taken = answered = 0
+    for command, length in lengths:
+        taken += len(command)
+        answered = length if taken <= count else answered
+    return answered
+
+
 def want_failing_session(trial, step, counts):
     """A session whose reads fail behind so many bytes of its commands: a beginning of its answers, and the fault."""
     turns = turns_of(trial, step.content)
     commands, wanted = b''.join(command for command, _ in turns), trial.wanted([line for _, answers in turns for line in answers])
+    lengths = lengths_of(trial, turns)
     trial.lay_out()
     for count in numbers_of(counts):
         ended = trial.room.run_failing(['serve', 'image.csv'], commands[:count])
-        answered = max(length for length, (end, _) in zip(lengths, ends) if end <= count)
+        answered = answered_by(count, lengths)
         kept = wanted.output[:max(len(ended.output), answered)]
         trial.compare(step, Wanted(kept, wanted.errors, 1), ended, f' {count}')
 

@@ -13,12 +13,13 @@ import traceback
 import case_files
 import case_runs
 import case_steps
+import case_tables
 import case_words
 import spoilt
 
 CASES = os.path.join(os.path.dirname(os.path.abspath(__file__)), 'cases')
 SPOILT = os.path.join(CASES, 'spoilt')
-STEPS = case_steps.STEPS + case_words.STEPS
+STEPS = case_steps.STEPS + case_tables.STEPS + case_words.STEPS
 # Spoilt texts that are tried one behind the other.
 TRIES = 50
 
@@ -46,12 +47,12 @@ def told_by(program, case, follow):
 def try_spoilt(tries):
     def follow(trial):
         for title, is_image, text, wanted in tries:
-            trial.try_spoilt(title, is_image, text, wanted)
+            case_tables.try_spoilt(trial, title, is_image, text, wanted)
     return follow
 
 
 def spoilt_cases():
-    image = case_files.read_files(os.path.join(CASES, 'databases'), ['all_kinds.csv'])
+    image = case_files.read_file(os.path.join(CASES, 'databases', 'all_kinds.csv'))
     tries = [*spoilt.tries(image)]
     for at in range(0, len(tries), TRIES):
         yield case_files.Case('spoilt at random', SPOILT, at), try_spoilt(tries[at:at + TRIES])
