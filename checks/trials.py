@@ -3,8 +3,8 @@ import worked
 from against import Expected, call, check_fault, difference, faults_of, run_fault, serve_fault
 from plain import drawn
 from plain.database import image_of, write_image
-from plain.hashes import leaf
-from plain.levels import cut, declared
+from plain.hashes import bit, leaf
+from plain.levels import cut, declared, itself
 from plain.made import records
 from plain.replica import batch_text, read_batches
 
@@ -36,13 +36,23 @@ def worked_case(program, case):
 
 # ---- what looks random
 
+def level_fault(expected, text):
+    """Executes a batch in order and in levels, by bits and by granules, and tells what differs."""
+    replica, batch = expected.replica, read_batches(text)[0]
+    before, first, told = replica.database.copy(), replica.next, expected.add(text)
+    footprints = declared(before, batch.requests)
+    for number in (itself, bit):
+        pairs = worked.in_levels(before, batch, first, cut(footprints, number), told, replica)
+        if any(one != other for one, other in pairs):
+            return f'batch {replica.sequence}: in levels, other replies, rows or strays'
+    return None
+
+
 def random_runs(program, seed):
     """Four batches on a database that looks random."""
     database = drawn.Database(seed)
     requests, expected = drawn.Requests(database), Expected(database.image())
-    for count in (5, 20, 30, 2):
-        expected.add(requests.batch(count))
-    return runs(program, expected, [1, 2 + seed % 7])
+    return faults_of(*(level_fault(expected, requests.batch(count)) for count in (5, 20, 30, 2)), runs(program, expected, [1, 2 + seed % 7]))
 
 
 def wide_runs(program, seed):
@@ -78,7 +88,7 @@ def payments(d, leaves):
 
 
 def dirty_leaves(program, workers):
-    """Batches after which 4 to 70 leaves are hashed, of texts of many lengths: no batch changes fewer but none."""
+    """Batches that change 4 to 70 leaves, of texts of many lengths; fewer, but for none, no batch can."""
     expected, wanted = Expected(lengths_image()), {*range(LEAST_LEAVES, MOST_LEAVES + 1)}
     for d in drawn.DISTRICTS:
         for leaves in wanted - {*expected.leaves}:

@@ -18,7 +18,8 @@ import worked
 def listed():
     """Each trial: its title, its function, and what it is about."""
     yield from ((f'{name}: {case.title}', trials.worked_case, case) for name, case in worked.cases())
-    yield from ((f'make {numbers}', trials.made_image, numbers) for numbers in ((1, 1, 1), (2, 45, 100), (100, 1, 7), (1, 300, 3), (1, 1, 1100)))
+    made = [(1, 1, 1), (2, 45, 100), (100, 1, 7), (1, 300, 3), (1, 1, 1100)]
+    yield from ((f'make {numbers}', trials.made_image, numbers) for numbers in made)
     yield from ((f'random database {seed}', trials.random_runs, seed) for seed in range(1, 41))
     yield from ((f'levels by threads {seed}', trials.wide_runs, seed) for seed in (1,))
     yield 'numbers of dirty leaves', trials.dirty_leaves, [1, 2, 4, 8]

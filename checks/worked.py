@@ -6,11 +6,11 @@ and a line behind `9 * ` stands there nine times.
 | Given | What it is |
 |---|---|
 | `make W C I` | the image of `make W C I` |
-| `put RECORD`, `drop RECORD` | another record in the image, in the place of the one with its key; a record less, by its key |
+| `put RECORD`, `drop RECORD` | a record of the image, in the place of the one with its key; one less, by its key |
 | `batch MOMENT VERDICT` | a batch, and below it its requests, a record a line |
 | `row RECORD`, `card RECORD`, `reply RECORD` | a row, a card, a reply, of no image |
 | `hashed N PRIOR CATALOG` | the number, the previous token and the catalog's digest of a token of these rows and replies |
-| `bits GRANULE ..`, `touches GRANULE .. | GRANULE ..` | granules, spelled as in `C1.2.3`; a footprint, of what is read and what is written |
+| `bits GRANULE ..`, `touches GRANULE .. | GRANULE ..` | granules, spelled as in `C1.2.3`; what a footprint reads and writes |
 
 | Wanted | Of what |
 |---|---|
@@ -111,6 +111,17 @@ def spelled_granules(granules):
 
 # ---- comparisons: pairs of what is wanted and what there is
 
+def in_levels(database, batch, first, levels, told, replica):
+    """Executes a batch in these levels, and compares that with what was told of it when a replica executed it in order. Returns the places
+    that stray."""
+    rows = database.copy()
+    strays, replies = run_levels(rows, batch, first, declared(database, batch.requests), levels)
+    yield bool(told.strays), bool(strays)
+    if not strays:
+        yield (told.replies, dict(replica.database.rows.items())), (replies, dict(rows.rows.items()))
+    return strays
+
+
 def of_batch(batch, expected):
     """Executes a case's batch, and compares what is wanted of it."""
     replica, read = expected.replica, read_batches(batch.text())[0]
@@ -124,11 +135,7 @@ def of_batch(batch, expected):
             yield spelled_granules(granules_of(rest)), spelled_granules(getattr(footprints[place], word))
         else:
             yield wanted + '\n', written([told.replies[place]])
-    in_levels = before.copy()
-    strays, replies = run_levels(in_levels, read, first, footprints, by_bits)
-    yield bool(told.strays), bool(strays)
-    if not strays:
-        yield (told.replies, dict(replica.database.rows.items())), (replies, dict(in_levels.rows.items()))
+    strays = yield from in_levels(before, read, first, by_bits, told, replica)
     found = {'path': told.path, 'strays': ' '.join(map(str, strays)), 'cut': spelled(by_bits), 'exact': spelled(cut(footprints)),
              'token': replica.token.hex()}
     for word, rest in batch.wanted:

@@ -55,7 +55,8 @@ class Database:
         """Adds a customer, and perhaps a payment of before."""
         dice = self.dice
         names = [dice.choice(LAST_NAMES), self.text(2), dice.choice(['A', 'AB', 'B'])]
-        numbers = [dice.randint(0, 9999), self.money(10 ** 15 - 99999), self.money(10 ** 15 - 99999), dice.choice([0, 10 ** 9, 7]), dice.randint(0, 9)]
+        money = [self.money(10 ** 15 - 99999) for _ in range(2)]
+        numbers = [dice.randint(0, 9999), *money, dice.choice([0, 10 ** 9, 7]), dice.randint(0, 9)]
         self.records.append(['C', w, d, c, *names, dice.choice(['GC', 'BC']), *numbers, self.text(dice.choice([20, 500]))])
         if dice.random() < 0.3:
             number = 10 ** 6 + 3001 * (10 * w + d) + c
@@ -66,12 +67,14 @@ class Database:
         dice = self.dice
         last = dice.choice([0, 0, 1, 3, 25, 9999990])
         new = dice.randint(0, min(last, 3))
-        numbers = {*range(last - new + 1, last + 1), *([last] if last else []), *dice.sample(range(1, last + 1), min(last, dice.randint(0, 4)))}
+        older = dice.sample(range(1, last + 1), min(last, dice.randint(0, 4)))
+        numbers = {*range(last - new + 1, last + 1), *([last] if last else []), *older}
         self.records.append(['X', w, d, last + 1])
         for o in numbers:
             is_new, count = o > last - new, dice.randint(1, 6)
             carrier, moment = (None, None) if is_new else (dice.randint(1, 10), dice.randint(0, 99))
-            self.records.append(['O', w, d, o, dice.choice(self.customers[w, d]), dice.randint(0, 10 ** 12 - 1), carrier, count, dice.randint(0, 1)])
+            c, entry = dice.choice(self.customers[w, d]), dice.randint(0, 10 ** 12 - 1)
+            self.records.append(['O', w, d, o, c, entry, carrier, count, dice.randint(0, 1)])
             self.records += [['N', w, d, o]] * is_new
             for number in range(1, count + 1):
                 supply, i = dice.choice(self.stocks)
@@ -110,25 +113,22 @@ class Requests:
         return [i, supply, self.dice.randint(1, 10)]
 
     def draw(self):
-        """A request's line."""
+        """A request's fields."""
         (w, d), kind = self.district(), self.dice.choice('NNNNPPPOODDDSSS')
         if kind == 'N':
-            return self.written(['N', w, d, self.customer(w, d), *sum((self.line(w) for _ in range(self.dice.randint(5, 15))), [])])
+            return ['N', w, d, self.customer(w, d), *sum((self.line(w) for _ in range(self.dice.randint(5, 15))), [])]
         if kind == 'P':
             cw, cd = self.district() if self.dice.random() < 0.3 else (w, d)
-            return self.written(['P', w, d, cw, cd, *self.named(cw, cd), self.dice.choice([100, 500000, 1234])])
+            return ['P', w, d, cw, cd, *self.named(cw, cd), self.dice.choice([100, 500000, 1234])]
         if kind == 'O':
-            return self.written(['O', w, d, *self.named(w, d)])
-        return self.written(['D', w, self.dice.randint(1, 10)] if kind == 'D' else ['S', w, d, self.dice.randint(10, 20)])
-
-    def written(self, fields):
-        """A record's line."""
-        return written([fields]).rstrip('\n')
+            return ['O', w, d, *self.named(w, d)]
+        return ['D', w, self.dice.randint(1, 10)] if kind == 'D' else ['S', w, d, self.dice.randint(10, 20)]
 
     def batch(self, count):
         """The text of a batch of so many requests."""
         verdict = 'rerun' if self.dice.random() < 0.15 else 'commit'
-        return batch_text(self.dice.choice([0, 10 ** 12 - 1, 86400]), verdict, [self.draw() for _ in range(count)])
+        lines = [written([self.draw()]).rstrip('\n') for _ in range(count)]
+        return batch_text(self.dice.choice([0, 10 ** 12 - 1, 86400]), verdict, lines)
 
 
 def wide(seed):
@@ -137,7 +137,7 @@ def wide(seed):
     dice, warehouses = random.Random(seed), range(1, 61)
     places, stocks = [(w, d) for w in warehouses for d in DISTRICTS], [(w, i) for w in warehouses for i in range(1, 61)]
     dice.shuffle(stocks)
-    lines = [f'P,{w},{dice.randint(1, 10)},{w},{dice.randint(1, 10)},I,{dice.randint(1, 3)},{dice.randint(100, 9999)}' for w in warehouses]
+    lines = [f'P,{w},{dice.randint(1, 10)},{w},{dice.randint(1, 10)},I,{dice.randint(1, 3)},1234' for w in warehouses]
     for w, d in dice.sample(places, 450):
         sold = [stocks.pop() for _ in range(5)]
         lines.append(f'N,{w},{d},{dice.randint(1, 3)},' + ','.join(f'{i},{supply},{dice.randint(1, 10)}' for supply, i in sold))

@@ -1,4 +1,5 @@
-//! Seats of a desk, by turns on one thread.
+//! Seats of a desk, by turns on one thread: nobody draws; what one seat raises the other one sees; a seat draws past the last
+//! place. No contract says that a seat sees what another one raised.
 ghost use Rattle.std.specs.Prelude.{◌≡◌, ◌<◌};
 ghost use Rattle.tickets.specs.Seats.{IsNewSeatOf, IsSeatOf, places_of};
 
@@ -9,13 +10,12 @@ fn is_shared<T: Sync>(_value: &T) {}
 
 fn is_sent<T: Send>(_value: &T) {}
 
-/// Nobody draws. A desk may be shared between threads, and a seat sent to one.
-fn show_untouched(rt: &impl Print, alloc: Global) -> Option<()> {
+/// Whether nothing is drawn or raised at first. A desk may be shared between threads, and a seat sent to one.
+fn is_untouched(alloc: Global) -> Option<bool> {
     let (desk, seats) = Desk::new(alloc, 3, 2).ok()?;
     is_shared(&desk);
     is_sent(&seats[0]);
-    let _ = println!(rt; "nobody draws: {:?}", desk.close(seats));
-    Some(())
+    Some(desk.close(seats) == (0, 0))
 }
 
 /// A seat draws a place, which it raises if it is the first, and looks whether it is to stop.
@@ -31,15 +31,12 @@ fn take_turn(desk: &Desk, seat: &mut Seat) -> (usize, bool)
     (place, desk.look(seat))
 }
 
-/// Two seats of a desk of three places draw one place each; the first raises its own, and both see it.
-fn show_raised(rt: &impl Print, alloc: Global) -> Option<()> {
+/// Whether both of two seats see what the first one raises, when they drew one place each of three.
+fn is_seen_by_both(alloc: Global) -> Option<bool> {
     let (desk, mut seats) = Desk::new(alloc, 3, 2).ok()?;
-    let (one, is_seen_by_one) = take_turn(&desk, &mut seats[0]);
-    let (two, is_seen_by_two) = take_turn(&desk, &mut seats[1]);
-    let words = desk.close(seats);
-    let _ = println!(rt; "drawn: {one} {two}, seen by the second: {is_seen_by_two}");
-    let _ = println!(rt; "seen by the first: {is_seen_by_one}, in the end: {words:?}");
-    Some(())
+    let one = take_turn(&desk, &mut seats[0]);
+    let other = take_turn(&desk, &mut seats[1]);
+    Some(one == (0, true) && other == (1, true) && desk.close(seats) == (2, 1))
 }
 
 /// A seat of a desk of two places draws one, looks, draws the other, and draws past the end.
@@ -59,19 +56,15 @@ fn draw_all(desk: &Desk, seat: &mut Seat) -> ([usize; 3], bool)
     (drawn, is_raised)
 }
 
-fn show_past_the_end(rt: &impl Print, alloc: Global) -> Option<()> {
+/// Whether a seat draws each of two places, and then none, and sees nothing raised.
+fn ends(alloc: Global) -> Option<bool> {
     let (desk, mut seats) = Desk::new(alloc, 2, 1).ok()?;
     let ([first, second, third], is_raised) = draw_all(&desk, &mut seats[0]);
     let words = desk.close(seats);
-    let is_past = 2 <= third;
-    let _ = println!(rt;
-        "drawn: {first} {second}, past the end: {is_past}, raised: {is_raised}, in the end: {words:?}"
-    );
-    Some(())
+    Some(first == 0 && second == 1 && 2 <= third && !is_raised && words == (3, 0))
 }
 
-pub fn show(rt: &impl Print, alloc: Global) -> Option<()> {
-    show_untouched(rt, alloc)?;
-    show_raised(rt, alloc)?;
-    show_past_the_end(rt, alloc)
+/// Whether all of this holds.
+pub fn are_right(alloc: Global) -> Option<bool> {
+    Some(is_untouched(alloc)? && is_seen_by_both(alloc)? && ends(alloc)?)
 }
