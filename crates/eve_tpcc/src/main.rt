@@ -9,24 +9,22 @@ ghost use Rattle.tpcc_rows.specs.Limits.{IsBetween};
 
 mod inputs;
 mod peak_memory;
-mod progress;
 mod resuming;
 mod statistics;
 mod stopwatch;
-mod store_file;
 mod streams;
 mod summary;
 mod tally;
 
 use crate::inputs::{is_standard_input, path_of};
-use crate::progress::Shown;
 use crate::resuming::{RunOptions, run_resumed, serve_from, stamp_from};
 use crate::statistics::Statistics;
-use crate::store_file::open_store;
 use crate::streams::{batches_source, image_sink, image_source, reply_sink};
 use command_line::{Line, LineFault, WordsFault, line_of, line_status, words_of};
 use executor::Stamp;
 use hashers::Host;
+use progress::progress::Shown;
+use progress::store_file::open_store;
 use records::io::Counting;
 use runner::{Observer, StoredRunFault, check_text, make_text, run_and_store, stored_line};
 use session::serve;
@@ -76,13 +74,12 @@ where
     let Ok(batches_file) = fs::open(rt, batches) else {
         return cannot_open(rt, batches);
     };
-    let Ok(store_file) = open_store(rt, path) else {
+    let Ok(mut tables) = open_store(rt, path) else {
         return cannot_create(rt, path);
     };
     let mut image = image_source(rt, image_file, shown);
     let mut batches = batches_source(rt, batches_file, shown);
     let mut output = reply_sink(rt, io::writer(rt), shown);
-    let mut tables = Telling::new(Counting::new(store_file));
     let ran = run_and_store(runtime, &mut image, &mut batches, &mut output, &mut tables);
     match ran {
         Ok(_) => ExitCode::SUCCESS,

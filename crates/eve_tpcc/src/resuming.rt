@@ -3,12 +3,12 @@ ghost use Rattle.std.specs.Prelude.{◌≡◌, ◌≤◌, [], IfOk, IfSome};
 ghost use Rattle.executor.specs.Stamps.{IsWithinLimits};
 ghost use Rattle.executor.specs.States.{IsSoundState};
 
-use crate::progress::Shown;
-use crate::store_file::{StoreFile, open_store};
 use crate::streams::{batches_source, image_source, reply_sink};
 use crate::{cannot_create, cannot_open, report};
 use executor::{Executor, NumbersTaken, Stamp};
 use hashers::Host;
+use progress::progress::Shown;
+use progress::store_file::{StoreFile, open_store};
 use records::io::Counting;
 use runner::stamp_text::{stamp_line, stamp_of};
 use runner::{
@@ -103,8 +103,8 @@ where
     let rt = runtime.rt;
     let mut batches = batches_source(rt, batches, options.shown);
     let mut output = reply_sink(rt, io::writer(rt), options.shown);
-    let mut tables = Telling::new(Counting::new(store));
-    run_and_store_on(runtime, executor, &mut batches, &mut output, &mut tables)
+    let mut store = store;
+    run_and_store_on(runtime, executor, &mut batches, &mut output, &mut store)
 }
 
 /// Whether a run left its executor at the state whose token and image were written.
