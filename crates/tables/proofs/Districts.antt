@@ -22,19 +22,13 @@ use Rattle.tables.specs.ByRank.{ByRank}
 use Rattle.tables.specs.LastOrders.{AreLastOrders, AreLinked, AreLinkedAt, HasPlaces, orders_of, owners}
 use Rattle.tables.specs.Shelves.{place_of, rows_at}
 use Rattle.tables.proofs.Each.{find-each, sorted-each}
-use Rattle.tables.proofs.Grouped.{no-rows}
+use Rattle.tables.proofs.Grouped.{no-rows, same-number}
 use Rattle.tables.proofs.Shelved.{get-rows_at, other_place}
 use Rattle.tables.proofs.Tables.{rank_total, exact_ranks, table_of}
 
 holds : (b : Bool) → T b → b ≡ true
 holds true h = refl
 holds false h = absurd h
-
-same-number : (n : ℕ) → eqb n n ≡ true
-same-number n = elim (cases_Bool (eqb n n)) [
-  | inl same ↦ same
-  | inr apart ↦ absurd (eqb-false n n apart refl)
-]
 
 module _ {X : Type 0} where
   -- ---- the rows of the rank's place
@@ -102,9 +96,6 @@ module _ {X : Type 0} where
         ∙ insert_end es (k, x)
 
     module _ (k : ℕ) (x : X) (there : IsPlaceOf nat_cmp k (entries t) (Ok (length (entries t) - 1))) (got : get t k ≡ Some x) where
-      last-place : ℕ
-      last-place = length (entries t) - 1
-
       entries-removed : entries (remove t k) ≡ list.remove (entries t) (length (entries t) - 1)
       entries-removed =
           ap (λ (u : ByRank X). entries (remove u k)) (sym whole)
