@@ -1,7 +1,8 @@
 """Files of cases as checks/cases/README.md describes them, and the texts that their steps give."""
-import os
 import random
 import re
+
+import reader
 
 ESCAPED = re.compile(rb'\\([0-9A-Fa-f]{2})(?:\{([0-9]+)\})?')
 
@@ -180,7 +181,8 @@ def respelt(text, seed):
     return b''.join(written)
 
 
-MODIFIERS = {'turned': turned, 'in version 1': in_version_1, 'in version 2': in_version_2, 'respelt': lambda text: respelt(text, 0)}
+MODIFIERS = {'turned': turned, 'in version 1': in_version_1, 'in version 2': in_version_2, 'as stored': reader.stored,
+             'respelt': lambda text: respelt(text, 0)}
 
 
 def read_file(path):
