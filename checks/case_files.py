@@ -1,7 +1,10 @@
 """Files of cases as checks/cases/README.md describes them, and the texts that their steps give."""
-import os
 import random
 import re
+
+import reader
+from plain.database import image_of
+from plain.made import records
 
 ESCAPED = re.compile(rb'\\([0-9A-Fa-f]{2})(?:\{([0-9]+)\})?')
 
@@ -107,22 +110,8 @@ def with_value(text, number, field, value):
 
 
 def made(warehouses, customers, items):
-    """The image of `make`, by the table of docs/FORMATS.md."""
-    ws, ds = range(1, warehouses + 1), range(1, 11)
-    lines = [f'W,{w},W{w},1000,30000000' for w in ws]
-    lines += [f'D,{w},{d},D{d},500' for w in ws for d in ds]
-    lines += [f'Y,{w},{d},3000000' for w in ws for d in ds]
-    lines += [f'X,{w},{d},1' for w in ws for d in ds]
-    lines += [f'C,{w},{d},{c},{made_customer(c)}' for w in ws for d in ds for c in range(1, customers + 1)]
-    lines += [f'I,{i},ITEM{i},{100 * ((i - 1) % 100 + 1)},{"PLAIN" if i % 10 else "ORIGINAL"}' for i in range(1, items + 1)]
-    dists = ','.join(f'DIST{d:02}' for d in ds)
-    lines += [f'S,{w},{i},{10 + i % 91},0,0,0,{"PLAIN" if i % 20 else "ORIGINAL"},{dists}' for w in ws for i in range(1, items + 1)]
-    return '\n'.join(['eve-tpcc,2', *lines, f'E,{len(lines)}', '']).encode()
-
-
-def made_customer(c):
-    credit, data = ('GC', '') if c % 10 else ('BC', 500 * 'x')
-    return f'NAME{c % 10},OE,F{9 - c // 20 % 10},{credit},1000,-1000,1000,1,0,{data}'
+    """The image of `make`."""
+    return image_of(records(warehouses, customers, items)).encode()
 
 
 def in_version_1(image):
@@ -180,7 +169,8 @@ def respelt(text, seed):
     return b''.join(written)
 
 
-MODIFIERS = {'turned': turned, 'in version 1': in_version_1, 'in version 2': in_version_2, 'respelt': lambda text: respelt(text, 0)}
+MODIFIERS = {'turned': turned, 'in version 1': in_version_1, 'in version 2': in_version_2, 'as stored': reader.stored,
+             'respelt': lambda text: respelt(text, 0)}
 
 
 def read_file(path):

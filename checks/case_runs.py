@@ -33,7 +33,7 @@ def wait_until_read(process):
         fcntl.ioctl(process.stdin.fileno(), termios.FIONREAD, left)
         if not left[0]:
             return
-        time.sleep(0)
+        time.sleep(0.0001)
 
 
 def in_pieces(text, size):

@@ -4,8 +4,8 @@
 For `check`, and for `run` with and without `--store`, by one worker and by two: first no call fails, and all is as with whole reads and
 writes. Then each call of each end fails: of the image, of the batches, of the output, and of the stored image. The run must end with status
 1 and the line of that fault. Where a read fails, nothing is written, but the image is stored as it is if it was read; where a write fails,
-its end has the bytes of the calls before, and an image is only stored when the output is whole. The library that lets calls fail is compiled by `cc` (Linux with glibc only). Prints what each end
-came to, then `N passed, M failed`. Ends with status 1 if any failed."""
+its end has the bytes of the calls before, and an image is only stored when the output is whole. The library that lets calls fail is
+compiled by `cc` (Linux with glibc only). Prints what each end came to, then `N passed, M failed`. Ends with status 1 if any failed."""
 import os
 import subprocess
 import sys
