@@ -157,11 +157,12 @@ def checked(crate, texts, paths):
 
 
 def said_of(crate, path, lines):
-    """What the line of a function says, and the names of the goals of its own that aren't proved."""
-    goals, head = [], f'fn {crate}::{path}: '
+    """What the line of a function says, and the names of the goals of its own, or of its cycle of calls, that aren't proved."""
+    goals, head, folder = [], f'fn {crate}::{path}: ', path.replace('::', '/')
+    cycle = os.path.join(os.path.dirname(folder), '+')
     for number, line in enumerate(lines):
         answer = ANSWER.match(line)
-        if answer and answer[1] == path.replace('::', '/') and not NAMES.search(line):
+        if answer and (answer[1] == folder or answer[1].startswith(cycle)) and not NAMES.search(line):
             goals.append(answer[2] or 'an answer')
         elif line.startswith(head):
             above = itertools.takewhile(lambda it: not it.startswith('fn '), reversed(lines[:number]))
