@@ -62,7 +62,10 @@ def read(path):
 
 def call(program, words, text=''):
     """The status, output and errors of a command."""
-    ended = subprocess.run([program, *words], input=text.encode(), capture_output=True, timeout=SECONDS, check=False)
+    try:
+        ended = subprocess.run([program, *words], input=text.encode(), capture_output=True, timeout=SECONDS, check=False)
+    except subprocess.TimeoutExpired:
+        return -1, '', f'nothing within {SECONDS} seconds'
     return ended.returncode, ended.stdout.decode(), ended.stderr.decode()
 
 
@@ -72,8 +75,7 @@ def stray_fault(expected, told, workers):
         return f'strays: wanted {len(expected.reran)}, got {told["strays"]}'
     if not expected.reran:
         return None if told['first_stray'] is None else f'no stray, got {told["first_stray"]}'
-    batch, strays = expected.reran[0]
-    stray = told['first_stray']
+    (batch, strays), stray = expected.reran[0], told['first_stray']
     beyond = {' '.join([GRANULES[granule[0]], *map(str, granule[1:])]) for granule in strays.get(stray['request'], ())}
     is_first = workers > 1 or stray['request'] == min(strays)
     if stray['batch'] == batch and is_first and stray['granule'] in beyond:

@@ -22,7 +22,7 @@ class Database:
         self.stocks = [(w, i) for w in self.warehouses for i in self.items if dice.random() < 0.9]
         self.records = [['I', i, self.text(24), dice.choice([0, 1, 99999, dice.randint(1, 9999)]), self.data()] for i in self.items]
         for w, i in self.stocks:
-            counts = [dice.choice([0, 1, 999999999, dice.randint(0, 999)]) for _ in range(3)]
+            counts = [self.count() for _ in range(3)]
             self.records.append(['S', w, i, dice.randint(-20, 100), *counts, self.data(), *(self.text(24) for _ in DISTRICTS)])
         for w in self.warehouses:
             self.add_warehouse(w)
@@ -40,6 +40,10 @@ class Database:
         """A sum of money, or a debt, often a large one."""
         return self.dice.choice([0, -1, most, -most, self.dice.randint(-most, most)])
 
+    def count(self):
+        """A count, which now and then is near the last one."""
+        return self.dice.randint(0, 999) if self.dice.random() < 0.98 else 10 ** 9 - self.dice.randint(0, 20)
+
     def add_warehouse(self, w):
         """Adds a warehouse with its districts."""
         sums = [self.money(10 ** 14) for _ in DISTRICTS]
@@ -56,7 +60,7 @@ class Database:
         dice = self.dice
         names = [dice.choice(LAST_NAMES), self.text(2), dice.choice(['A', 'AB', 'B'])]
         money = [self.money(10 ** 15 - 99999) for _ in range(2)]
-        numbers = [dice.randint(0, 9999), *money, dice.choice([0, 10 ** 9, 7]), dice.randint(0, 9)]
+        numbers = [dice.randint(0, 9999), *money, self.count(), self.count()]
         self.records.append(['C', w, d, c, *names, dice.choice(['GC', 'BC']), *numbers, self.text(dice.choice([20, 500]))])
         if dice.random() < 0.3:
             number = 10 ** 6 + 3001 * (10 * w + d) + c
@@ -86,11 +90,13 @@ class Database:
 
 
 class Requests:
-    """Requests that look random, mostly of two districts, so that many meet; a few name what isn't there."""
+    """Requests that look random, mostly of two districts, so that many meet, with many, few or no deliveries; some name what isn't
+    there."""
 
     def __init__(self, database):
         self.database, self.dice = database, database.dice
         self.districts = self.dice.sample([*database.customers], 2)
+        self.kinds = 'NNNNPPPOOSSS' + self.dice.choice(['', 'D', 'DDD'])
 
     def district(self):
         """A warehouse and a district."""
@@ -98,7 +104,7 @@ class Requests:
 
     def customer(self, w, d):
         """The number of a customer."""
-        return self.dice.choice([*self.database.customers.get((w, d), []), 3000]) if self.dice.random() < 0.95 else 2999
+        return self.dice.choice(self.database.customers.get((w, d), [3000])) if self.dice.random() < 0.95 else 2999
 
     def named(self, w, d):
         """The fields of a customer who is named by number or last name."""
@@ -106,7 +112,7 @@ class Requests:
 
     def line(self, w):
         """The fields of a line of an order."""
-        if self.dice.random() < 0.02:
+        if self.dice.random() < 0.004:
             return [self.dice.choice([2, 999999]), w, 1]
         own = [stock for stock in self.database.stocks if stock[0] == w]
         supply, i = self.dice.choice(own if own and self.dice.random() < 0.8 else self.database.stocks)
@@ -114,7 +120,7 @@ class Requests:
 
     def draw(self):
         """A request's fields."""
-        (w, d), kind = self.district(), self.dice.choice('NNNNPPPOODDDSSS')
+        (w, d), kind = self.district(), self.dice.choice(self.kinds)
         if kind == 'N':
             return ['N', w, d, self.customer(w, d), *sum((self.line(w) for _ in range(self.dice.randint(5, 15))), [])]
         if kind == 'P':
