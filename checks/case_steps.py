@@ -7,7 +7,7 @@ import case_files
 from case_files import Text, decoded, records_text, respelt, shown
 
 HEAD = b'eve-tpcc: '
-STATISTICS = re.compile(r'! \{".*\}')
+STATISTICS = re.compile(rb'^\{".*\}$', re.MULTILINE)
 MOST_LINES = 40
 
 
@@ -32,11 +32,6 @@ def difference(wanted, got):
     lines = [line for line in [*difflib.unified_diff(wanted, got, lineterm='', n=0)][2:] if not line.startswith('@@ ')]
     more = [f'and {len(lines) - MOST_LINES} more lines'] if len(lines) > MOST_LINES else []
     return '\n'.join('    ' + line[:300] for line in lines[:MOST_LINES] + more)
-
-
-def unpinned(lines):
-    """The lines with those of statistics as a case shows them."""
-    return ['! {..}' if STATISTICS.fullmatch(line) else line for line in lines]
 
 
 def up_to(text, batch):
@@ -76,17 +71,22 @@ class Trial:
     def compare(self, step, wanted, ended, what=''):
         """Tells how a run differs from what is wanted."""
         output = ended.output if wanted.output is None else wanted.output
-        is_same = (output, wanted.errors, wanted.status) == (ended.output, ended.errors, ended.status)
-        self.tell(step, None if is_same else difference(lines_of(output, wanted.errors, wanted.status),
-                                                        unpinned(lines_of(ended.output, ended.errors, ended.status))), what)
+        errors = STATISTICS.sub(b'{..}', ended.errors)
+        if (output, wanted.errors, wanted.status) == (ended.output, errors, ended.status):
+            self.tell(step, None, what)
+        else:
+            told = difference(lines_of(output, wanted.errors, wanted.status), lines_of(ended.output, errors, ended.status))
+            self.tell(step, told or '    other line ends', what)
 
     # ---- what is given
 
-    def begin(self, image, batches):
-        if image is not None:
-            self.image = self.last = image
+    def begin(self, what, text):
+        """Gives an image, or batches."""
+        if what == 'image':
+            self.image = text
         else:
-            self.batches = self.last = batches
+            self.batches = text
+        self.last = text
 
     def modified(self, text, modifiers):
         for modifier in (modifiers or '').split(', ')[1:]:
@@ -98,18 +98,17 @@ class Trial:
         return b''.join(map(self.text_of, names.split()))
 
     def give_written(self, step, what):
-        text = Text(records_text(step.content))
-        self.begin(*(text, None) if what == 'image' else (None, text))
+        self.begin(what, Text(records_text(step.content)))
 
     def give_files(self, step, what, names, modifiers):
         text = self.modified(self.read(names), modifiers)
         text.edit(step.content)
-        self.begin(*(text, None) if what == 'image' else (None, text))
+        self.begin(what, text)
 
     def give_made(self, step, warehouses, customers, items, modifiers):
         text = self.modified(case_files.made(int(warehouses), int(customers), int(items)), modifiers)
         text.edit(step.content)
-        self.begin(text, None)
+        self.begin('image', text)
 
     def give_more(self, step, times):
         self.last.append(step.content, int(times or 1))

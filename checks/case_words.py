@@ -1,6 +1,6 @@
 """Steps of cases about command lines and sessions. checks/cases/README.md describes them."""
 import case_runs
-from case_steps import HEAD, Wanted
+from case_steps import Wanted
 from case_files import decoded
 
 
