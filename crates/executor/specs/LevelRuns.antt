@@ -1,6 +1,6 @@
 -- A batch in levels. Each request declares a footprint, predicted as the batch begins; by these the batch is cut into
 -- levels, and each level is executed on the rows that the one before it left.
-use Rattle.std.specs.Prelude.{◌≡◌, ◌<◌, ◌≤◌, ℕ, Bool, List, length, Some, slice_get}
+use Rattle.std.specs.Prelude.{◌≡◌, ◌<◌, ◌≤◌, ◌/◌, ℕ, Bool, List, length, Some, slice_get}
 use Rattle.std.specs.List.Sorted.{IsStrictlyIncreasing}
 use Rattle.serializability.specs.Footprints.{Footprint, Has}
 use Rattle.serializability.specs.Levels as levels
@@ -30,6 +30,10 @@ cut_by code footprints = levels.cut (levels.levels (meets_by code) footprints)
 -- it is the cut by some numbers
 abbrev pub IsCutBySome : List (Footprint Granule) → List (List ℕ) → Type 0
 IsCutBySome footprints cut = (code : Granule → ℕ) × (cut ≡ cut_by code footprints)
+
+-- a cut by some numbers has more levels than one for this many requests each
+abbrev pub HaveTooManyLevels : ℕ → List (Footprint Granule) → Type 0
+HaveTooManyLevels size footprints = (cut : List (List ℕ)) × IsCutBySome footprints cut × (length footprints / size < length cut)
 
 -- a cut of `count` requests: each place is on one level, the places of a level ascend, and no level is empty
 pub record IsCutOf (count : ℕ) (cut : List (List ℕ)) : Type 0 where

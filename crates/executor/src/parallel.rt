@@ -1,8 +1,9 @@
 //! Executes a batch level by level, where threads pay.
-ghost use Rattle.std.specs.Prelude.{◌≡◌, ◌+◌, ◌<◌, All, IfErr, IfOk, IfSome, OnOk, false, length, map, ℕ};
+ghost use Rattle.std.specs.Prelude.{◌≡◌, ◌+◌, ◌<◌, All, IfErr, IfOk, IfSome, None, OnOk, false, length, map, ℕ};
 ghost use Rattle.std.specs.FinMap.{find};
 ghost use Rattle.std.specs.Ordering.{nat_cmp};
-ghost use Rattle.executor.specs.LevelRuns.{IsCutBySome, IsCutOf};
+ghost use Rattle.executor.specs.LevelRuns.{HaveTooManyLevels, IsCutBySome, IsCutOf};
+ghost use Rattle.executor.specs.declared.paying.TheConstants.{REQUESTS_A_LEVEL};
 ghost use Rattle.executor.specs.NextBatches.{met_on, next_replies, next_rows, next_strays};
 ghost use Rattle.executor.specs.PlannedLevels.{AwaitsOthers, plan_replies, plan_rows, plan_strays};
 ghost use Rattle.executor.specs.Slots.{Awaits, HaveAlso, reply_at, with_each};
@@ -84,7 +85,8 @@ fn settle_level<R: Threads + Sync, G: Gate>(
 
 /// The levels to execute a batch by: those by signatures if a gate listens, else those by granules, or `None` if threads don't pay.
 fn cut_of<R, G: Gate>(runtime: &Runtime<'_, R, G>, plan: &Plan<'_>) -> Result<Option<Cut>, Memory>
-    ensures { IfOk result (λ cut. IfSome cut (λ cut. IsCutBySome plan.now.footprints.now cut)) }
+    ensures cut { IfOk result (λ cut. IfSome cut (IsCutBySome plan.now.footprints.now)) }
+    ensures none { IfOk result (λ cut. cut ≡ None → HaveTooManyLevels REQUESTS_A_LEVEL plan.now.footprints.now) }
 {
     if runtime.gate.is_told() {
         return Ok(Some(mix(runtime.alloc, plan.footprints)?));

@@ -1,6 +1,7 @@
-//! Whether threads pay. This only chooses between two ways to the same result, so no contract here says when they do.
-ghost use Rattle.std.specs.Prelude.{◌<◌, ◌≤◌, IfOk, IfSome, length};
-ghost use Rattle.executor.specs.LevelRuns.{IsCutBySome};
+//! Whether threads pay. This only chooses between two ways to the same result.
+ghost use Rattle.std.specs.Prelude.{◌≡◌, ◌<◌, ◌≤◌, ◌/◌, IfOk, IfSome, None, length};
+ghost use Rattle.executor.specs.LevelRuns.{HaveTooManyLevels, IsCutBySome};
+ghost use Rattle.executor.specs.declared.paying.TheConstants.{REQUESTS_A_LEVEL};
 
 use mixer::{Cut, mix_exactly};
 use requests::request::Request;
@@ -13,7 +14,9 @@ use tpcc_rows::memory::Memory;
 const REQUESTS_A_LEVEL: usize = 128;
 
 /// The greatest number of levels into which these many requests may be cut for threads to pay.
-fn most_levels(requests: usize) -> usize {
+fn most_levels(requests: usize) -> usize
+    ensures { result ≡ requests / REQUESTS_A_LEVEL }
+{
     requests / REQUESTS_A_LEVEL
 }
 
@@ -61,7 +64,8 @@ pub(crate) fn may_pay(requests: &[Request], workers: usize) -> bool {
 /// The levels to execute a batch by; `None` if they are too small for threads to pay.
 pub(crate) fn paying_cut(alloc: Global, footprints: &[Footprint]) -> Result<Option<Cut>, Memory>
     requires { length footprints.now ≤ 1024 }
-    ensures { IfOk result (λ cut. IfSome cut (λ cut. IsCutBySome footprints.now cut)) }
+    ensures cut { IfOk result (λ cut. IfSome cut (IsCutBySome footprints.now)) }
+    ensures none { IfOk result (λ cut. cut ≡ None → HaveTooManyLevels REQUESTS_A_LEVEL footprints.now) }
 {
     let cut = mix_exactly(alloc, footprints)?;
     if cut.depth() > most_levels(footprints.len()) {
