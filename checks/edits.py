@@ -70,13 +70,19 @@ def applied(pieces, texts):
     return texts
 
 
+def without_arguments(text):
+    """A text without what stands between < and >."""
+    shorter = re.sub(r'<[^<>]*>', '', text)
+    return text if shorter == text else without_arguments(shorter)
+
+
 def owner_of(head):
-    """What stands before the names of the methods of an impl or a trait: the type, and the trait behind it."""
-    head = re.sub(r'^.*?\b(?:impl|trait)\b', '', head.partition('{')[0])
-    while '<' in head:
-        head = re.sub(r'<[^<>]*>', '', head)
-    trait, _, kind = re.split(r'\bwhere\b|(?<!:):(?!:)', head)[0].rpartition(' for ')
-    return ''.join(part.strip().split('::')[-1] for part in (kind, trait))
+    """What stands before the names of the methods of an impl or a trait: the type, and behind it the trait with its arguments."""
+    head = head.partition('{')[0].partition(' where ')[0]
+    trait, _, kind = head.rpartition(' for ')
+    words = re.sub(r'^.*?(?:impl|trait)\b', '', without_arguments(head)).rpartition(' for ')
+    arguments = re.sub(r"'\w+|\W", '', trait.partition(f'{words[0].strip()}<')[2]) if trait else ''
+    return words[2].partition(':')[0].strip().split('::')[-1] + words[0].strip().split('::')[-1] + arguments
 
 
 def module_of(file):
