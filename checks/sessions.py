@@ -5,9 +5,9 @@ runs the program with `--stats`.
 PROGRAM is the built eve-tpcc. A session is a block indented by four spaces (in a help by two) that begins with `$ `; each such line is a
 command, and the lines up to the next one are what it prints. The sessions of a document share a folder, in which `examples` and `crates`
 are the repository's, `requests.csv` is that of the examples, and `eve-tpcc` is the program. `cat` of a missing file creates it with the lines
-shown. A command has a minute. With `--stats` a command writes the same bytes, and its statistics agree with them. Then each `old:` line of
-every wrong body must occur once in its file, as `rt must-fail` requires. Prints what failed, then `N passed, M failed`. Ends with status 1
-if anything failed."""
+shown. A command has a minute. With `--stats` a command writes the same bytes, and its statistics agree with them. Then each wrong body must
+edit a function, and its `old:` lines must occur once in its file, as `rt must-fail` requires. Prints what failed, then `N passed, M failed`.
+Ends with status 1 if anything failed."""
 import csv
 import glob
 import json
@@ -17,6 +17,8 @@ import shutil
 import subprocess
 import sys
 import tempfile
+
+import edits
 
 TOP = os.path.dirname(os.path.dirname(os.path.abspath(__file__)))
 HELPS = 'for name in make check run serve; do eve-tpcc $name --help; done'
@@ -136,23 +138,15 @@ def statistics(program):
 
 
 def wrong_bodies():
-    """For each wrong body, what is wrong with its `old:` lines, or nothing."""
-    for edit in sorted(glob.glob(f'{TOP}/crates/*/must-fail/*.edit') + glob.glob(f'{TOP}/checks/wrong_bodies/*/*.edit')):
-        crate = edit.split(os.sep)[-3] if '/must-fail/' in edit else edit.split(os.sep)[-2]
-        with open(edit, encoding='utf-8') as file:
-            lines = file.read().split('\n')
-        text, fault = '', None
-        for line in lines:
-            if line.startswith('file: '):
-                with open(os.path.join(TOP, 'crates', crate, line[6:].strip()), encoding='utf-8') as file:
-                    text = file.read()
-            elif line.startswith('old: '):
-                old = line[5:]
-                if text.count(old) != 1:
-                    fault = f'{os.path.relpath(edit, TOP)}: stands {text.count(old)} times: {old}'
-            elif line.startswith('new: '):
-                text = text.replace(old, line[5:], 1)
-        yield fault
+    """For each wrong body, why it can't be applied, or nothing."""
+    for crate in edits.crates_with_edits():
+        texts = edits.texts_of(crate)
+        for path in edits.paths_of(crate):
+            try:
+                edits.read_edit(path, texts)
+                yield None
+            except edits.BadEdit as bad:
+                yield f'{os.path.relpath(path, TOP)}: {bad}'
 
 
 def main(program):

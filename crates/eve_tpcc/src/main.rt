@@ -9,43 +9,47 @@ ghost use Rattle.tpcc_rows.specs.Limits.{IsBetween};
 
 mod inputs;
 mod peak_memory;
-mod progress;
 mod resuming;
 mod statistics;
 mod stopwatch;
-mod store_file;
 mod streams;
 mod summary;
 mod tally;
 
-use crate::inputs::{is_standard_input, path_of};
-use crate::progress::Shown;
-use crate::resuming::{RunOptions, run_resumed, serve_from, stamp_from};
+use crate::inputs::{hold_closed, is_standard_input, open_input};
+use crate::resuming::{RunOptions, run_resumed, run_unstored, serve_from, stamp_from};
 use crate::statistics::Statistics;
-use crate::store_file::open_store;
 use crate::streams::{batches_source, image_sink, image_source, reply_sink};
 use command_line::{Line, LineFault, WordsFault, line_of, line_status, words_of};
 use executor::Stamp;
 use hashers::Host;
+use progress::progress::Shown;
+use progress::store_file::open_store;
 use records::io::Counting;
 use runner::{Observer, StoredRunFault, check_text, make_text, run_and_store, stored_line};
 use session::serve;
-use std::io::Input;
+use std::hint::black_box;
+use std::io::{Input, Read};
 use std::process::ExitCode;
 use std::rt::Files;
 use std::thread::Threads;
 use std::time::Clock;
-use std::{fs, io, str};
+use std::{io, str};
 use telling::Telling;
 use workers::{Runtime, Workers};
 
-fn cannot_open(rt: &impl Eprint, path: &str) -> ExitCode {
-    let _ = eprintln!(rt; "eve-tpcc: cannot open {path}");
+/// What a command line may need of the runtime.
+trait System: Files + Input + Print + Eprint + AllocGlobal + Clock + Host {}
+
+impl<R: Files + Input + Print + Eprint + AllocGlobal + Clock + Host> System for R {}
+
+fn cannot_open(rt: &impl Eprint, path: &str, error: &io::Error) -> ExitCode {
+    let _ = eprintln!(rt; "eve-tpcc: cannot open {path}: {error}");
     ExitCode::FAILURE
 }
 
-fn cannot_create(rt: &impl Eprint, path: &str) -> ExitCode {
-    let _ = eprintln!(rt; "eve-tpcc: cannot create {path}");
+fn cannot_create(rt: &impl Eprint, path: &str, error: &io::Error) -> ExitCode {
+    let _ = eprintln!(rt; "eve-tpcc: cannot create {path}: {error}");
     ExitCode::FAILURE
 }
 
@@ -59,30 +63,23 @@ fn report(rt: &impl Eprint, fault: &StoredRunFault) -> ExitCode {
 
 /// Runs batches, and writes the image of the last state to the file at `path`.
 #[inline(never)]
-fn run_stored<R: Files + Print + Eprint + AllocGlobal + Clock + Host, G: Observer>(
-    runtime: &Runtime<'_, R, G>,
-    image: &str,
-    batches: &str,
-    path: &str,
-    shown: Shown,
-) -> ExitCode
+fn run_stored<
+    R: Files + Print + Eprint + AllocGlobal + Clock + Host,
+    I: Read + Drop,
+    B: Read + Drop,
+    G: Observer,
+>(runtime: &Runtime<'_, R, G>, image: I, batches: B, path: &str, shown: Shown) -> ExitCode
 where
     R::File: Drop,
 {
     let rt = runtime.rt;
-    let Ok(image_file) = fs::open(rt, image) else {
-        return cannot_open(rt, image);
+    let mut tables = match open_store(rt, path) {
+        Ok(tables) => tables,
+        Err(error) => return cannot_create(rt, path, &error),
     };
-    let Ok(batches_file) = fs::open(rt, batches) else {
-        return cannot_open(rt, batches);
-    };
-    let Ok(store_file) = open_store(rt, path) else {
-        return cannot_create(rt, path);
-    };
-    let mut image = image_source(rt, image_file, shown);
-    let mut batches = batches_source(rt, batches_file, shown);
+    let mut image = image_source(rt, image, shown);
+    let mut batches = batches_source(rt, batches, shown);
     let mut output = reply_sink(rt, io::writer(rt), shown);
-    let mut tables = Telling::new(Counting::new(store_file));
     let ran = run_and_store(runtime, &mut image, &mut batches, &mut output, &mut tables);
     match ran {
         Ok(_) => ExitCode::SUCCESS,
@@ -90,8 +87,23 @@ where
     }
 }
 
+/// Checks an image.
 #[inline(never)]
-fn check<R: Files + Print + Eprint + AllocGlobal + Clock + Threads + Sync>(
+fn check<R: Print + Eprint + AllocGlobal + Clock + Threads + Sync, I: Read + Drop>(
+    rt: &R,
+    image: I,
+    shown: Shown,
+) -> ExitCode {
+    let mut image = image_source(rt, image, shown);
+    let mut output = Telling::new(Counting::new(io::writer(rt)));
+    match check_text(rt, rt.alloc(), &mut image, &mut output) {
+        Ok(()) => ExitCode::SUCCESS,
+        Err(fault) => report(rt, &StoredRunFault::Run(fault)),
+    }
+}
+
+/// Checks the image of a name.
+fn check_line<R: Files + Input + Print + Eprint + AllocGlobal + Clock + Threads + Sync>(
     rt: &R,
     image: &str,
     shown: Shown,
@@ -99,14 +111,12 @@ fn check<R: Files + Print + Eprint + AllocGlobal + Clock + Threads + Sync>(
 where
     R::File: Drop,
 {
-    let Ok(image_file) = fs::open(rt, image) else {
-        return cannot_open(rt, image);
-    };
-    let mut image = image_source(rt, image_file, shown);
-    let mut output = Telling::new(Counting::new(io::writer(rt)));
-    match check_text(rt, rt.alloc(), &mut image, &mut output) {
-        Ok(()) => ExitCode::SUCCESS,
-        Err(fault) => report(rt, &StoredRunFault::Run(fault)),
+    if is_standard_input(image) {
+        return check(rt, rt.reader(), shown);
+    }
+    match open_input(rt, image) {
+        Ok(file) => check(rt, file, shown),
+        Err(error) => cannot_open(rt, image, &error),
     }
 }
 
@@ -129,22 +139,20 @@ fn make<R: Print + Eprint + AllocGlobal + Clock>(
     }
 }
 
+/// Answers commands on the database of an image.
 #[inline(never)]
 fn serve_commands<R: Files + Input + Print + Eprint + AllocGlobal + Host, G: Observer>(
     runtime: &Runtime<'_, R, G>,
-    image: &str,
+    image: R::File,
 ) -> ExitCode
 where
     R::File: Drop,
 {
     let rt = runtime.rt;
-    let Ok(image_file) = fs::open(rt, image) else {
-        return cannot_open(rt, image);
-    };
-    let mut image_source = Counting::new(image_file);
+    let mut image = Counting::new(image);
     let mut input = Counting::new(rt.reader());
     let mut output = Telling::new(Counting::new(io::writer(rt)));
-    match serve(runtime, &mut image_source, &mut input, &mut output) {
+    match serve(runtime, &mut image, &mut input, &mut output) {
         Ok(()) => ExitCode::SUCCESS,
         Err(fault) => report(rt, &StoredRunFault::Run(fault)),
     }
@@ -156,17 +164,20 @@ fn words_unread(rt: &impl Eprint, fault: WordsFault) -> ExitCode {
     ExitCode::from(2)
 }
 
-/// Reports why the command line is refused, or prints help.
+/// Reports why the command line is refused, or prints help; it is a failure if that can't be printed.
 fn explain<R: Print + Eprint>(rt: &R, fault: &LineFault) -> ExitCode {
+    let status = line_status(fault);
     match fault {
         LineFault::Refused(error) => {
-            let _ = error.print(rt);
+            if error.print(rt).is_err() && status == 0 {
+                return ExitCode::FAILURE;
+            }
         }
         LineFault::Unread => {
             let _ = eprintln!(rt; "eve-tpcc: command line: {}", WordsFault::Memory);
         }
     }
-    ExitCode::from(line_status(fault))
+    ExitCode::from(status)
 }
 
 /// Reports that standard input is named twice, or already has the commands.
@@ -183,7 +194,52 @@ fn text_of(text: &Option<String>) -> Option<&str> {
 }
 
 /// Runs batches with these options from a stamp on, if there is one.
-fn run_with<R: Files + Print + Eprint + AllocGlobal + Clock + Host, G: Observer>(
+fn run_with<
+    R: Files + Print + Eprint + AllocGlobal + Clock + Host,
+    I: Read + Drop,
+    B: Read + Drop,
+    G: Observer,
+>(
+    runtime: &Runtime<'_, R, G>,
+    image: I,
+    batches: B,
+    options: &RunOptions<'_>,
+    from: &Option<Stamp>,
+) -> ExitCode
+where
+    R::File: Drop,
+    requires { IfSome from.now IsWithinLimits }
+{
+    match (options.store, from, options.at) {
+        (Some(path), None, false) => run_stored(runtime, image, batches, path, options.shown),
+        (Some(path), _, _) => run_resumed(runtime, image, batches, path, options, from),
+        (None, _, _) => run_unstored(runtime, image, batches, options, from),
+    }
+}
+
+/// Runs the batches of a name on the database of an image.
+fn run_on_image<R: System, I: Read + Drop, G: Observer>(
+    runtime: &Runtime<'_, R, G>,
+    image: I,
+    options: &RunOptions<'_>,
+    from: &Option<Stamp>,
+) -> ExitCode
+where
+    R::File: Drop,
+    requires { IfSome from.now IsWithinLimits }
+{
+    let rt = runtime.rt;
+    if is_standard_input(options.batches) {
+        return run_with(runtime, image, rt.reader(), options, from);
+    }
+    match open_input(rt, options.batches) {
+        Ok(batches) => run_with(runtime, image, batches, options, from),
+        Err(error) => cannot_open(rt, options.batches, &error),
+    }
+}
+
+/// Runs the batches of a name on the database of the image of a name.
+fn run_named<R: System, G: Observer>(
     runtime: &Runtime<'_, R, G>,
     options: &RunOptions<'_>,
     from: &Option<Stamp>,
@@ -192,15 +248,18 @@ where
     R::File: Drop,
     requires { IfSome from.now IsWithinLimits }
 {
-    let (image, batches, shown) = (options.image, options.batches, options.shown);
-    match (options.store, from, options.at) {
-        (Some(path), None, false) => run_stored(runtime, image, batches, path, shown),
-        _ => run_resumed(runtime, options, from),
+    let rt = runtime.rt;
+    if is_standard_input(options.image) {
+        return run_on_image(runtime, rt.reader(), options, from);
+    }
+    match open_input(rt, options.image) {
+        Ok(image) => run_on_image(runtime, image, options, from),
+        Err(error) => cannot_open(rt, options.image, &error),
     }
 }
 
 /// Runs batches on the database of an image, and then prints statistics if wanted. One of the two files may be standard input.
-fn run_line<R: Files + Print + Eprint + AllocGlobal + Clock + Host>(
+fn run_line<R: System>(
     rt: &R,
     options: &RunOptions<'_>,
     workers: Workers,
@@ -217,11 +276,6 @@ where
         Ok(from) => from,
         Err(status) => return status,
     };
-    let options = RunOptions {
-        image: path_of(options.image),
-        batches: path_of(options.batches),
-        ..*options
-    };
     let statistics = Statistics::new(rt, stats);
     let runtime = Runtime {
         rt,
@@ -229,7 +283,7 @@ where
         workers,
         gate: &statistics,
     };
-    let status = run_with(&runtime, &options, &from);
+    let status = run_named(&runtime, options, &from);
     statistics.print();
     status
 }
@@ -244,9 +298,14 @@ where
     R::File: Drop,
     requires { IfSome from.now IsWithinLimits }
 {
+    let rt = runtime.rt;
+    let file = match open_input(rt, image) {
+        Ok(file) => file,
+        Err(error) => return cannot_open(rt, image, &error),
+    };
     match from {
-        None => serve_commands(runtime, image),
-        Some(_) => serve_from(runtime, image, from),
+        None => serve_commands(runtime, file),
+        Some(_) => serve_from(runtime, file, from),
     }
 }
 
@@ -281,11 +340,6 @@ where
     status
 }
 
-/// What a command line may need of the runtime.
-trait System: Files + Input + Print + Eprint + AllocGlobal + Clock + Host {}
-
-impl<R: Files + Input + Print + Eprint + AllocGlobal + Clock + Host> System for R {}
-
 /// Does what a command line asks.
 fn perform<R: System>(rt: &R, line: &Line, shown: Shown) -> ExitCode
 where
@@ -311,7 +365,7 @@ where
             };
             run_line(rt, &options, *workers, text_of(from), *stats)
         }
-        Line::Check { image } => check(rt, path_of(image.as_str()), shown),
+        Line::Check { image } => check_line(rt, image.as_str(), shown),
         Line::Make {
             warehouses,
             customers,
@@ -326,7 +380,24 @@ where
     }
 }
 
+/// Touches so many frames of 32 KB of the stack. It returns a number of no meaning.
+#[inline(never)]
+fn touch_stack(frames: u8) -> u8 {
+    let frame = [frames; 32_768];
+    let touched = black_box(&frame)[usize::from(frames)];
+    match frames.checked_sub(1) {
+        Some(fewer) => touch_stack(fewer).wrapping_add(touched),
+        None => touched,
+    }
+}
+
+/// The frames that the deepest call needs. They are touched before anything is allocated, since a stack that can't grow later, for lack of
+/// memory, ends a program without a message.
+const FRAMES: u8 = 10;
+
 fn main(rt: HostRuntime) -> ExitCode {
+    let _ = black_box(touch_stack(FRAMES));
+    let _held = hold_closed(&rt);
     let shown = Shown::on(&rt.stderr());
     let words = match words_of(&rt, rt.alloc()) {
         Ok(words) => words,

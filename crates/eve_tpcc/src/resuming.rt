@@ -3,23 +3,23 @@ ghost use Rattle.std.specs.Prelude.{◌≡◌, ◌≤◌, [], IfOk, IfSome};
 ghost use Rattle.executor.specs.Stamps.{IsWithinLimits};
 ghost use Rattle.executor.specs.States.{IsSoundState};
 
-use crate::progress::Shown;
-use crate::store_file::{StoreFile, open_store};
 use crate::streams::{batches_source, image_source, reply_sink};
-use crate::{cannot_create, cannot_open, report};
+use crate::{cannot_create, report};
 use executor::{Executor, NumbersTaken, Stamp};
 use hashers::Host;
+use progress::progress::Shown;
+use progress::store_file::{StoreFile, open_store};
 use records::io::Counting;
 use runner::stamp_text::{stamp_line, stamp_of};
 use runner::{
     Observer, Phase, ResumedFault, RunFault, StoredRunFault, load_told, run_and_store_on, run_from,
 };
 use session::serve_on;
-use std::io::Input;
+use std::io::{Input, Read};
 use std::process::ExitCode;
 use std::rt::Files;
 use std::time::Clock;
-use std::{fs, io, str};
+use std::{io, str};
 use telling::Telling;
 use workers::Runtime;
 
@@ -87,24 +87,28 @@ pub struct RunOptions<'a> {
 
 /// Runs batches from the executor's present state on, and stores the last state in a file.
 #[inline(never)]
-fn run_and_store_batches<R: Files + Print + Eprint + AllocGlobal + Clock + Host, G: Observer>(
+fn run_and_store_batches<
+    R: Files + Print + Eprint + AllocGlobal + Clock + Host,
+    B: Read + Drop,
+    G: Observer,
+>(
     runtime: &Runtime<'_, R, G>,
     executor: &mut Executor,
-    batches: R::File,
-    store: StoreFile<R::File>,
-    options: &RunOptions<'_>,
+    batches: B,
+    store: &mut StoreFile<R::File>,
+    shown: Shown,
 ) -> Result<u64, StoredRunFault>
 where
     R::File: Drop,
     requires alone { executor.old.earlier ≡ [] }
     requires sound { IsSoundState executor.old.cards executor.old.present }
     requires low { 1 ≤ executor.old.present.next }
+    requires store { store.old.file.inner.failures ≡ 0 }
 {
     let rt = runtime.rt;
-    let mut batches = batches_source(rt, batches, options.shown);
-    let mut output = reply_sink(rt, io::writer(rt), options.shown);
-    let mut tables = Telling::new(Counting::new(store));
-    run_and_store_on(runtime, executor, &mut batches, &mut output, &mut tables)
+    let mut batches = batches_source(rt, batches, shown);
+    let mut output = reply_sink(rt, io::writer(rt), shown);
+    run_and_store_on(runtime, executor, &mut batches, &mut output, store)
 }
 
 /// Whether a run left its executor at the state whose token and image were written.
@@ -117,11 +121,11 @@ fn is_left_whole(ran: &Result<u64, StoredRunFault>) -> bool {
 }
 
 /// Runs batches on a loaded executor, and prints the last state's stamp if asked.
-fn run_loaded<R: Files + Print + Eprint + AllocGlobal + Clock + Host, G: Observer>(
+fn run_loaded<R: Files + Print + Eprint + AllocGlobal + Clock + Host, B: Read + Drop, G: Observer>(
     runtime: &Runtime<'_, R, G>,
     executor: &mut Executor,
-    batches: R::File,
-    store: StoreFile<R::File>,
+    batches: B,
+    store: &mut StoreFile<R::File>,
     options: &RunOptions<'_>,
     from: &Option<Stamp>,
 ) -> ExitCode
@@ -131,12 +135,13 @@ where
     requires sound { IsSoundState executor.old.cards executor.old.present }
     requires low { 1 ≤ executor.old.present.next }
     requires within { IfSome from.now IsWithinLimits }
+    requires store { store.old.file.inner.failures ≡ 0 }
 {
     let rt = runtime.rt;
     if let Err(status) = resume(rt, executor, from) {
         return status;
     }
-    let ran = run_and_store_batches(runtime, executor, batches, store, options);
+    let ran = run_and_store_batches(runtime, executor, batches, store, options.shown);
     if options.at && is_left_whole(&ran) {
         tell(rt, &executor.stamp());
     }
@@ -146,31 +151,20 @@ where
     }
 }
 
-/// Opens the file for the image of the last state, if there is to be one.
-fn store_of<R: Files + Eprint>(
-    rt: &R,
-    path: Option<&str>,
-) -> Result<Option<StoreFile<R::File>>, ExitCode> {
-    let Some(path) = path else {
-        return Ok(None);
-    };
-    match open_store(rt, path) {
-        Ok(file) => Ok(Some(file)),
-        Err(_) => Err(cannot_create(rt, path)),
-    }
-}
-
 /// Runs batches on the database of an image from a stamp on, if there is one, and prints the last state's stamp if asked.
 #[inline(never)]
-fn run_unstored<R: Files + Print + Eprint + AllocGlobal + Clock + Host, G: Observer>(
+pub fn run_unstored<
+    R: Print + Eprint + AllocGlobal + Clock + Host,
+    I: Read + Drop,
+    B: Read + Drop,
+    G: Observer,
+>(
     runtime: &Runtime<'_, R, G>,
-    image: R::File,
-    batches: R::File,
+    image: I,
+    batches: B,
     options: &RunOptions<'_>,
     from: &Option<Stamp>,
 ) -> ExitCode
-where
-    R::File: Drop,
     requires { IfSome from.now IsWithinLimits }
 {
     let rt = runtime.rt;
@@ -190,10 +184,19 @@ where
     }
 }
 
-/// Runs batches on the database of an image, whose state has the given stamp; without one it is a state before any batch.
+/// Runs batches on the database of an image, whose state has the given stamp, and stores the last state in the file at `path`; without a
+/// stamp the first state is one before any batch.
 #[inline(never)]
-pub fn run_resumed<R: Files + Print + Eprint + AllocGlobal + Clock + Host, G: Observer>(
+pub fn run_resumed<
+    R: Files + Print + Eprint + AllocGlobal + Clock + Host,
+    I: Read + Drop,
+    B: Read + Drop,
+    G: Observer,
+>(
     runtime: &Runtime<'_, R, G>,
+    image: I,
+    batches: B,
+    path: &str,
     options: &RunOptions<'_>,
     from: &Option<Stamp>,
 ) -> ExitCode
@@ -202,22 +205,15 @@ where
     requires { IfSome from.now IsWithinLimits }
 {
     let rt = runtime.rt;
-    let Ok(image) = fs::open(rt, options.image) else {
-        return cannot_open(rt, options.image);
-    };
-    let Ok(batches) = fs::open(rt, options.batches) else {
-        return cannot_open(rt, options.batches);
-    };
-    let store = match store_of(rt, options.store) {
-        Ok(Some(store)) => store,
-        Ok(None) => return run_unstored(runtime, image, batches, options, from),
-        Err(status) => return status,
+    let mut store = match open_store(rt, path) {
+        Ok(store) => store,
+        Err(error) => return cannot_create(rt, path, &error),
     };
     let mut image = image_source(rt, image, options.shown);
     runtime.gate.begins(Phase::Load);
     let mut loaded = load_told(rt, runtime.alloc, &mut image);
     match &mut loaded {
-        Ok(executor) => run_loaded(runtime, executor, batches, store, options, from),
+        Ok(executor) => run_loaded(runtime, executor, batches, &mut store, options, from),
         Err(fault) => report(rt, &StoredRunFault::Run(*fault)),
     }
 }
@@ -249,7 +245,7 @@ fn serve_loaded<R: Input + Print + Eprint + AllocGlobal + Host, G: Observer>(
 #[inline(never)]
 pub fn serve_from<R: Files + Input + Print + Eprint + AllocGlobal + Host, G: Observer>(
     runtime: &Runtime<'_, R, G>,
-    image: &str,
+    image: R::File,
     from: &Option<Stamp>,
 ) -> ExitCode
 where
@@ -257,10 +253,7 @@ where
     requires { IfSome from.now IsWithinLimits }
 {
     let rt = runtime.rt;
-    let Ok(image_file) = fs::open(rt, image) else {
-        return cannot_open(rt, image);
-    };
-    let mut image_source = Telling::new(Counting::new(image_file));
+    let mut image_source = Telling::new(Counting::new(image));
     runtime.gate.begins(Phase::Load);
     let mut loaded = load_told(rt, runtime.alloc, &mut image_source);
     match &mut loaded {

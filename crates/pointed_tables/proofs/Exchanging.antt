@@ -1,5 +1,5 @@
 -- Changes made in exchange for what their keys had, and the logs of them.
-use Rattle.std.proofs.Common.{◌≡◌, ℕ, zero, suc, true, ◌<◌, ◌≤◌, ◌+◌, ◌||◌, eqb, List, [], ◌∷◌, ◌++◌, Option, take, drop, length, get_or, set, refl, sym, ap, subst, ◌∙◌, arith, add-one, drop-cons, drop-set-lt, take-suc, take-suc-set}
+use Rattle.std.proofs.Common.{◌≡◌, ℕ, zero, suc, true, is_some, ◌<◌, ◌≤◌, ◌+◌, ◌||◌, eqb, List, [], ◌∷◌, ◌++◌, Option, take, drop, length, get_or, get_or-set_same, set, refl, sym, ap, subst, ◌∙◌, arith, add-one, drop-cons, drop-set-lt, take-suc, take-suc-set}
 use Rattle.std.proofs.lemmas.List.{length-set}
 use Rattle.std.specs.List.{list_all, list_any}
 use Rattle.serializability.specs.Changes.{apply, changed}
@@ -12,8 +12,11 @@ use Rattle.tpcc_rows.specs.RowMap.{Rows}
 use Rattle.tpcc_rows.proofs.Singles.{and-left, and-right}
 use Rattle.rollback.specs.Marks.{HasAlso, is_dirty}
 use Rattle.rollback.proofs.Marking.{marks-more}
+use Rattle.pointed_tables.specs.declared.bounds.Bounds.{Bounds}
 use Rattle.pointed_tables.specs.declared.log.Log.{Log}
-use Rattle.pointed_tables.specs.Logs.{AreMade, AreOlds, IsExchanged, IsLogOf, IsSame, IsStep, LeadBack, Olds, needed, undone, wants}
+use Rattle.pointed_tables.specs.Bounds.{IsLowered, may_be_noted}
+use Rattle.pointed_tables.specs.Logs.{AreMade, AreOlds, AreWithin, IsBounded, IsExchanged, IsLogOf, IsSame, IsStep, LeadBack, Olds, needed, undone, wants}
+use Rattle.pointed_tables.proofs.Bounding.{within-lowered, within-more}
 use Rattle.pointed_tables.proofs.Undoing.{changed-back, clean-more, needed-more, olds-more, undone-more}
 
 -- a change made in exchange for what its key had leads back to it
@@ -116,6 +119,24 @@ module _ (cs es : Olds) (n removals : ℕ) (old new : Rows) (before after : List
       few = (let so_far = h.few in omega (arith, so_far, few));
     }
 
+-- the bounds are lowered to what the first n keys had
+pub record AreLowered (start bounds : Bounds) (es : Olds) (n : ℕ) : Type 0 where
+  pub lowered : IsLowered start bounds
+  pub within : AreWithin bounds (take n es)
+
+pub none-lowered : (bounds : Bounds) (es : Olds) → AreLowered bounds bounds es 0
+none-lowered bounds es = record { lowered = λ k may. may; within = tt }
+
+pub more-lowered : (start bounds later : Bounds) (es : Olds) (y z : RowKey × Option Row) (n : ℕ) → n < length es → z ≡ get_or (set es n y) n z → IsLowered bounds later
+    → (is_some z.1 ≡ true → may_be_noted later z.0 ≡ true) → AreLowered start bounds es n → AreLowered start later (set es n y) (n + 1)
+more-lowered start bounds later es y z n below at lowered noted h = record {
+  lowered = λ k may. lowered k (h.lowered k may);
+  within =
+      subst (AreWithin later) (sym (ap (λ k. take k (set es n y)) (add-one n) ∙ take-suc-set es n y below))
+      (within-more later (take n es) y (within-lowered bounds later (take n es) lowered h.within)
+      (subst (λ (x : RowKey × Option Row). is_some x.1 ≡ true → may_be_noted later x.0 ≡ true) (at ∙ get_or-set_same es n y z below) noted));
+}
+
 -- ---- a log behind another
 undone-append : (os ps : Olds) (m : Rows) → undone (os ++ ps) m ≡ undone os (undone ps m)
 undone-append [] ps m = refl
@@ -138,11 +159,13 @@ step-same old new m m2 e s = record {
   log = λ h. record {
     fit = subst AreOlds (sym s.olds) h.fit;
     counted = ap (λ (os : Olds). needed os m2) s.olds ∙ ap (λ (z : Rows). needed old.olds.items z) e ∙ h.counted ∙ sym s.removals;
+    bounded = s.bounded h.bounded;
   };
 }
 
-pub step-appended : (old new : Log) (later : Olds) (removals : ℕ) (m m2 : Rows) → new.olds.items ≡ old.olds.items ++ later → new.removals ≡ old.removals + removals → LeadBack later removals m m2 → IsStep old new m m2
-step-appended old new later removals m m2 olds count h = record { back = back; log = log }
+pub step-appended : (old new : Log) (later : Olds) (removals : ℕ) (m m2 : Rows) → new.olds.items ≡ old.olds.items ++ later → new.removals ≡ old.removals + removals → (IsBounded old → IsBounded new) → LeadBack later removals m m2
+    → IsStep old new m m2
+step-appended old new later removals m m2 olds count bounded h = record { back = back; log = log }
   where
     back : undone new.olds.items m2 ≡ undone old.olds.items m
     back = ap (λ (os : Olds). undone os m2) olds ∙ undone-append old.olds.items later m2 ∙ ap (λ (z : Rows). undone old.olds.items z) h.back
@@ -154,4 +177,5 @@ step-appended old new later removals m m2 olds count h = record { back = back; l
           ap (λ (os : Olds). needed os m2) olds ∙ needed-append old.olds.items later m2
           ∙ ap (λ (z : Rows). needed old.olds.items z + needed later m2) h.back ∙ ap (λ k. k + needed later m2) is.counted
           ∙ ap (λ k. old.removals + k) h.counted ∙ sym count;
+      bounded = bounded is.bounded;
     }

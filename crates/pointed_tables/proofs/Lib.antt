@@ -1,6 +1,7 @@
 mod Besides
 mod Picking
 mod Placing
+mod Bounding
 mod Undoing
 mod Replacing
 mod Exchanging

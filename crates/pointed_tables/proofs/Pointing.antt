@@ -12,6 +12,7 @@ use Rattle.rollback.specs.Marks.{HasAlso, is_dirty}
 use Rattle.rollback.specs.Pointed.{KeepsCleanLeaves, Pointed, first_or}
 use Rattle.rollback.proofs.Marking.{keeps-changed}
 use Rattle.pointed_tables.specs.declared.log.Log.{Log}
+use Rattle.pointed_tables.proofs.Bounding.{bounded-none}
 use Rattle.pointed_tables.specs.Logs.{AreLogs, AreOlds, IsLogOf, IsPointed, IsStep, Olds, held, needed, points_of, undone}
 
 -- ---- a change that was made or refused
@@ -93,6 +94,7 @@ module _ (l : Log) (m : Rows) (olds : l.olds.items ≡ []) (none : l.removals �
   nothing-of = record {
     fit = subst AreOlds (sym olds) tt;
     counted = ap (λ (os : Olds). needed os m) olds ∙ sym none;
+    bounded = bounded-none l olds;
   }
 
   pub points-mark : (ls : List Log) → points_of (ls ++ l ∷ []) m ≡ points_of ls m ++ m ∷ []

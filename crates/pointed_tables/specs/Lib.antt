@@ -1,2 +1,4 @@
 pub mod Aside
+pub mod Bounds
 pub mod Logs
+pub mod Returns

@@ -1,5 +1,5 @@
 -- Rows as they were before the changes of logs.
-use Rattle.std.specs.Prelude.{◌≡◌, ◌≤◌, ◌+◌, ◌||◌, ℕ, Bool, ⊤, true, false, cond, eqb, is_some, length, take, List, [], ◌∷◌, Option, Some, None}
+use Rattle.std.specs.Prelude.{◌≡◌, ◌≤◌, ◌+◌, ◌||◌, ℕ, Bool, ⊤, true, false, cond, eqb, is_some, length, take, drop, All, List, [], ◌∷◌, Option, Some, None}
 use Rattle.std.specs.FinMap as map
 use Rattle.std.specs.List.{list_any}
 use Rattle.serializability.specs.Changes.{apply, changed}
@@ -10,7 +10,9 @@ use Rattle.tpcc_rows.specs.Leaves.{leaf, page_rows}
 use Rattle.tpcc_rows.specs.RowKinds.{fits}
 use Rattle.tpcc_rows.specs.RowMap.{Rows}
 use Rattle.rollback.specs.Marks.{is_dirty}
-use Rattle.rollback.specs.Pointed.{first_or}
+use Rattle.rollback.specs.Pointed.{Pointed, first_or}
+use Rattle.pointed_tables.specs.Bounds.{may_be_noted}
+use Rattle.pointed_tables.specs.declared.bounds.Bounds.{Bounds}
 use Rattle.pointed_tables.specs.declared.log.Log.{Log}
 
 -- keys with what they had
@@ -37,15 +39,25 @@ abbrev pub AreOlds : Olds → Type 0
 AreOlds [] = ⊤
 AreOlds (old ∷ olds) = (new_row_fits old.0 old.1 ≡ true) × AreOlds olds
 
+-- by these bounds each of the rows may have been noted
+abbrev pub AreWithin : Bounds → Olds → Type 0
+AreWithin bounds [] = ⊤
+AreWithin bounds (old ∷ olds) = (is_some old.1 ≡ true → may_be_noted bounds old.0 ≡ true) × AreWithin bounds olds
+
+abbrev pub IsBounded : Log → Type 0
+IsBounded log = AreWithin log.bounds log.olds.items
+
 -- a log that leads back from these rows, with the number of rows that come back to keys without one
 pub record IsLogOf (log : Log) (rows : Rows) : Type 0 where
   pub fit : AreOlds log.olds.items
   pub counted : needed log.olds.items rows ≡ log.removals
+  pub bounded : IsBounded log
 
 -- a log with the same changes
 pub record IsSame (old new : Log) : Type 0 where
   pub olds : new.olds.items ≡ old.olds.items
   pub removals : new.removals ≡ old.removals
+  pub bounded : IsBounded old → IsBounded new
 
 -- a leaf that isn't marked afterwards wasn't before, and has the rows that it had
 abbrev pub KeepsOthers : List ℕ → List ℕ → Rows → Rows → Type 0
@@ -110,3 +122,8 @@ held (log ∷ logs) = log.removals + held logs
 pub record IsPointed (logs : List Log) (rows : Rows) (room : ℕ) : Type 0 where
   pub are_logs : AreLogs logs rows
   pub enough : held logs ≡ room
+
+-- the key has no row, and had none at any point but the oldest
+pub record IsGone (key : RowKey) (store : Pointed) : Type 0 where
+  pub present : map.get store.rows key ≡ None
+  pub before : All (λ (rows : Rows). map.get rows key ≡ None) (drop 1 store.points)

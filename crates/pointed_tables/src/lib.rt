@@ -2,6 +2,7 @@
 #![tactic(auto)]
 
 pub mod aside;
+pub mod bounds;
 pub mod log;
 pub mod picks;
 pub mod pointed;

@@ -7,8 +7,11 @@ ghost use Rattle.tpcc_rows.specs.Changing.{change_fits};
 ghost use Rattle.tpcc_rows.specs.Leaves.{leaf};
 ghost use Rattle.tpcc_rows.specs.RowKinds.{fits};
 ghost use Rattle.rollback.specs.Marks.{HasAlso};
-ghost use Rattle.pointed_tables.specs.Logs.{AreMade, IsExchanged, IsLogOf, IsReplaced, IsSame, IsStep, KeepsOthers, LeadBack, undone};
+ghost use Rattle.pointed_tables.specs.Bounds.{IsLowered};
+ghost use Rattle.pointed_tables.specs.Logs.{AreMade, AreWithin, IsBounded, IsExchanged, IsLogOf, IsReplaced, IsSame, IsStep, KeepsOthers, LeadBack, undone};
+ghost use Rattle.pointed_tables.specs.Returns.{may_bring_back};
 
+use crate::bounds::Bounds;
 use crate::roomy::RoomyTables;
 use rollback::Dirty;
 use row_tables::table_row::TableRow;
@@ -24,6 +27,8 @@ use tpcc_rows::row::Row;
 pub struct Log {
     olds: Vec<(RowKey, Option<Row>)>,
     removals: usize,
+    /// Which rows are not among the old ones.
+    bounds: Bounds,
 }
 
 impl Log {
@@ -35,6 +40,7 @@ impl Log {
         Log {
             olds: Vec::new(alloc),
             removals: 0,
+            bounds: Bounds::new(alloc),
         }
     }
 
@@ -55,11 +61,16 @@ impl Log {
         self.removals
     }
 
-    /// The number of changes.
-    pub(crate) fn len(&self) -> usize
-        ensures { result ≡ length self.now.olds.items }
+    /// What the keys had.
+    pub(crate) fn as_slice(&self) -> &[(RowKey, Option<Row>)] {
+        self.olds.as_slice()
+    }
+
+    /// Whether the key may have had a row.
+    pub(crate) fn may_bring_back(&self, key: &RowKey) -> bool
+        ensures { result ≡ may_bring_back key.now self.now }
     {
-        self.olds.len()
+        self.bounds.may_be_noted(key)
     }
 
     /// Makes room for so many changes more.
@@ -71,19 +82,22 @@ impl Log {
         if self.removals.checked_add(count).is_none() {
             return Err(Memory);
         }
+        if self.olds.is_empty() {
+            self.bounds.begin()?;
+        }
         self.olds.reserve(count)?;
         Ok(())
     }
 
-    /// Adds the changes of a later log, for which there is room.
-    fn append(&mut self, later: Log)
-        requires room { vec_len self.old.olds + vec_len later.olds ≤ vec_capacity self.old.olds }
-        requires few { self.old.removals + later.removals < 2 ^ 64 }
-        ensures olds { self.new.olds.items ≡ self.old.olds.items ++ later.olds.items }
-        ensures removals { self.new.removals ≡ self.old.removals + later.removals }
+    /// Adds what keys had before later changes, for which there is room and within the bounds, with the number of removals.
+    fn append(&mut self, mut later: Vec<(RowKey, Option<Row>)>, removals: usize)
+        requires room { vec_len self.old.olds + vec_len later ≤ vec_capacity self.old.olds }
+        requires few { self.old.removals + removals < 2 ^ 64 }
+        ensures olds { self.new.olds.items ≡ self.old.olds.items ++ later.items }
+        ensures removals { self.new.removals ≡ self.old.removals + removals }
+        ensures bounds { self.new.bounds ≡ self.old.bounds }
     {
-        let Log { mut olds, removals } = later;
-        let _ = self.olds.append(&mut olds);
+        let _ = self.olds.append(&mut later);
         self.removals += removals;
     }
 
@@ -93,7 +107,9 @@ impl Log {
         requires few { self.old.removals + removed < 2 ^ 64 }
         ensures olds { self.new.olds.items ≡ self.old.olds.items ++ was ∷ [] }
         ensures removals { self.new.removals ≡ self.old.removals + removed }
+        ensures bounded { IsBounded self.old → IsBounded self.new }
     {
+        self.bounds.note(&was);
         self.olds.push_reserved(was);
         self.removals += removed;
     }
@@ -132,31 +148,37 @@ pub(crate) fn exchange(
     Ok(rows_removed(is_removal, row))
 }
 
-/// Makes the changes, or the first of them if memory is refused. Returns a log of what the keys had. Their leaves are dirty from now
-/// on.
+/// Makes the changes, or the first of them if memory is refused, and lowers the bounds to what the keys had. Returns that, with the
+/// number of removals. Their leaves are dirty from now on.
 pub(crate) fn exchange_all(
     store: &mut RoomyTables,
     dirty: &mut Dirty,
     changes: Vec<(RowKey, Option<Row>)>,
-) -> Log
+    bounds: &mut Bounds,
+) -> (Vec<(RowKey, Option<Row>)>, usize)
     requires { list_all change_fits changes.items ≡ true }
-    ensures made { AreMade changes.items (length result.olds.items) store.old.rows store.new.rows dirty.old dirty.new }
-    ensures back { LeadBack result.olds.items result.removals store.old.rows store.new.rows }
-    ensures room { store.new.room ≡ store.old.room + result.removals }
-    ensures few { result.removals ≤ length result.olds.items }
+    ensures made { AreMade changes.items (length result.0.items) store.old.rows store.new.rows dirty.old dirty.new }
+    ensures back { LeadBack result.0.items result.1 store.old.rows store.new.rows }
+    ensures room { store.new.room ≡ store.old.room + result.1 }
+    ensures few { result.1 ≤ length result.0.items }
+    ensures within { AreWithin bounds.new result.0.items }
+    ensures lowered { IsLowered bounds.old bounds.new }
 {
     let mut olds = changes;
     let mut removals = 0;
     for n in 0..olds.len() {
         match exchange(store, dirty, &mut olds[n]) {
-            Ok(removed) => removals += removed,
+            Ok(removed) => {
+                removals += removed;
+                bounds.note(&olds[n]);
+            }
             Err(Memory) => {
                 olds.truncate(n);
-                return Log { olds, removals };
+                return (olds, removals);
             }
         }
     }
-    Log { olds, removals }
+    (olds, removals)
 }
 
 /// Makes the changes, or the first of them if memory is refused, and notes what the keys had. Returns how many were made.
@@ -174,9 +196,9 @@ pub(crate) fn exchange_noting(
     if log.prepare(changes.len()).is_err() {
         return 0;
     }
-    let later = exchange_all(store, dirty, changes);
+    let (later, removals) = exchange_all(store, dirty, changes, &mut log.bounds);
     let made = later.len();
-    log.append(later);
+    log.append(later, removals);
     made
 }
 

@@ -1,15 +1,17 @@
 //! Rows in tables, the points to which they can go back, and the leaves on which they have changed.
-ghost use Rattle.std.specs.Prelude.{◌≡◌, ◌<◌, ◌≤◌, ◌+◌, ◌↔◌, [], ◌∷◌, ◌++◌, take, drop, IfOk, IsErr, None, Some, OnOk, OnErr, is_none, is_some, length, option_map, slice_get, true};
+ghost use Rattle.std.specs.Prelude.{◌≡◌, ◌<◌, ◌≤◌, ◌+◌, ◌↔◌, [], ◌∷◌, ◌++◌, take, drop, IfOk, IsErr, None, Some, OnOk, OnErr, is_none, is_some, length, option_map, slice_get, false, true};
 ghost use Rattle.std.specs.FinMap as map;
-ghost use Rattle.std.specs.List.{list_all};
+ghost use Rattle.std.specs.List.{list_all, list_any};
 ghost use Rattle.serializability.specs.Changes.{changed};
 ghost use Rattle.tpcc_rows.specs.Changing.{IsMadeInPart, after, change_fits, new_row_fits};
 ghost use Rattle.tpcc_rows.specs.Leaves.{leaf};
 ghost use Rattle.tpcc_rows.specs.RowKinds.{fits};
 ghost use Rattle.rollback.specs.Marks.{AreClean, HasAlso, HasAlsoThose};
 ghost use Rattle.rollback.specs.Pointed.{KeepsCleanLeaves};
-ghost use Rattle.pointed_tables.specs.Logs.{AreMade, IsPointed, IsReplaced, points_of};
+ghost use Rattle.pointed_tables.specs.Logs.{AreMade, IsGone, IsPointed, IsReplaced, points_of};
+ghost use Rattle.pointed_tables.specs.Returns.{may_bring_back};
 
+use crate::bounds::Bounds;
 use crate::log::{
     Log, change_noting, exchange, exchange_all, exchange_noting, put_noting, replace_noting,
     undo_all,
@@ -57,6 +59,7 @@ impl Model for PointedTables {
 /// Makes the changes, or the first of them if memory is refused, and notes what the keys had in the newest log, if there is one.
 /// Returns how many were made.
 fn exchange_noting_newest(
+    alloc: Global,
     store: &mut RoomyTables,
     dirty: &mut Dirty,
     changes: Vec<(RowKey, Option<Row>)>,
@@ -71,9 +74,10 @@ fn exchange_noting_newest(
     if len > 0 {
         return exchange_noting(store, dirty, changes, &mut points[len - 1]);
     }
-    let log = exchange_all(store, dirty, changes);
-    store.release(log.removals());
-    log.len()
+    let mut bounds = Bounds::new(alloc);
+    let (olds, removals) = exchange_all(store, dirty, changes, &mut bounds);
+    store.release(removals);
+    olds.len()
 }
 
 /// Inserts or replaces the key's row, of whose kind it is, and notes what the key had in the newest log, if there is one.
@@ -147,6 +151,24 @@ fn replace_noting_newest<R: TableRow>(
     Ok(Some(row))
 }
 
+/// Whether one of the logs may bring a row of the key back.
+fn may_bring_back(logs: &[Log], key: &RowKey) -> bool
+    ensures { result ≡ list_any (may_bring_back key.now) logs.now }
+{
+    logs.iter().any(|log| log.may_bring_back(key))
+}
+
+/// Whether it is certain that the key has no row, and that none of the logs brings one back.
+fn is_gone_from(store: &RoomyTables, logs: &[Log], key: &RowKey) -> bool
+    ensures present { result ≡ true → map.get store.now.rows key.now ≡ None }
+    ensures noted { result ≡ true → list_any (may_bring_back key.now) logs.now ≡ false }
+{
+    if may_bring_back(logs, key) {
+        return false;
+    }
+    store.get(key).is_none()
+}
+
 impl PointedTables {
     /// The rows of a store; there is no point, and no leaf is dirty.
     pub fn new(alloc: Global, tables: RowTables) -> PointedTables
@@ -177,7 +199,13 @@ impl PointedTables {
         ensures points { self.new.points ≡ self.old.points }
     {
         let points = self.points.as_mut_slice();
-        exchange_noting_newest(&mut self.store, &mut self.dirty, changes, points)
+        exchange_noting_newest(
+            self.alloc,
+            &mut self.store,
+            &mut self.dirty,
+            changes,
+            points,
+        )
     }
 
     /// Gives the key this row, or none; its leaf is dirty from now on.
@@ -312,6 +340,25 @@ impl PointedTables {
         }
         self.push_point();
         Ok(())
+    }
+
+    /// The changes since the oldest point and before the next one, each as its key and what that had.
+    pub fn oldest_changes(&self) -> &[(RowKey, Option<Row>)] {
+        match self.points.as_slice().first() {
+            Some(log) => log.as_slice(),
+            None => &[],
+        }
+    }
+
+    /// Whether it is certain that the key has no row, and had none at any point but the oldest. It is, of a new order that was removed
+    /// before the next point, if the new orders of its district are removed in ascending order.
+    pub fn is_gone(&self, key: &RowKey) -> bool
+        ensures { result ≡ true → IsGone key.now self.now }
+    {
+        match self.points.as_slice().split_first() {
+            Some((_, later)) => is_gone_from(&self.store, later, key),
+            None => false,
+        }
     }
 
     /// Forgets the oldest point, of which there is one.

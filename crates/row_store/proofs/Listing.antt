@@ -1,21 +1,22 @@
 -- Ranks that stay listed.
-use Rattle.std.proofs.Common.{◌≡◌, ◌⊎◌, ℕ, zero, suc, cond, true, false, is_some, List, [], ◌∷◌, ◌++◌, take, drop, Option, Some, None, Result, refl, Ok, Err, inl, inr, sym, ap, subst, ◌∙◌, arith}
-use Rattle.std.proofs.lemmas.List.Elements.{All-append, All-cons, All-drop, All-nil, All-take}
+use Rattle.std.proofs.Common.{◌≡◌, ◌⊎◌, ◌↔◌, ℕ, zero, suc, cond, true, false, is_some, List, [], ◌∷◌, ◌++◌, take, drop, Option, Some, None, Result, refl, Ok, Err, inl, inr, sym, ap, subst, ◌∙◌, arith}
+use Rattle.std.proofs.lemmas.List.Elements.{All-append, All-cons, All-nil, All-take}
 use Rattle.std.specs.FinMap as map
 use Rattle.std.specs.FinMap.{entries, find, get, get-empty, get-entries, insert, remove}
 use Rattle.std.specs.List.{slice_get}
 use Rattle.std.specs.Option.{unwrap_or}
 use Rattle.std.specs.Prelude.{⊤, All}
-use Rattle.std.specs.Result.{IfOk, OnOk, OnErr}
+use Rattle.std.specs.Result.{IfOk, IsErr, OnOk, OnErr}
 use Rattle.serializability.specs.Changes.{apply, changed}
 use Rattle.std.specs.Ordering.{eq_by_cmp, nat_cmp}
 use Rattle.std.proofs.lemmas.Bool.{cases_Bool}
 use Rattle.rollback.specs.Pointed.{Pointed}
-use Rattle.pointed_tables.specs.Logs.{IsReplaced}
-use Rattle.row_store.specs.Leaves.{AreLeaves, AreListed, AreNewListed, AreRanks, IsListed}
+use Rattle.pointed_tables.specs.Logs.{IsGone, IsReplaced}
+use Rattle.row_store.specs.Leaves.{AreLeaves, AreListed, AreNewListed, AreRanks, IsListed, without_oldest}
 use Rattle.row_tables.specs.Stored.{IsRank}
 use Rattle.row_tables.proofs.Keyed.{same_key}
 use Rattle.tables.specs.ByRank.{ByRank}
+use Rattle.tables.proofs.RankKeys.{same_rank}
 use Rattle.tables.proofs.Tables.{rank_total, exact_ranks}
 use Rattle.tpcc_rows.specs.Changing.{IsMadeInPart, after}
 use Rattle.tpcc_rows.specs.Ranks.{IsNumbered, rank}
@@ -68,6 +69,38 @@ new-listed-still ranks new (c ∷ cs) others h = ((λ some. others c.0 (h.0 some
 new-listed-first : (ranks : ByRank ⊤) (made left : List (RowKey × Option Row)) → AreNewListed ranks (made ++ left) → AreNewListed ranks made
 new-listed-first ranks [] left h = tt
 new-listed-first ranks (c ∷ made) left h = (h.0, new-listed-first ranks made left h.1)
+
+-- ---- one rank less
+module _ (ranks : ByRank ⊤) (k : RowKey) (numbered : IsNumbered k) where
+  abbrev less : ByRank ⊤
+  less = remove ranks (rank k)
+
+  keys-less : AreRanks ranks → AreRanks less
+  keys-less keys r there = elim (single.same_key rank_total exact_ranks r (rank k)) [
+    | inl is ↦ (let wrong : false ≡ true = ap is_some (sym (ap (get less) is ∙ single.gone rank_total exact_ranks ranks (rank k))) ∙ there in cc)
+    | inr apart ↦ keys r (ap is_some (sym (single.left rank_total exact_ranks ranks (rank k) r apart)) ∙ there)
+  ]
+
+  listed-less : (rows : Rows) → get rows k ≡ None → AreListed ranks rows → AreListed less rows
+  listed-less rows none h = record {
+    listed = λ q there.
+        let was = h.listed q there in
+        record {
+          numbered = was.numbered;
+          there = elim (single.same_key rank_total exact_ranks (rank q) (rank k)) [
+            | inl is ↦ (let wrong : false ≡ true = ap is_some (sym (ap (get rows) (same_rank q k was.numbered numbered is) ∙ none)) ∙ there in cc)
+            | inr apart ↦ ap is_some (single.left rank_total exact_ranks ranks (rank k) (rank q) apart) ∙ was.there
+          ];
+        };
+  }
+
+-- a rank that only the oldest point needs
+pub leaves-less : (ranks next : ByRank ⊤) (k : RowKey) (s : Pointed) → IsNumbered k → next ≡ remove ranks (rank k) → IsGone k s → AreLeaves ranks (without_oldest s) → AreLeaves next (without_oldest s)
+leaves-less ranks next k s numbered is gone h = subst (λ (m : ByRank ⊤). AreLeaves m (without_oldest s)) (sym is) (record {
+  keys = keys-less ranks k numbered h.keys;
+  present = listed-less ranks k numbered s.rows gone.present h.present;
+  before = λ i d below. listed-less ranks k numbered _ (gone.before i d below) (h.before i d below);
+})
 
 -- ---- rows after a change
 pub listed-insert : (ranks : ByRank ⊤) (rows : Rows) (k : RowKey) (x : Row) → IsListed ranks k → AreListed ranks rows → AreListed ranks (insert rows k x)
@@ -153,10 +186,6 @@ module _ (ranks : ByRank ⊤) (a b : Pointed) (h : AreLeaves ranks a) where
     leaves-marked (Ok u) points rows err = leaves-with (same-rows rows) (subst (All (AreListed ranks)) (sym points) (All-append (AreListed ranks) a.points (a.rows ∷ []) h.before (All-cons (AreListed ranks) a.rows [] h.present (All-nil (AreListed ranks)))))
     leaves-marked (Err e) points rows err = leaves-is err
 
-    pub leaves-dropped : (r : Result A E) (n : ℕ) → OnOk r (b.points ≡ drop n a.points) → b.rows ≡ a.rows → OnErr r (b ≡ a) → AreLeaves ranks b
-    leaves-dropped (Ok u) n points rows err = leaves-with (same-rows rows) (subst (All (AreListed ranks)) (sym points) (All-drop (AreListed ranks) n a.points h.before))
-    leaves-dropped (Err e) n points rows err = leaves-is err
-
     pub leaves-back : (r : Result A E) (n m : ℕ) → OnOk r (slice_get a.points n ≡ Some b.rows) → OnOk r (b.points ≡ take m a.points) → OnErr r (b ≡ a) → AreLeaves ranks b
     leaves-back (Ok u) n m rows points err = leaves-with (at-point n a.points h.before rows) (subst (All (AreListed ranks)) (sym points) (All-take (AreListed ranks) m a.points h.before))
       where
@@ -165,6 +194,14 @@ module _ (ranks : ByRank ⊤) (a b : Pointed) (h : AreLeaves ranks a) where
         at-point zero (p ∷ ps) hs e = subst (AreListed ranks) (some-is p b.rows e) (hs 0 p (omega arith))
         at-point (suc n) (p ∷ ps) hs e = at-point n ps (λ k d lt. hs (suc k) d (omega (arith, lt))) e
     leaves-back (Err e) n m rows points err = leaves-is err
+
+-- ---- without the oldest point
+pub leaves-dropped : (ranks : ByRank ⊤) (a b : Pointed) → AreLeaves ranks (without_oldest a) → {A E : Type 0} (r : Result A E) → OnOk r (b.points ≡ drop 1 a.points) → b.rows ≡ a.rows → (IsErr r ↔ (a.points ≡ [])) → OnErr r (b ≡ a)
+    → AreLeaves ranks b
+leaves-dropped ranks a b h (Ok u) points rows none err = leaves-same ranks (without_oldest a) b h rows points
+leaves-dropped ranks a b h (Err e) points rows none err =
+    let empty : a.points ≡ [] = none.0 refl in
+    leaves-same ranks (without_oldest a) b h rows (ap (λ (p : Pointed). p.points) err ∙ empty ∙ sym (ap (drop 1) empty))
 
 -- ---- rows listed one after the other
 -- each row is still to come, or its rank is listed

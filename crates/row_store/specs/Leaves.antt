@@ -1,5 +1,5 @@
 -- The ranks of rows, by leaf.
-use Rattle.std.specs.Prelude.{◌≡◌, ℕ, ⊤, true, is_some, All, List, [], ◌∷◌, Option}
+use Rattle.std.specs.Prelude.{◌≡◌, ℕ, ⊤, true, is_some, All, drop, List, [], ◌∷◌, Option}
 use Rattle.std.specs.FinMap as map
 use Rattle.row_tables.specs.Stored.{IsRank}
 use Rattle.rollback.specs.Pointed.{Pointed}
@@ -26,6 +26,10 @@ pub record AreListed (ranks : ByRank ⊤) (rows : Rows) : Type 0 where
 -- these are ranks of keys
 abbrev pub AreRanks : ByRank ⊤ → Type 0
 AreRanks ranks = (r : ℕ) → is_some (map.get ranks r) ≡ true → IsRank r
+
+-- a store without its oldest point
+abbrev pub without_oldest : Pointed → Pointed
+without_oldest store = record store { points = drop 1 store.points }
 
 -- these are ranks of keys, among them those of all keys that have a row, or had one at a point
 pub record AreLeaves (ranks : ByRank ⊤) (store : Pointed) : Type 0 where

@@ -4,7 +4,7 @@ ghost use Rattle.std.specs.FinMap as map;
 ghost use Rattle.serializability.specs.Changes.{changed};
 ghost use Rattle.rollback.specs.Marks.{AreClean, HasAlso, HasAlsoThose};
 ghost use Rattle.rollback.specs.Pointed.{KeepsCleanLeaves};
-ghost use Rattle.row_store.specs.Leaves.{AreLeaves, AreListed, AreNewListed, AreRanks, IsListed};
+ghost use Rattle.row_store.specs.Leaves.{AreLeaves, AreListed, AreNewListed, AreRanks, IsListed, without_oldest};
 ghost use Rattle.row_store.specs.Slots.{filled, slots};
 ghost use Rattle.tpcc_rows.specs.Changing.{IsMadeInPart, after, new_row_fits};
 ghost use Rattle.tpcc_rows.specs.Leaves.{leaf, page_rows};
@@ -37,7 +37,8 @@ use tpcc_rows::row_ref::RowRef;
 pub struct PointedStore {
     /// Boxed, so that a store is small to move, and who holds one needn't be proved to drop each table.
     tables: Box<PointedTables>,
-    /// The rank of each key that has a row, or had one at a point. Ranks stay, so that a row comes back without memory.
+    /// The rank of each key that has a row, or had one at a point, so that a row comes back without memory. That of a new order which
+    /// no point can bring back goes when the last point at which it had a row does. Others stay.
     leaves: Leaves,
     /// A sum over what was prefetched. It has no meaning, but keeps a compiler from leaving the reads out.
     prefetched: usize,
@@ -121,6 +122,32 @@ fn list_all_new(
         list_new(leaves, tables, key, new_row)?;
     }
     Ok(())
+}
+
+/// Removes the key's rank.
+fn unlist(leaves: &mut Leaves, key: &RowKey)
+    ensures value { leaves.new ≡ map.remove leaves.old (rank key.now) }
+    ensures limits { IsNumbered key.now }
+{
+    let (leaf, rank) = place_of(key);
+    leaves.remove(leaf, rank);
+}
+
+fn is_new_order(key: &RowKey) -> bool {
+    matches!(key, RowKey::NewOrder { .. })
+}
+
+/// Removes the ranks of the new orders that the oldest point alone can bring back.
+fn unlist_gone(leaves: &mut Leaves, tables: &PointedTables)
+    ensures { AreLeaves leaves.old tables.now → AreLeaves leaves.new (without_oldest tables.now) }
+{
+    let changes = tables.oldest_changes();
+    for n in 0..changes.len() {
+        let (key, was) = &changes[n];
+        if is_new_order(key) && was.is_some() && tables.is_gone(key) {
+            unlist(leaves, key);
+        }
+    }
 }
 
 /// Reads the middle and the end of a list, where a search begins. The result has no meaning.
@@ -357,6 +384,7 @@ impl PointedStore {
         ensures dirty { self.new.dirty ≡ self.old.dirty }
         ensures err { OnErr result (self.new ≡ self.old) }
     {
+        unlist_gone(&mut self.leaves, &self.tables);
         self.tables.drop_oldest()
     }
 

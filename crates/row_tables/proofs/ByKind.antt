@@ -1,10 +1,10 @@
 -- The maps of all kinds as one, and what a change of one of them does to it.
-use Rattle.std.proofs.Common.{◌≡◌, ◌<◌, ℕ, zero, suc, Bool, true, false, cond, eqb, ◌&&◌, T, map as each, List, [], ◌∷◌, length, get_or, set, Option, Some, None, is_some, unwrap_or, Result, refl, sym, ap, subst, ◌∙◌}
+use Rattle.std.proofs.Common.{◌≡◌, ◌<◌, ℕ, zero, suc, Bool, true, false, cond, eqb, T, map as each, List, ◌∷◌, length, get_or, set, Option, Some, None, is_some, unwrap_or, Result, refl, sym, ap, subst, ◌∙◌}
 use Rattle.std.specs.Prelude.{⊤, option_map}
 use Rattle.std.specs.FinMap as map
-use Rattle.std.specs.FinMap.{entries, entries_sorted, find, get, get-empty, get-entries, get-from_entries, insert, is_sorted, same_map}
-use Rattle.std.specs.FinMap.Entries.{below_all, same_entries}
-use Rattle.std.specs.Ordering.{eq_by_cmp, is_lt, nat_cmp}
+use Rattle.std.specs.FinMap.{entries, entries_sorted, get, get-empty, get-entries, get-from_entries, insert, same_map}
+use Rattle.std.specs.FinMap.Entries.{same_entries}
+use Rattle.std.specs.Ordering.{eq_by_cmp, nat_cmp}
 use Rattle.std.specs.Result.{OnOk, OnErr}
 use Rattle.std.proofs.lemmas.List.{get_or_default}
 use Rattle.std.proofs.lemmas.Result.{on_ok_weaker, on_err_weaker}
@@ -21,6 +21,7 @@ use Rattle.tpcc_rows.specs.declared.row.OrderRow.{OrderRow}
 use Rattle.tpcc_rows.specs.declared.row.OrderLineRow.{OrderLineRow}
 use Rattle.tables.specs.ByRank.{ByRank}
 use Rattle.tables.specs.Shelves.{rows_at, table_at, union}
+use Rattle.tables.proofs.Each.{find-each, sorted-each}
 use Rattle.tables.proofs.Shelved.{AreEmpty, IsChange, either, get-rows_at, get-union, placed-change, set-same, table-union, union-change}
 use Rattle.tables.proofs.Tables.{rank_total, exact_ranks}
 use Rattle.row_tables.specs.RankRows.{RankRows}
@@ -36,30 +37,14 @@ empty-more m ms e h = record { empty_at = at }
 
 module _ {X : Type 0} (make : X → Row) where
   -- ---- the rows of one kind as rows of any
-  typed-test : (b : Bool) (x : X) (o : Option X) (later : Option Row) → later ≡ option_map make o → cond b (Some (make x)) later ≡ option_map make (cond b (Some x) o)
-  typed-test true x o later h = refl
-  typed-test false x o later h = h
-
-  pub find-each : (es : List (ℕ × X)) (r : ℕ) → find nat_cmp r (each (λ e. (e.0, make e.1)) es) ≡ option_map make (find nat_cmp r es)
-  find-each [] r = refl
-  find-each (e ∷ es) r = typed-test (eq_by_cmp nat_cmp r e.0) e.1 (find nat_cmp r es) _ (find-each es r)
-
   pub get-typed : (t : ByRank X) (r : ℕ) → get (typed make t) r ≡ option_map make (get t r)
   unfolding typed
-  get-typed t r = get-from_entries rank_total _ r ∙ find-each (entries t) r ∙ ap (option_map make) (sym (get-entries t r))
+  get-typed t r = get-from_entries rank_total _ r ∙ find-each make (entries t) r ∙ ap (option_map make) (sym (get-entries t r))
 
   -- the same entries in the same order
-  below-each : (r : ℕ) (es : List (ℕ × X)) → below_all nat_cmp r (each (λ e. (e.0, make e.1)) es) ≡ below_all nat_cmp r es
-  below-each r [] = refl
-  below-each r (e ∷ es) = ap (λ b. is_lt (nat_cmp r e.0) && b) (below-each r es)
-
-  pub sorted-each : (es : List (ℕ × X)) → is_sorted nat_cmp (each (λ e. (e.0, make e.1)) es) ≡ is_sorted nat_cmp es
-  sorted-each [] = refl
-  sorted-each (e ∷ es) = ap (λ b. b && is_sorted nat_cmp (each (λ e. (e.0, make e.1)) es)) (below-each e.0 es) ∙ ap (λ b. below_all nat_cmp e.0 es && b) (sorted-each es)
-
   pub entries-typed : (t : ByRank X) → entries (typed make t) ≡ each (λ e. (e.0, make e.1)) (entries t)
-  entries-typed t = same_entries nat_cmp rank_total exact_ranks _ _ (entries_sorted (typed make t)) (subst T (sym (sorted-each (entries t))) (entries_sorted t))
-      (λ q. sym (get-entries (typed make t) q) ∙ get-typed t q ∙ ap (option_map make) (get-entries t q) ∙ sym (find-each (entries t) q))
+  entries-typed t = same_entries nat_cmp rank_total exact_ranks _ _ (entries_sorted (typed make t)) (subst T (sym (sorted-each make (entries t))) (entries_sorted t))
+      (λ q. sym (get-entries (typed make t) q) ∙ get-typed t q ∙ ap (option_map make) (get-entries t q) ∙ sym (find-each make (entries t) q))
 
   map-cond : (b : Bool) (c o : Option X) → option_map make (cond b c o) ≡ cond b (option_map make c) (option_map make o)
   map-cond true c o = refl

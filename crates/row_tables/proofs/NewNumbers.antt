@@ -1,5 +1,5 @@
 -- The numbers of a district's new orders, in the order of their ranks.
-use Rattle.std.proofs.Common.{◌≡◌, ◌↔◌, ◌<◌, ◌+◌, ◌*◌, ◌/◌, ◌%◌, ◌^◌, ◌==◌, ◌&&◌, ℕ, zero, suc, Bool, true, false, cond, eqb, T, min, map as each, List, [], ◌∷◌, Option, Some, None, inl, inr, refl, sym, ap, subst, ◌∙◌, slice_get, arith}
+use Rattle.std.proofs.Common.{◌≡◌, ◌↔◌, ◌<◌, ◌+◌, ◌*◌, ◌/◌, ◌%◌, ◌^◌, ◌==◌, ◌&&◌, ℕ, Bool, true, false, cond, eqb, T, min, map as each, List, [], ◌∷◌, Option, Some, None, inl, inr, refl, sym, ap, subst, ◌∙◌, slice_get, arith}
 use Rattle.std.proofs.lemmas.Bool.{cases_Bool, eqb-true, eqb-false, and_from, le-leb}
 use Rattle.std.proofs.lemmas.Bool.Decides.{nat_tests}
 use Rattle.std.proofs.lemmas.Nat.{div-mul-add, mod-mul-add}
@@ -19,6 +19,7 @@ use Rattle.tpcc_rows.specs.declared.row.Row.{Row}
 use Rattle.tpcc_rows.specs.declared.row.Row.TheVariants as row
 use Rattle.tpcc_rows.proofs.Picks.{Has, least-is, picked-row, row-picked}
 use Rattle.tpcc_rows.proofs.Singles.{first, found_first, found_later, second}
+use Rattle.tables.specs.ByRank.{ByRank}
 use Rattle.tables.specs.Keys.{key_of, number_in, order_of}
 use Rattle.tpcc_rows.specs.Ranks.{IsDistrict, IsNumbered, columns, kind, rank}
 use Rattle.tables.specs.Shelves.{place_of, rows_at}
@@ -26,7 +27,7 @@ use Rattle.tables.proofs.RankKeys.{kind-of}
 use Rattle.tables.proofs.Shelved.{get-rows_at}
 use Rattle.tables.proofs.Tables.{rank_total, exact_ranks}
 use Rattle.row_tables.specs.Kinds.{table_of, table_of_kind}
-use Rattle.row_tables.specs.NewRows.{as_rows, new_rows}
+use Rattle.row_tables.specs.NewRows.{AreNewOrders, as_rows, new_rows}
 use Rattle.row_tables.specs.RankRows.{RankRows}
 use Rattle.row_tables.specs.Stored.{AreKept, keyed}
 use Rattle.row_tables.proofs.Counting.{found-above, found-here}
@@ -283,37 +284,39 @@ module _ (w d : ℕ) where
     numbers-are : numbers (entries (new_rows m p)) ≡ picked (new_pick w d) (keyed m)
     numbers-are = same-rise _ _ (numbers-rise (entries (new_rows m p)) (entries_sorted (new_rows m p)) (λ r x there. (all-new r x there).0)) (picked-rise (keyed m)) (λ o. (listed o, unlisted o))
 
-    entry-found : (es : List (ℕ × Row)) → T (is_sorted nat_cmp es) → (n : ℕ) (e : ℕ × Row) → slice_get es n ≡ Some e → find nat_cmp e.0 es ≡ Some e.1
-    entry-found [] s n e there = (let no : None ≡ Some e = there in cc)
-    entry-found (f ∷ es) s zero e there = (let same : f ≡ e = cc in subst (λ (g : ℕ × Row). find nat_cmp g.0 (f ∷ es) ≡ Some g.1) same (found-here f es))
-    entry-found (f ∷ es) s (suc n) e there = found_later rank_total exact_ranks f es e.0 e.1 s (entry-found es (second (below_all nat_cmp f.0 es) (is_sorted nat_cmp es) s) n e there)
+    -- the order of such a rank is its number
+    order-is : (r : ℕ) → IsNew w d r → order_of r ≡ Some (number_in r)
+    order-is r n =
+        let within : IsBetween 1 9999999 n.order = n.numbered.2 in
+        ap (λ x. between 1 9999999 x) (number-is r n)
+        ∙ ap (λ (b : Bool). if b then Some n.order else None) (and_from _ _ (le-leb 1 n.order within.0) (le-leb n.order 9999999 within.1))
+        ∙ sym (ap (λ (x : ℕ). Some x) (number-is r n))
 
-    -- ---- number n of them
-    module _ (es : List (ℕ × ⊤)) (same : as_rows es ≡ entries (new_rows m p)) (n : ℕ) where
-      at-n : slice_get (entries (new_rows m p)) n ≡ option_map (λ e. (e.0, row.NewOrder)) (slice_get es n)
-      at-n = ap (λ xs. slice_get xs n) (sym same) ∙ slice_get-map (λ e. (e.0, row.NewOrder)) es n
+    orders-are : (es : List (ℕ × Row)) → T (is_sorted nat_cmp es) → ((r : ℕ) (x : Row) → find nat_cmp r es ≡ Some x → IsNew w d r) → each (λ e. order_of e.0) es ≡ each (λ o. Some o) (numbers es)
+    orders-are [] s all = refl
+    orders-are (e ∷ es) s all =
+        let rest = orders-are es (second (below_all nat_cmp e.0 es) (is_sorted nat_cmp es) s) (λ r x there. all r x (found_later rank_total exact_ranks e es r x s there)) in
+        ap (λ o. o ∷ each (λ e. order_of e.0) es) (order-is e.0 (all e.0 e.1 (found-here e es))) ∙ ap (λ os. Some (number_in e.0) ∷ os) rest
 
-      number-n : slice_get (picked (new_pick w d) (keyed m)) n ≡ option_map (λ e. number_in e.0) (slice_get (entries (new_rows m p)) n)
-      number-n = ap (λ xs. slice_get xs n) (sym numbers-are) ∙ slice_get-map (λ e. number_in e.0) (entries (new_rows m p)) n
+    orders-as_rows : (es : List (ℕ × ⊤)) → each (λ e. order_of e.0) es ≡ each (λ e. order_of e.0) (as_rows es)
+    orders-as_rows [] = refl
+    orders-as_rows (e ∷ es) = ap (λ os. order_of e.0 ∷ os) (orders-as_rows es)
 
-      nth-none : slice_get es n ≡ None → None ≡ slice_get (picked (new_pick w d) (keyed m)) n
-      nth-none none = sym (number-n ∙ ap (option_map (λ e. number_in e.0)) (at-n ∙ ap (option_map (λ e. (e.0, row.NewOrder))) none))
+    pub are-new-orders : (ranks : ByRank ⊤) → as_rows (entries ranks) ≡ entries (new_rows m p) → AreNewOrders (keyed m) w d ranks
+    are-new-orders ranks same =
+        orders-as_rows (entries ranks) ∙ ap (each (λ e. order_of e.0)) same
+        ∙ orders-are (entries (new_rows m p)) (entries_sorted (new_rows m p)) (λ r x there. (all-new r x there).0) ∙ ap (each (λ o. Some o)) numbers-are
 
-      nth-some : (e : ℕ × ⊤) → slice_get es n ≡ Some e → order_of e.0 ≡ slice_get (picked (new_pick w d) (keyed m)) n
-      nth-some e some =
-          let there : slice_get (entries (new_rows m p)) n ≡ Some (e.0, row.NewOrder) = at-n ∙ ap (option_map (λ e. (e.0, row.NewOrder))) some in
-          let new = (all-new e.0 row.NewOrder (entry-found (entries (new_rows m p)) (entries_sorted (new_rows m p)) n (e.0, row.NewOrder) there)).0 in
-          let within : IsBetween 1 9999999 new.order = new.numbered.2 in
-          ap (λ x. between 1 9999999 x) (number-is e.0 new)
-          ∙ ap (λ (b : Bool). if b then Some new.order else None) (and_from _ _ (le-leb 1 new.order within.0) (le-leb new.order 9999999 within.1))
-          ∙ sym (number-n ∙ ap (option_map (λ e. number_in e.0)) there ∙ ap (λ (x : ℕ). Some x) (number-is e.0 new))
+  -- ---- number n of them
+  number-at : (e : Option (ℕ × ⊤)) (o : Option ℕ) → option_map (λ e. order_of e.0) e ≡ option_map (λ o. Some o) o → option_and_then order_of (option_map (λ e. e.0) e) ≡ o
+  number-at None None same = refl
+  number-at None (Some o) same = cc
+  number-at (Some e) None same = cc
+  number-at (Some e) (Some o) same = cc
 
-      nth-at : (o : Option (ℕ × ⊤)) → slice_get es n ≡ o → option_and_then (λ e. order_of e.0) o ≡ slice_get (picked (new_pick w d) (keyed m)) n
-      nth-at None none = nth-none none
-      nth-at (Some e) some = nth-some e some
-
-      pub nth-number : option_and_then (λ e. order_of e.0) (slice_get es n) ≡ slice_get (picked (new_pick w d) (keyed m)) n
-      nth-number = nth-at (slice_get es n) refl
+  pub nth-number : (rows : Rows) (ranks : ByRank ⊤) → AreNewOrders rows w d ranks → (n : ℕ) → option_and_then order_of (option_map (λ e. e.0) (slice_get (entries ranks) n)) ≡ slice_get (picked (new_pick w d) rows) n
+  nth-number rows ranks are n = number-at (slice_get (entries ranks) n) (slice_get (picked (new_pick w d) rows) n)
+      (sym (slice_get-map (λ e. order_of e.0) (entries ranks) n) ∙ ap (λ os. slice_get os n) are ∙ slice_get-map (λ o. Some o) (picked (new_pick w d) rows) n)
 
   -- the first one is the oldest
   pub first-oldest : (rows : Rows) → slice_get (picked (new_pick w d) rows) 0 ≡ oldest rows w d

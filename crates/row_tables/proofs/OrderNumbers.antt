@@ -1,11 +1,10 @@
 -- A customer's last order among those of its district.
-use Rattle.std.proofs.Common.{◌≡◌, ◌≤◌, ◌<◌, ◌+◌, ◌*◌, ◌==◌, ◌&&◌, ℕ, zero, suc, Bool, true, false, cond, eqb, T, drop, get_or, length, List, [], ◌∷◌, Option, Some, None, inl, inr, refl, sym, ap, subst, ◌∙◌, arith}
+use Rattle.std.proofs.Common.{◌≡◌, ◌≤◌, ◌<◌, ◌+◌, ◌*◌, ◌==◌, ◌&&◌, ℕ, Bool, true, cond, eqb, T, List, [], ◌∷◌, Option, Some, None, inl, inr, refl, sym, ap, subst, ◌∙◌, arith}
 use Rattle.std.proofs.lemmas.Bool.{eqb-true, and_from, le-leb}
 use Rattle.std.proofs.lemmas.Bool.Decides.{nat_tests}
-use Rattle.std.proofs.lemmas.List.{drop_more}
 use Rattle.std.specs.Option.{option_or}
 use Rattle.std.specs.Ordering.{nat_cmp}
-use Rattle.std.specs.Prelude.{if◌then◌else◌, option_and_then, option_map}
+use Rattle.std.specs.Prelude.{if◌then◌else◌, option_and_then, option_map, unwrap_or}
 use Rattle.std.specs.FinMap.{entries, entries_sorted, find, get, get-entries, is_sorted}
 use Rattle.std.specs.FinMap.Entries.{below_all}
 use Rattle.tpcc_rows.specs.Limits.{IsBetween, between}
@@ -19,15 +18,17 @@ use Rattle.tpcc_rows.proofs.Picks.{Has, greatest-is, picked-row, row-picked}
 use Rattle.tpcc_rows.proofs.Singles.{first, found_first, found_later, second}
 use Rattle.tables.specs.Keys.{key_of, number_in, order_of}
 use Rattle.tpcc_rows.specs.Ranks.{IsDistrict, IsNumbered, kind, rank}
+use Rattle.tables.specs.LastOrders.{AreLinked, kept_for, last_of, owners}
 use Rattle.tables.specs.Shelves.{place_of, rows_at}
+use Rattle.tables.specs.declared.last_orders.LastOrders.{LastOrders}
 use Rattle.tables.proofs.RankKeys.{kind-of}
+use Rattle.tables.proofs.Each.{find-each, sorted-each}
 use Rattle.tables.proofs.Shelved.{get-rows_at}
 use Rattle.tables.proofs.Tables.{rank_total, exact_ranks}
 use Rattle.row_tables.specs.Kinds.{table_of, table_of_kind}
-use Rattle.row_tables.specs.LastOrders.{as_orders, last_of, order_rows}
+use Rattle.row_tables.specs.LastOrders.{AreLastOf, AreLatest, as_orders, order_rows}
 use Rattle.row_tables.specs.RankRows.{RankRows}
 use Rattle.row_tables.specs.Stored.{AreKept, keyed}
-use Rattle.row_tables.proofs.ByKind.{find-each, sorted-each}
 use Rattle.row_tables.proofs.Counting.{found-above, found-here}
 use Rattle.row_tables.proofs.Keyed.{get-keyed, is_key, rank-key, row-at, same_key, table-at}
 use Rattle.row_tables.proofs.NewNumbers.{both-pass, number-of, one-passes, place-of, same-number}
@@ -51,77 +52,73 @@ no-greatest : (xs : List ℕ) → ((x : ℕ) → Has xs x → ⊥) → greatest 
 no-greatest [] h = refl
 no-greatest (x ∷ xs) h = absurd (h x (inl refl))
 
--- ---- the last of entries by rank that is the customer's
+-- ---- the last of orders by rank that is the customer's
 module _ (c : ℕ) where
-  abbrev such : ℕ × OrderRow → Option (ℕ × OrderRow)
-  such e = cond (e.1.customer == c) (Some e) None
+  abbrev such : ℕ × ℕ → Option (ℕ × ℕ)
+  such o = cond (o.1 == c) (Some o) None
 
-  none-found : (es : List (ℕ × OrderRow)) → last_of c es ≡ None → (r : ℕ) (x : OrderRow) → find nat_cmp r es ≡ Some x → (x.customer == c) ≡ true → ⊥
+  none-found : (os : List (ℕ × ℕ)) → last_of c os ≡ None → (r x : ℕ) → find nat_cmp r os ≡ Some x → (x == c) ≡ true → ⊥
   none-found [] e r x there t = (let no : None ≡ Some x = there in cc)
   none-found (f ∷ fs) e r x there t =
       let parts = or-none (last_of c fs) (such f) e in
       elim (found_first rank_total exact_ranks f fs r x there) [
         | inl same ↦
-            let passes : (f.1.customer == c) ≡ true = ap (λ (y : OrderRow). y.customer == c) (sym same.1) ∙ t in
+            let passes : (f.1 == c) ≡ true = ap (λ (y : ℕ). y == c) (sym same.1) ∙ t in
             let no : Some f ≡ None = sym (ap (λ b. cond b (Some f) None) passes) ∙ parts.1 in
             cc
         | inr later ↦ none-found fs parts.0 r x later t
       ]
 
-  record IsLast (es : List (ℕ × OrderRow)) (e : ℕ × OrderRow) : Type 0 where
-    pub there : find nat_cmp e.0 es ≡ Some e.1
-    pub passes : (e.1.customer == c) ≡ true
-    pub last : (r : ℕ) (x : OrderRow) → find nat_cmp r es ≡ Some x → (x.customer == c) ≡ true → r ≤ e.0
+  record IsLast (os : List (ℕ × ℕ)) (o : ℕ × ℕ) : Type 0 where
+    pub there : find nat_cmp o.0 os ≡ Some o.1
+    pub passes : (o.1 == c) ≡ true
+    pub last : (r x : ℕ) → find nat_cmp r os ≡ Some x → (x == c) ≡ true → r ≤ o.0
 
-  last-is : (es : List (ℕ × OrderRow)) → T (is_sorted nat_cmp es) → (e : ℕ × OrderRow) → last_of c es ≡ Some e → IsLast es e
-  last-is [] s e h = (let no : None ≡ Some e = h in cc)
-  last-is (f ∷ fs) s e h = at (last-is fs (second (below_all nat_cmp f.0 fs) (is_sorted nat_cmp fs) s) e) (last_of c fs) refl
+  last-is : (os : List (ℕ × ℕ)) → T (is_sorted nat_cmp os) → (o : ℕ × ℕ) → last_of c os ≡ Some o → IsLast os o
+  last-is [] s o h = (let no : None ≡ Some o = h in cc)
+  last-is (f ∷ fs) s o h = at (last-is fs (second (below_all nat_cmp f.0 fs) (is_sorted nat_cmp fs) s) o) (last_of c fs) refl
     where
-      at : (last_of c fs ≡ Some e → IsLast fs e) → (o : Option (ℕ × OrderRow)) → last_of c fs ≡ o → IsLast (f ∷ fs) e
+      at : (last_of c fs ≡ Some o → IsLast fs o) → (l : Option (ℕ × ℕ)) → last_of c fs ≡ l → IsLast (f ∷ fs) o
       at rest (Some g) p =
-          let some : Some g ≡ Some e = sym (ap (λ o. option_or o (such f)) p) ∙ h in
+          let some : Some g ≡ Some o = sym (ap (λ l. option_or l (such f)) p) ∙ h in
           let is = rest (p ∙ some) in
           record {
-            there = found_later rank_total exact_ranks f fs e.0 e.1 s is.there;
+            there = found_later rank_total exact_ranks f fs o.0 o.1 s is.there;
             passes = is.passes;
             last = λ r x there t. elim (found_first rank_total exact_ranks f fs r x there) [
               | inl same ↦
-                  let above : f.0 < e.0 = found-above f.0 fs e.0 e.1 (first (below_all nat_cmp f.0 fs) (is_sorted nat_cmp fs) s) is.there in
+                  let above : f.0 < o.0 = found-above f.0 fs o.0 o.1 (first (below_all nat_cmp f.0 fs) (is_sorted nat_cmp fs) s) is.there in
                   let q : r ≡ f.0 = same.0 in
                   omega (arith, above, q)
               | inr later ↦ is.last r x later t
             ];
           }
       at rest None p =
-          let here : such f ≡ Some e = sym (ap (λ o. option_or o (such f)) p) ∙ h in
-          let parts = one-passes (f.1.customer == c) (Some f) e here in
-          let some : Some f ≡ Some e = parts.1 in
-          let same : f ≡ e = cc in
+          let here : such f ≡ Some o = sym (ap (λ l. option_or l (such f)) p) ∙ h in
+          let parts = one-passes (f.1 == c) (Some f) o here in
+          let some : Some f ≡ Some o = parts.1 in
+          let same : f ≡ o = cc in
           record {
-            there = subst (λ (g : ℕ × OrderRow). find nat_cmp g.0 (f ∷ fs) ≡ Some g.1) same (found-here f fs);
-            passes = subst (λ (g : ℕ × OrderRow). (g.1.customer == c) ≡ true) same parts.0;
+            there = subst (λ (g : ℕ × ℕ). find nat_cmp g.0 (f ∷ fs) ≡ Some g.1) same (found-here f fs);
+            passes = subst (λ (g : ℕ × ℕ). (g.1 == c) ≡ true) same parts.0;
             last = λ r x there t. elim (found_first rank_total exact_ranks f fs r x there) [
-              | inl is ↦ (let q : r ≡ e.0 = is.0 ∙ ap (λ (g : ℕ × OrderRow). g.0) same in omega (arith, q))
+              | inl is ↦ (let q : r ≡ o.0 = is.0 ∙ ap (λ (g : ℕ × ℕ). g.0) same in omega (arith, q))
               | inr later ↦ absurd (none-found fs p r x later t)
             ];
           }
 
-  -- ---- looked for from the end
-  module _ (es : List (ℕ × OrderRow)) (i : ℕ) (e : ℕ × OrderRow) (small : i < length es) (here : get_or es i e ≡ e) where
-    at-drop : last_of c (drop i es) ≡ option_or (last_of c (drop (i + 1) es)) (such e)
-    at-drop = ap (λ xs. last_of c xs) (drop_more es i e small ∙ ap (λ z. z ∷ drop (i + 1) es) here)
+  -- what is kept for the customer is its number
+  number-kept : (l : Option (ℕ × ℕ)) → between 1 9999999 (unwrap_or (option_map (λ o. number_in o.0) l) 0) ≡ option_and_then (λ o. order_of o.0) l
+  number-kept None = refl
+  number-kept (Some o) = refl
 
-    pub skipped : last_of c (drop (i + 1) es) ≡ None → (e.1.customer == c) ≡ false → last_of c (drop i es) ≡ None
-    skipped none t = at-drop ∙ ap (λ o. option_or o (such e)) none ∙ ap (λ b. cond b (Some e) None) t
+  pub kept-is : (kept : LastOrders) (os : List (ℕ × ℕ)) → AreLinked kept os → IsBetween 1 3000 c → kept_for kept c ≡ option_and_then (λ o. order_of o.0) (last_of c os)
+  kept-is kept os h limits = (let most = limits.1 in ap (λ n. between 1 9999999 n) (h.last c (omega (arith, most))) ∙ number-kept (last_of c os))
 
-    last-drop : (xs : List (ℕ × OrderRow)) (k : ℕ) → last_of c (drop k xs) ≡ Some e → last_of c xs ≡ Some e
-    last-drop [] zero h = h
-    last-drop [] (suc k) h = h
-    last-drop (x ∷ xs) zero h = h
-    last-drop (x ∷ xs) (suc k) h = ap (λ o. option_or o (such x)) (last-drop xs k h)
-
-    pub met : last_of c (drop (i + 1) es) ≡ None → (e.1.customer == c) ≡ true → last_of c es ≡ Some e
-    met none t = last-drop es i (at-drop ∙ ap (λ o. option_or o (such e)) none ∙ ap (λ b. cond b (Some e) None) t)
+-- the order of an owner
+owned : (o : Option OrderRow) (n : ℕ) → option_map (λ r. r.customer) o ≡ Some n → (x : OrderRow) × (o ≡ Some x) × (x.customer ≡ n)
+owned None n h = (let no : None ≡ Some n = h in cc)
+owned (Some x) n h = (let some : Some x.customer ≡ Some n = h in let same : x.customer ≡ n = cc in (x, refl, same))
 
 -- ---- what is picked
 picked_order : (w d c : ℕ) (k : RowKey) (x : Row) (o : ℕ) → order_pick w d c k x ≡ Some o → (k ≡ key.Order w d o) × (y : OrderRow) × (x ≡ row.Order y) × ((y.customer == c) ≡ true)
@@ -221,20 +218,35 @@ module _ (w d : ℕ) where
           ∙ ap (λ b. cond b (get m (rank k)) None) three ∙ parts.1 in
           (picks.1, some-order (find nat_cmp (rank k) es) picks.1 (find-es (rank k) ∙ got), picks.3)
 
-      latest-at : (o : Option (ℕ × OrderRow)) → last_of c es ≡ o → option_and_then (λ e. order_of e.0) o ≡ greatest (picked (order_pick w d c) (keyed m))
-      latest-at None none = sym (no-greatest (picked (order_pick w d c) (keyed m)) (λ x has. let f = picked-found x has in none-found c es none (rank (key.Order w d x)) f.0 f.1 f.2))
-      latest-at (Some e) some =
-          let is = last-is c es sorted-es e some in
-          let n = (found-es e.0 e.1 is.there).0 in
-          let within : IsBetween 1 9999999 n.order = n.numbered.2 in
-          ap (λ x. between 1 9999999 x) (number-is e.0 n)
-          ∙ ap (λ (b : Bool). if b then Some n.order else None) (and_from _ _ (le-leb 1 n.order within.0) (le-leb n.order 9999999 within.1))
-          ∙ sym (greatest-one (picked (order_pick w d c) (keyed m)) n.order (found-picked e.0 e.1 is.there is.passes n) (λ x has.
-          let f = picked-found x has in
-          let low : rank (key.Order w d x) ≤ e.0 = is.last (rank (key.Order w d x)) f.0 f.1 f.2 in
-          let at_e : e.0 ≡ rank (key.Order w d n.order) = n.is in
-          omega (arith, low, at_e)))
+      sorted-owners : T (is_sorted nat_cmp (owners es))
+      sorted-owners = subst T (sym (sorted-each (λ (r : OrderRow). r.customer) es)) sorted-es
 
-      pub latest-is : option_and_then (λ e. order_of e.0) (last_of c es) ≡ latest (keyed m) w d c
+      find-owner : (r : ℕ) → find nat_cmp r (owners es) ≡ option_map (λ (x : OrderRow). x.customer) (find nat_cmp r es)
+      find-owner r = find-each (λ (x : OrderRow). x.customer) es r
+
+      latest-at : (l : Option (ℕ × ℕ)) → last_of c (owners es) ≡ l → option_and_then (λ o. order_of o.0) l ≡ greatest (picked (order_pick w d c) (keyed m))
+      latest-at None none = sym (no-greatest (picked (order_pick w d c) (keyed m)) (λ x has.
+          let f = picked-found x has in
+          let k = rank (key.Order w d x) in
+          none-found c (owners es) none k f.0.customer (find-owner k ∙ ap (option_map (λ (y : OrderRow). y.customer)) f.1) f.2))
+      latest-at (Some o) some =
+          let is = last-is c (owners es) sorted-owners o some in
+          let own = owned (find nat_cmp o.0 es) o.1 (sym (find-owner o.0) ∙ is.there) in
+          let passes : (own.0.customer == c) ≡ true = ap (λ n. n == c) own.2 ∙ is.passes in
+          let n = (found-es o.0 own.0 own.1).0 in
+          let within : IsBetween 1 9999999 n.order = n.numbered.2 in
+          ap (λ x. between 1 9999999 x) (number-is o.0 n)
+          ∙ ap (λ (b : Bool). if b then Some n.order else None) (and_from _ _ (le-leb 1 n.order within.0) (le-leb n.order 9999999 within.1))
+          ∙ sym (greatest-one (picked (order_pick w d c) (keyed m)) n.order (found-picked o.0 own.0 own.1 passes n) (λ x has.
+          let f = picked-found x has in
+          let k = rank (key.Order w d x) in
+          let low : rank (key.Order w d x) ≤ o.0 = is.last k f.0.customer (find-owner k ∙ ap (option_map (λ (y : OrderRow). y.customer)) f.1) f.2 in
+          let at_o : o.0 ≡ rank (key.Order w d n.order) = n.is in
+          omega (arith, low, at_o)))
+
+      latest-is : option_and_then (λ o. order_of o.0) (last_of c (owners es)) ≡ latest (keyed m) w d c
       unfolding latest
-      latest-is = latest-at (last_of c es) refl
+      latest-is = latest-at (last_of c (owners es)) refl
+
+    pub are-latest : (kept : LastOrders) → AreLastOf (entries (order_rows m p)) kept → AreLatest (keyed m) w d kept
+    are-latest kept of c limits = kept-is c kept (owners of.orders) of.linked limits ∙ latest-is of.orders of.same c

@@ -1,6 +1,11 @@
 -- The new orders of a district.
-use Rattle.std.specs.Prelude.{ℕ, ⊤, map as each, List}
+use Rattle.std.specs.Prelude.{◌≡◌, ℕ, ⊤, map as each, List, Some}
+use Rattle.std.specs.FinMap as map
+use Rattle.tables.specs.ByRank.{ByRank}
+use Rattle.tables.specs.Keys.{order_of}
 use Rattle.tables.specs.Shelves.{place_of, rows_at}
+use Rattle.tpcc_rows.specs.Picks.{new_pick, picked}
+use Rattle.tpcc_rows.specs.RowMap.{Rows}
 use Rattle.tpcc_rows.specs.declared.row.Row.{Row}
 use Rattle.tpcc_rows.specs.declared.row.Row.TheVariants.{NewOrder}
 use Rattle.row_tables.specs.Kinds.{table_of}
@@ -13,3 +18,7 @@ new_rows m place = rows_at place_of (rows_at table_of m 4) place
 -- their ranks with their rows
 abbrev pub as_rows : List (ℕ × ⊤) → List (ℕ × Row)
 as_rows es = each (λ e. (e.0, NewOrder)) es
+
+-- the ranks are those of the district's new orders
+abbrev pub AreNewOrders : Rows → ℕ → ℕ → ByRank ⊤ → Type 0
+AreNewOrders rows w d ranks = each (λ e. order_of e.0) (map.entries ranks) ≡ each (λ o. Some o) (picked (new_pick w d) rows)

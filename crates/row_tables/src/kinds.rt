@@ -2,7 +2,7 @@
 ghost use Rattle.std.specs.Prelude.{ℕ, ◌≡◌, ◌/◌, ◌%◌, ◌*◌, ◌<◌, IfOk, None, OnErr, OnOk, cond, is_some, option_copied, option_map, slice_get, unwrap_or};
 ghost use Rattle.std.specs.FinMap as map;
 ghost use Rattle.row_tables.specs.Kinds.{table_of, table_of_row};
-ghost use Rattle.row_tables.specs.LastOrders.{as_orders, order_rows};
+ghost use Rattle.row_tables.specs.LastOrders.{AreLastOf, order_rows};
 ghost use Rattle.row_tables.specs.Parts.{ranks_in};
 ghost use Rattle.row_tables.specs.NewRows.{as_rows, new_rows};
 ghost use Rattle.tables.specs.Shelves.{place_of};
@@ -13,6 +13,10 @@ ghost use Rattle.tpcc_rows.specs.declared.row.Row.TheVariants.{Customer, Distric
 use std::alloc::Global;
 use std::marker::Model;
 use tables::keys::PLACES;
+use tables::last_orders::LastOrders;
+use tables::order_shelf::OrderShelf;
+use tables::queue::RankQueue;
+use tables::queues::RankQueues;
 use tables::shelf::Shelf;
 use tables::starts::{HistoryStarts, LineStarts};
 use tables::table::Table;
@@ -30,8 +34,8 @@ pub struct KindTables {
     warehouses: Shelf<WarehouseRow>,
     customers: Shelf<CustomerRow>,
     stocks: Shelf<StockRow>,
-    orders: Shelf<OrderRow>,
-    new_orders: Shelf<()>,
+    orders: OrderShelf,
+    new_orders: RankQueues,
     lines: Shelf<OrderLineRow>,
     history: Table<HistoryRow>,
     ytds: Shelf<DistrictYtdRow>,
@@ -79,8 +83,8 @@ impl KindTables {
         let warehouses = Shelf::new(alloc)?;
         let customers = Shelf::new(alloc)?;
         let stocks = Shelf::new(alloc)?;
-        let orders = Shelf::new(alloc)?;
-        let new_orders = Shelf::new(alloc)?;
+        let orders = OrderShelf::new(alloc)?;
+        let new_orders = RankQueues::new(alloc)?;
         let lines = Shelf::new(alloc)?;
         let history = Table::new(alloc);
         let ytds = Shelf::new(alloc)?;
@@ -130,9 +134,9 @@ impl KindTables {
         self.orders.get(rank)
     }
 
-    pub fn new_order(&self, rank: u64) -> Option<&()>
+    pub fn new_order(&self, rank: u64) -> Option<()>
         requires { table_of rank ≡ 4 }
-        ensures { option_map (λ _. NewOrder) (option_copied result) ≡ map.get self.now rank }
+        ensures { option_map (λ _. NewOrder) result ≡ map.get self.now rank }
     {
         self.new_orders.get(rank)
     }
@@ -246,12 +250,12 @@ impl KindTables {
         nth(self.orders.slice_at(first_rank(part)), n)
     }
 
-    /// The n-th row of a part of this kind, by rank, with its rank.
-    fn nth_new_order(&self, part: usize, n: usize) -> Option<(u64, &())>
+    /// The rank of the n-th row of a part of this kind, by rank.
+    fn nth_new_order(&self, part: usize, n: usize) -> Option<u64>
         requires { part / PLACES ≡ 4 }
-        ensures { option_map (λ e. (e.0, NewOrder)) result ≡ slice_get (map.entries (ranks_in self.now part)) n }
+        ensures { option_map (λ rank. (rank, NewOrder)) result ≡ slice_get (map.entries (ranks_in self.now part)) n }
     {
-        nth(self.new_orders.slice_at(first_rank(part)), n)
+        self.new_orders.queue_at(first_rank(part)).nth(n)
     }
 
     /// The n-th row of a part of this kind, by rank, with its rank.
@@ -311,7 +315,7 @@ impl KindTables {
                 Some((rank, RowRef::Order(row)))
             }
             4 => {
-                let (rank, _) = self.nth_new_order(part, n)?;
+                let rank = self.nth_new_order(part, n)?;
                 Some((rank, RowRef::NewOrder))
             }
             5 => {
@@ -334,18 +338,18 @@ impl KindTables {
         }
     }
 
-    /// The ranks of the new orders of the rank's district, in ascending order.
-    pub fn new_orders_at(&self, rank: u64) -> &[(u64, ())]
-        ensures { as_rows result.now ≡ map.entries (new_rows self.now (place_of rank)) }
+    /// The ranks of the new orders of the rank's district.
+    pub fn new_orders_at(&self, rank: u64) -> &RankQueue
+        ensures { as_rows (map.entries result.now) ≡ map.entries (new_rows self.now (place_of rank)) }
     {
-        self.new_orders.slice_at(rank)
+        self.new_orders.queue_at(rank)
     }
 
-    /// The orders of the rank's district with their ranks, in ascending order.
-    pub fn orders_at(&self, rank: u64) -> &[(u64, OrderRow)]
-        ensures { as_orders result.now ≡ map.entries (order_rows self.now (place_of rank)) }
+    /// The last order of each customer of the rank's district.
+    pub fn last_orders_at(&self, rank: u64) -> &LastOrders
+        ensures { AreLastOf (map.entries (order_rows self.now (place_of rank))) result.now }
     {
-        self.orders.slice_at(rank)
+        self.orders.last_at(rank)
     }
 
     /// Inserts or replaces the rank's row, and returns the old one.
@@ -402,14 +406,14 @@ impl KindTables {
     }
 
     /// Inserts or replaces the rank's row, and returns the old one.
-    pub fn put_new_order(&mut self, rank: u64, row: ()) -> Result<Option<()>, Memory>
+    pub fn put_new_order(&mut self, rank: u64) -> Result<Option<()>, Memory>
         requires { table_of rank ≡ 4 }
         ensures value { IfOk result (λ was. option_map (λ _. NewOrder) was ≡ map.get self.old rank) }
         ensures ok { OnOk result (self.new ≡ map.insert self.old rank (NewOrder)) }
         ensures err { OnErr result (self.new ≡ self.old) }
         ensures new { OnErr result (map.get self.old rank ≡ None) }
     {
-        self.new_orders.put(rank, row)
+        self.new_orders.put(rank)
     }
 
     /// Inserts or replaces the rank's row, and returns the old one.
@@ -520,7 +524,7 @@ impl KindTables {
         ensures row { NewOrder ≡ unwrap_or (map.get self.old rank) NewOrder }
         ensures after { self.new ≡ cond result (map.insert self.old rank NewOrder) self.old }
     {
-        self.new_orders.swap(rank, &mut ())
+        self.new_orders.get(rank).is_some()
     }
 
     /// Exchanges the rank's row for this one, and returns true; or returns false if it has none.
@@ -679,7 +683,7 @@ impl KindTables {
             Row::Customer(row) => Ok(self.put_customer(rank, row)?.map(Row::Customer)),
             Row::Stock(row) => Ok(self.put_stock(rank, row)?.map(Row::Stock)),
             Row::Order(row) => Ok(self.put_order(rank, row)?.map(Row::Order)),
-            Row::NewOrder => match self.put_new_order(rank, ())? {
+            Row::NewOrder => match self.put_new_order(rank)? {
                 Some(()) => Ok(Some(Row::NewOrder)),
                 None => Ok(None),
             },

@@ -1,13 +1,13 @@
 //! The rows of a database by key.
-ghost use Rattle.std.specs.Prelude.{◌≡◌, ◌+◌, ◌-◌, ◌<◌, ◌^◌, cond, IfOk, IfSome, None, OnErr, OnOk, is_some, length, option_and_then, option_copied, option_map, slice_get, true, unwrap_or};
+ghost use Rattle.std.specs.Prelude.{◌≡◌, ◌+◌, ◌-◌, ◌<◌, ◌^◌, cond, IfOk, IfSome, None, OnErr, OnOk, is_some, length, option_copied, option_map, slice_get, true, unwrap_or};
 ghost use Rattle.std.specs.FinMap as map;
 ghost use Rattle.std.specs.List.{filter};
 ghost use Rattle.serializability.specs.Changes.{changed};
-ghost use Rattle.row_tables.specs.LastOrders.{last_of};
+ghost use Rattle.row_tables.specs.LastOrders.{AreLatest};
+ghost use Rattle.row_tables.specs.NewRows.{AreNewOrders};
 ghost use Rattle.row_tables.specs.OrderLines.{AreOrderLines};
 ghost use Rattle.row_tables.specs.Parts.{AreInParts, is_of_table, lent, part_rows, rows_between};
 ghost use Rattle.row_tables.specs.Walks.{left};
-ghost use Rattle.tables.specs.Keys.{order_of};
 ghost use Rattle.tpcc_rows.specs.Changing.{new_row_fits};
 ghost use Rattle.tpcc_rows.specs.Picks.{latest, new_pick, oldest, picked};
 ghost use Rattle.tpcc_rows.specs.References.{row_of};
@@ -22,6 +22,8 @@ use std::alloc::Global;
 use std::marker::Model;
 use std::mem;
 use tables::keys::{PLACES, key_at, order_of};
+use tables::last_orders::LastOrders;
+use tables::queue::RankQueue;
 use tpcc_rows::id::{CustomerId, DistrictId, ItemId, OrderId, WarehouseId};
 use tpcc_rows::key::RowKey;
 use tpcc_rows::memory::Memory;
@@ -74,27 +76,6 @@ fn fewer(len: u64, was: &Option<Row>) -> u64
     } else {
         len
     }
-}
-
-/// The order number of the n-th new order.
-fn number_at(orders: &[(u64, ())], n: usize) -> Option<OrderId>
-    ensures { result ≡ option_and_then (λ e. order_of e.0) (slice_get orders.now n) }
-{
-    let (rank, _) = orders.get(n)?;
-    order_of(*rank)
-}
-
-/// The number of the customer's last order among these.
-fn last_of(orders: &[(u64, OrderRow)], customer: CustomerId) -> Option<OrderId>
-    ensures { result ≡ option_and_then (λ e. order_of e.0) (last_of customer orders.now) }
-{
-    for passed in 0..orders.len() {
-        let (rank, row) = &orders[orders.len() - 1 - passed];
-        if row.customer.number() == customer.number() {
-            return order_of(*rank);
-        }
-    }
-    None
 }
 
 impl RowTables {
@@ -262,6 +243,14 @@ impl RowTables {
         lines
     }
 
+    /// The district's new orders, as they are kept.
+    pub fn new_orders(&self, warehouse: WarehouseId, district: DistrictId) -> &RankQueue
+        ensures { AreNewOrders self.now warehouse district result.now }
+    {
+        let rank = district_ytd_rank(warehouse, district);
+        self.tables.new_orders_at(rank)
+    }
+
     /// The number of the district's n-th new order, counted from 0 in ascending order.
     pub fn nth_new_order(
         &self,
@@ -271,10 +260,8 @@ impl RowTables {
     ) -> Option<OrderId>
         ensures { result ≡ slice_get (picked (new_pick warehouse district) self.now) n }
     {
-        let orders = self
-            .tables
-            .new_orders_at(district_ytd_rank(warehouse, district));
-        number_at(orders, n)
+        let orders = self.new_orders(warehouse, district);
+        order_of(orders.nth(n)?)
     }
 
     /// The least number of the district's new orders.
@@ -284,7 +271,15 @@ impl RowTables {
         self.nth_new_order(warehouse, district, 0)
     }
 
-    /// The greatest number of the customer's orders: a search from the district's last order down.
+    /// The last order of each of the district's customers, which is kept with the rows.
+    pub fn last_orders(&self, warehouse: WarehouseId, district: DistrictId) -> &LastOrders
+        ensures { AreLatest self.now warehouse district result.now }
+    {
+        self.tables
+            .last_orders_at(district_ytd_rank(warehouse, district))
+    }
+
+    /// The greatest number of the customer's orders.
     pub fn last_order(
         &self,
         warehouse: WarehouseId,
@@ -293,10 +288,7 @@ impl RowTables {
     ) -> Option<OrderId>
         ensures { result ≡ latest self.now warehouse district customer }
     {
-        let orders = self
-            .tables
-            .orders_at(district_ytd_rank(warehouse, district));
-        last_of(orders, customer)
+        self.last_orders(warehouse, district).of(customer)
     }
 
     /// Inserts or replaces the key's row, and returns the old one. Only an insertion can be refused memory.

@@ -193,7 +193,7 @@ impl TableRow for NewOrderRow {
     }
 
     fn put(self, tables: &mut KindTables, rank: u64) -> Result<Option<NewOrderRow>, Memory> {
-        match tables.put_new_order(rank, ())? {
+        match tables.put_new_order(rank)? {
             Some(()) => Ok(Some(NewOrderRow)),
             None => Ok(None),
         }

@@ -12,7 +12,7 @@ use Rattle.tables.specs.Shelves.{IsPlaced, rows_at, table_at, union}
 use Rattle.tables.proofs.Shelved.{get-rows_at, get-union}
 use Rattle.tables.proofs.Tables.{rank_total, exact_ranks}
 
-same-number : (n : ℕ) → eqb n n ≡ true
+pub same-number : (n : ℕ) → eqb n n ≡ true
 same-number n = elim (cases_Bool (eqb n n)) [
   | inl same ↦ same
   | inr apart ↦ absurd (eqb-false n n apart refl)

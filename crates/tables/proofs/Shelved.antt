@@ -61,6 +61,14 @@ module _ {X : Type 0} where
   table-set (x ∷ ts) (suc n) t zero h = ap (λ b. cond b t x) (sym (eqb-zero-suc n))
   table-set (x ∷ ts) (suc n) t (suc m) h = table-set ts n t m (omega arith) ∙ ap (λ b. cond b t (table_at ts m)) (sym (eqb-suc-suc m n))
 
+  -- a row replaced by itself
+  pub insert-same : (m : ByRank X) (k : ℕ) (x : X) → get m k ≡ Some x → m ≡ map.insert m k x
+  insert-same m k x there = same_map rank_total exact_ranks _ _ (λ q.
+      elim (eq_by_cmp nat_cmp q k) as (λ b. eq_by_cmp nat_cmp q k ≡ b → get m q ≡ cond b (Some x) (get m q)) [
+        | true ↦ λ t. ap (get m) (exact_ranks q k (tied _ t)) ∙ there
+        | false ↦ λ t. refl
+      ] refl ∙ sym (get-changed rank_total exact_ranks m k (Some x) q))
+
   -- a table replaced by itself
   pub set-same : (ts : List (ByRank X)) (n : ℕ) (old new : ByRank X) → old ≡ get_or ts n old → new ≡ old → set ts n new ≡ ts
   set-same ts n old new here same = ap (set ts n) (same ∙ here) ∙ set-get_or ts n old

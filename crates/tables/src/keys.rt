@@ -1,6 +1,6 @@
 //! The key of a rank.
 ghost use Rattle.std.specs.Prelude.{◌≡◌};
-ghost use Rattle.tables.specs.Keys.{customer_at, district_next_at, district_of, district_ytd_at, history_at, key_at, line_at, new_order_at, order_at, order_of, stock_at, warehouse_at, warehouse_of};
+ghost use Rattle.tables.specs.Keys.{customer_at, district_next_at, district_of, district_ytd_at, history_at, key_at, line_at, new_order_at, number_in, order_at, order_of, stock_at, warehouse_at, warehouse_of};
 
 use tpcc_rows::id::{
     CustomerId, DistrictId, ItemId, LineNumber, OrderId, RequestNumber, WarehouseId,
@@ -22,11 +22,18 @@ fn district_of(number: u64) -> Option<DistrictId>
     DistrictId::new((number / 268_435_456 % 16) as u8)
 }
 
+/// The number in the rank of an order, a new order or an order line.
+pub(crate) fn number_of(rank: u64) -> u32
+    ensures { result ≡ number_in rank }
+{
+    (rank / 16 % 16_777_216) as u32
+}
+
 /// The order of the rank of an order, a new order or an order line.
 pub fn order_of(number: u64) -> Option<OrderId>
     ensures { result ≡ order_of number }
 {
-    OrderId::new((number / 16 % 16_777_216) as u32)
+    OrderId::new(number_of(number))
 }
 
 #[tactic(auto, unfolding(crate::specs::Keys::warehouse_at))]

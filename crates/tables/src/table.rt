@@ -74,7 +74,7 @@ fn near<R>(entries: &[(u64, R)], rank: u64, place: usize) -> usize {
 }
 
 /// Whether the rank is at the place.
-fn is_at<R>(entries: &[(u64, R)], rank: u64, place: usize) -> bool
+pub(crate) fn is_at<R>(entries: &[(u64, R)], rank: u64, place: usize) -> bool
     ensures { IsTrue result → IsPlaceOf nat_cmp rank entries.now (Ok place) }
 {
     match entries.get(place) {
@@ -84,7 +84,7 @@ fn is_at<R>(entries: &[(u64, R)], rank: u64, place: usize) -> bool
 }
 
 /// Whether the rank is greater than the last one.
-fn is_behind<R>(entries: &[(u64, R)], rank: u64) -> bool
+pub(crate) fn is_behind<R>(entries: &[(u64, R)], rank: u64) -> bool
     requires { are_in_order nat_cmp entries.now ≡ true }
     ensures { IsTrue result → IsPlaceOf nat_cmp rank entries.now (Err (length entries.now)) }
 {

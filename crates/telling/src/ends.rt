@@ -50,7 +50,7 @@ impl<'a> Names<Step<'a>> for Joined {
 #[derive(Drop)]
 pub struct Telling<S> {
     pub inner: S,
-    told: Tag,
+    pub told: Tag,
     is_over: bool,
 }
 

@@ -2,9 +2,9 @@
 //! is told, which refusal comes first, what states can be gone back to, and what is left where memory is refused. A line each
 //! tells whether it holds. Where memory is refused to what is tried, its line is left out, and the status is 1.
 //!
-//! What is tried stands in the file `cases` of `data`, whose parts begin with `#`. A part with a title behind it is tried, call
-//! by call; the others are batches and an image, which calls name. Behind `->` stands what a call must answer: one number or two,
-//! or a refusal.
+//! What is tried stands in the file `cases` of `data`, but for desks, which come last. Its parts begin with `#`. A part with a
+//! title behind it is tried, call by call; the others are batches and an image, which calls name. Behind `->` stands what a call
+//! must answer: one number or two, or a refusal.
 //!
 //! | Call | What it does | Answer |
 //! |---|---|---|
@@ -29,12 +29,14 @@
 
 mod calls;
 mod counting;
+mod desks;
 mod files;
 mod meeting;
 mod memory;
 mod parts;
 mod player;
 
+use crate::desks::are_right;
 use crate::files::read;
 use crate::player::is_shown;
 use std::process::ExitCode;
@@ -64,6 +66,15 @@ fn show_all<R: Print + AllocGlobal + Threads + Sync>(rt: &R, text: &str) -> bool
     all
 }
 
+/// Prints whether desks are right. Tells whether there is an answer.
+fn show_desks<R: Print + AllocGlobal>(rt: &R) -> bool {
+    let answer = are_right(rt.alloc());
+    if let Some(answer) = answer {
+        let _ = println!(rt; "what one seat of a desk raises the others see: {answer}");
+    }
+    answer.is_some()
+}
+
 fn main(rt: HostRuntime) -> ExitCode {
     let Some(bytes) = read(&rt, "cases") else {
         return ExitCode::FAILURE;
@@ -71,7 +82,8 @@ fn main(rt: HostRuntime) -> ExitCode {
     let Ok(text) = str::from_utf8(bytes.as_slice()) else {
         return ExitCode::FAILURE;
     };
-    if show_all(&rt, text) {
+    let all = show_all(&rt, text);
+    if show_desks(&rt) && all {
         ExitCode::SUCCESS
     } else {
         ExitCode::FAILURE

@@ -10,4 +10,5 @@ returns-clause-step c =
     step-appended c.args.log.now c.note.new.self (was ∷ []) removed c.args.store.now.rows c.exchange.new.store.rows
     (c.note.ensures.olds ∙ ap (λ (os : Olds). os ++ was ∷ []) c.prepare.ensures.same.olds)
     (c.note.ensures.removals ∙ ap (λ n. n + removed) c.prepare.ensures.same.removals)
+    (λ within. c.note.ensures.bounded (c.prepare.ensures.same.bounded within))
     (back-exchanged c.args.change was c.args.store.now.rows c.exchange.new.store.rows removed c.in_ok-removed.ensures.made)

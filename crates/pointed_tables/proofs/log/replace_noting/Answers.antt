@@ -12,4 +12,5 @@ returns-clause-step g c =
     step-appended c.args.log.now c.note.new.self later 0 c.args.store.now.rows c.swap_row.new.self.rows
     (c.note.ensures.olds ∙ ap (λ (os : Olds). os ++ (key, Some c.into_row.result) ∷ []) c.prepare.ensures.same.olds ∙ ap (λ x. c.args.log.now.olds.items ++ (key, Some x) ∷ []) c.into_row.ensures)
     (c.note.ensures.removals ∙ ap (λ n. n + 0) c.prepare.ensures.same.removals)
+    (λ within. c.note.ensures.bounded (c.prepare.ensures.same.bounded within))
     (back-swapped key (g.R.TableRow.row_of c.args.row) left c.args.store.now.rows c.swap_row.new.self.rows c.swap_row.result c.if-not-swap_row.false c.swap_row.ensures.value)

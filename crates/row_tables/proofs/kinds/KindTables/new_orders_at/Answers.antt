@@ -8,6 +8,6 @@ use Rattle.row_tables.proofs.kinds.KindTables.new_orders_at.Goals as goal
 
 pub returns : goal.returns
 returns c =
-    ap (λ es. as_rows es) c.slice_at.ensures
+    ap (λ ranks. as_rows (map.entries ranks)) c.queue_at.ensures
     ∙ entries-at (λ _. row.NewOrder) _ c.self.invariant 4 (omega arith) c.self.inside.new_orders refl place_of (place_of c.args.rank)
     ∙ ap (λ m. map.entries (new_rows m (place_of c.args.rank))) c.self.view_is
