@@ -200,7 +200,7 @@ def grows(counts, at):
 
 def told(what, others, hashing, is_bad):
     """Prints a row, and hands back whether it is bad."""
-    print(f'| {what} | {" | ".join(map(str, [*others, *hashing]))} | {"grows" if is_bad else ""} |', flush=True)
+    print(f'| {what} | {" | ".join(f"{it:,}" for it in others + hashing)} | {"grows" if is_bad else ""} |', flush=True)
     return is_bad
 
 
@@ -217,8 +217,8 @@ def main():
             hashed[what] = hashing
             bad.append(told(what, others, hashing, grows(others, at)))
     if EMPTIED in hashed and RELOADED in hashed:
-        more = [a - b for a, b in zip(hashed[EMPTIED], hashed[RELOADED])]
-        bad.append(told(BEYOND, ['', '', ''], more, grows(more, SIZES)))
+        more = tuple(a - b for a, b in zip(hashed[EMPTIED], hashed[RELOADED]))
+        bad.append(told(BEYOND, (0, 0, 0), more, grows(more, SIZES)))
     print(f'{bad.count(False)} passed, {bad.count(True)} failed')
     sys.exit(1 if any(bad) else 0)
 
