@@ -28,7 +28,6 @@ use progress::store_file::open_store;
 use records::io::Counting;
 use runner::{Observer, StoredRunFault, check_text, make_text, run_and_store, stored_line};
 use session::serve;
-use std::hint::black_box;
 use std::io::{Input, Read};
 use std::process::ExitCode;
 use std::rt::Files;
@@ -380,23 +379,7 @@ where
     }
 }
 
-/// Touches so many frames of 32 KB of the stack. It returns a number of no meaning.
-#[inline(never)]
-fn touch_stack(frames: u8) -> u8 {
-    let frame = [frames; 32_768];
-    let touched = black_box(&frame)[usize::from(frames)];
-    match frames.checked_sub(1) {
-        Some(fewer) => touch_stack(fewer).wrapping_add(touched),
-        None => touched,
-    }
-}
-
-/// The frames that the deepest call needs. They are touched before anything is allocated, since a stack that can't grow later, for lack of
-/// memory, ends a program without a message.
-const FRAMES: u8 = 10;
-
 fn main(rt: HostRuntime) -> ExitCode {
-    let _ = black_box(touch_stack(FRAMES));
     let _held = hold_closed(&rt);
     let shown = Shown::on(&rt.stderr());
     let words = match words_of(&rt, rt.alloc()) {
